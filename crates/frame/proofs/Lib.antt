@@ -1,0 +1,5 @@
+pub mod Words
+pub mod Tests
+pub mod Bytes
+pub mod Frame
+pub mod Laws
