@@ -2,7 +2,7 @@
 ghost use mathlib.Core.Path.{_≡_};
 ghost use Prim.Native.Nat.{_<_, _%_};
 ghost use lib.ListN.{length};
-ghost use Rattle.frame.specs.Identifier.{partsOf};
+ghost use Rattle.frame.specs.Identifier.{reservedOf, partsOf};
 ghost use Rattle.frame.specs.Frame.{sourceAllowed, checkedOf};
 ghost use Rattle.frame.specs.Promises.{TakeApart, Form, Check, DestinationOf, CatalogueForm, NumberOf, BytesOf, toldVerdict};
 
@@ -59,7 +59,7 @@ pub fn take_apart(id: u32) -> Apart
     if 0x20000000 <= id {
         return Apart::IdentifierTooLarge;
     }
-    if id / 0x2000000 % 2 == 1 {
+    if reserved_bit(id) == 1 {
         return Apart::ReservedBitSet;
     }
     Apart::Into(parts_of(id))
@@ -148,13 +148,22 @@ pub fn bytes_of(number: u64) -> [u8; 8]
     bytes
 }
 
+fn reserved_bit(id: u32) -> u32
+    ensures { λ r. ⌜ r ≡ reservedOf id ⌝ }
+{
+    id / 0x2000000 % 2
+}
+
 fn parts_of(id: u32) -> Parts
     ensures { λ r. ⌜ r ≡ partsOf id ⌝ }
 {
+    let priority = (id / 0x4000000 % 8) as u8;
+    let dgn = id / 256 % 0x20000;
+    let source = (id % 256) as u8;
     Parts {
-        priority: (id / 0x4000000 % 8) as u8,
-        dgn: id / 256 % 0x20000,
-        source: (id % 256) as u8,
+        priority,
+        dgn,
+        source,
     }
 }
 
@@ -182,7 +191,7 @@ fn judge(id: u32, size: usize) -> Verdict
     if size != 8 {
         return Verdict::Bad(BadFrame::NotEightBytes);
     }
-    if id / 0x2000000 % 2 == 1 {
+    if reserved_bit(id) == 1 {
         return Verdict::Bad(BadFrame::ReservedBitSet);
     }
     let parts = parts_of(id);
