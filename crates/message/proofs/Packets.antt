@@ -1,0 +1,115 @@
+-- The splitter, case by case, and the bytes of a packet.
+-- Assumes nothing.
+use mathlib.Core.Path.{_≡_, refl, sym, ap, _∙_}
+use mathlib.Core.Bool.{true, false}
+use mathlib.Core.List.{List, [], _∷_, _++_, append-nil}
+use Prim.Native.Nat.{ℕ, zero, suc, _+_, _-_, _*_, _≤_, _<_, min}
+use native.Mathlib.Nat.{le-refl, sub-self, le-of-suc-le-suc, not-suc-le-zero}
+use native.Mathlib.Omega.{arith}
+use borrow.Author.Tests.{eq-eqb, ne-eqb, lt-ltb, le-ltb, leb-true, leb-false, ltb-false}
+use lib.ListN.{length, take, drop, replicate, length-drop}
+use lib.Seq.{paste, take-all, take-append-le, take-append-add}
+use Rattle.frame.specs.Words.{if_then_else_, _=?_, _<?_, _≤?_, _or_, Told, refused, gives}
+use Rattle.frame.specs.Frame.{frameBytes}
+use Rattle.frame.specs.Identifier.{greatestDgn}
+use Rattle.frame.proofs.Words.{by-test, past-refusal, gives-same}
+use Rattle.message.specs.LongMessage.{shortest, longest, packetBytes, packetsOf}
+use Rattle.message.specs.Splitter.{unused, mostPackets, splits, numbered, announcementBytes, packetBytesOf, announcementOf, packetOf}
+use Rattle.message.specs.Promises.{CutBy, cuttingNumber}
+use Rattle.message.specs.declared.Cutting.{Cutting}
+use Rattle.message.specs.declared.Cut.{Cut}
+
+-- a message that is split keeps its limits, and the count is that of its packets
+pub record Splittable (size dgn count : ℕ) : Type 0 where
+  pub counted : count ≡ packetsOf size
+  pub long : shortest ≤ size
+  pub short : size ≤ longest
+  pub about : dgn ≤ greatestDgn
+
+pub splits-given : (size dgn count : ℕ) → splits size dgn ≡ gives count → Splittable size dgn count
+unfolding splits
+splits-given size dgn count e =
+    let r₁ = past-refusal (greatestDgn <? dgn) 12 _ e in
+    let r₂ = past-refusal (size <? shortest) 13 _ (r₁ .1) in
+    let r₃ = past-refusal (longest <? size) 13 _ (r₂ .1) in
+    let r₄ = past-refusal (mostPackets <? packetsOf size) 14 _ (r₃ .1) in
+    record {
+      counted = sym (gives-same (r₄ .1));
+      long = ltb-false _ _ (r₂ .0);
+      short = ltb-false _ _ (r₃ .0);
+      about = ltb-false _ _ (r₁ .0);
+    }
+
+module _ (message : List ℕ) (dgn : ℕ) where
+  pub announcement-refused : {n : ℕ} → splits (length message) dgn ≡ refused n → announcementOf message dgn ≡ refused n
+  unfolding announcementOf
+  announcement-refused e = rw e
+
+  pub announcement-given : {count : ℕ} → splits (length message) dgn ≡ gives count → announcementOf message dgn ≡ gives (announcementBytes (length message) dgn)
+  unfolding announcementOf
+  announcement-given e = rw e
+
+  pub packet-refused : {n : ℕ} (number : ℕ) → splits (length message) dgn ≡ refused n → packetOf message dgn number ≡ refused n
+  unfolding packetOf
+  packet-refused number e = rw e
+
+  pub packet-numbered : {count : ℕ} (number : ℕ) → splits (length message) dgn ≡ gives count → packetOf message dgn number ≡ numbered message number count
+  unfolding packetOf
+  packet-numbered number e = rw e
+
+-- a refusal with zeros beside it
+pub cut-refused : {t : Told (List ℕ)} {a : Cutting} {r : Cut} → t ≡ refused (cuttingNumber a) → (r .answer ≡ a) × (r .bytes ≡ replicate frameBytes 0) → CutBy t r
+cut-refused {r = r} e k = rw e (record { number = ap cuttingNumber (k .0); bytes = k .1 })
+
+module _ (message : List ℕ) (number count : ℕ) where
+  pub numbered-zero : number ≡ 0 → numbered message number count ≡ refused 15
+  unfolding numbered
+  numbered-zero e = rw (eq-eqb _ _ e)
+
+  pub numbered-above : (number ≡ 0 → ⊥) → count < number → numbered message number count ≡ refused 15
+  unfolding numbered
+  numbered-above n h = rw (ne-eqb _ _ n, lt-ltb _ _ h)
+
+  pub numbered-given : (number ≡ 0 → ⊥) → number ≤ count → numbered message number count ≡ gives (packetBytesOf message number)
+  unfolding numbered
+  numbered-given n h = rw (ne-eqb _ _ n, le-ltb _ _ h)
+
+-- parts of a filling
+drop-filling : (n k f : ℕ) → drop n (replicate k f) ≡ replicate (k - n) f
+drop-filling zero k f = let e : k ≡ k - 0 = omega arith in ap (λ (m : ℕ). replicate m f) e
+drop-filling (suc n) zero f = let e : 0 ≡ 0 - suc n = omega arith in ap (λ (m : ℕ). replicate m f) e
+drop-filling (suc n) (suc k) f = let e : k - n ≡ suc k - suc n = omega arith in drop-filling n k f ∙ ap (λ (m : ℕ). replicate m f) e
+
+take-filling : (n k f : ℕ) → n ≤ k → take n (replicate k f) ≡ replicate n f
+take-filling zero k f h = refl
+take-filling (suc n) zero f h = absurd (not-suc-le-zero h)
+take-filling (suc n) (suc k) f h = ap (λ (l : List ℕ). f ∷ l) (take-filling n k f (le-of-suc-le-suc h))
+
+-- the first k bytes of a list, filled up
+filled : (k f n : ℕ) (l : List ℕ) → n ≡ min k (length l) → take k (l ++ replicate k f) ≡ take n l ++ drop n (replicate k f)
+filled k f n l e =
+    by-test (k ≤? length l)
+    (λ t.
+    let h : k ≤ length l = leb-true _ _ t in
+    let y : n ≡ k = omega arith in
+    rw (take-append-le k l (replicate k f) h, y, drop-filling k k f, sub-self k) (sym (append-nil (take k l))))
+    (λ t.
+    let h : length l < k = leb-false _ _ t in
+    let y : n ≡ length l = omega arith in
+    let j : k ≡ length l + (k - length l) = omega arith in
+    ap (λ (m : ℕ). take m (l ++ replicate k f)) j
+    ∙ take-append-add l (replicate k f) (k - length l)
+    ∙ rw (y, take-all (length l) l (le-refl _), drop-filling (length l) k f) (ap (λ (r : List ℕ). l ++ r) (take-filling (k - length l) k f (omega arith))))
+
+-- what was copied over the filling is the packet
+pub packet-copied : (message : List ℕ) (number : ℕ)
+    → paste (number ∷ replicate packetBytes unused) 1 (drop (packetBytes * (number - 1)) message) (min packetBytes (length message - packetBytes * (number - 1)))
+    ≡ packetBytesOf message number
+unfolding packetBytesOf
+packet-copied message number =
+    let l = drop (packetBytes * (number - 1)) message in
+    let n = min packetBytes (length message - packetBytes * (number - 1)) in
+    let d = number ∷ replicate packetBytes unused in
+    let e : 1 + n ≡ suc n = omega arith in
+    ap (λ (m : ℕ). take 1 d ++ take n l ++ drop m d) e
+    ∙ ap (λ (r : List ℕ). number ∷ r) (sym (filled packetBytes unused n l (ap (λ (m : ℕ). min packetBytes m) (sym (length-drop (packetBytes * (number - 1)) message)))))

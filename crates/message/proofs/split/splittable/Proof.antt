@@ -1,0 +1,36 @@
+-- `message::split::splittable` meets its contract. Assumes nothing.
+use borrow.Author.Needs.{needs}
+use Rattle.message.specs.Splitter.{splits}
+use Rattle.frame.proofs.Tests.{tests}
+use Rattle.message.proofs.split.splittable.Statement.{statement}
+use Rattle.message.proofs.split.splittable.Tie as tie
+
+returns : tie.Need-returns
+unfolding splits
+returns c = search tests
+
+returns-2 : tie.Need-returns-2
+unfolding splits
+returns-2 c = search tests
+
+returns-3 : tie.Need-returns-3
+unfolding splits
+returns-3 c = search tests
+
+add-count : tie.Need-add-count
+add-count c = search needs
+
+returns-4 : tie.Need-returns-4
+unfolding splits
+returns-4 c = search tests
+
+cast-t10 : tie.Need-cast-t10
+cast-t10 c = search needs
+
+returns-5 : tie.Need-returns-5
+unfolding splits
+returns-5 c = search tests
+
+pub splittable-spec : {M : Type 1} → statement M
+splittable-spec =
+    tie.close (tie.spec returns returns-2 returns-3 add-count returns-4 cast-t10 returns-5)

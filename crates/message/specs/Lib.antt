@@ -1,0 +1,6 @@
+pub mod LongMessage
+pub mod OneSender
+pub mod Receiver
+pub mod Splitter
+pub mod Promises
+pub mod Private

@@ -1,0 +1,75 @@
+-- Long messages on the bus (J1939-21's broadcast transfer; document 01, "Long messages, one sender"): what an announcement and a data packet
+-- are, and the limits.
+use mathlib.Core.Bool.{Bool}
+use mathlib.Core.List.{List}
+use Prim.Native.Nat.{ℕ, _+_, _-_, _*_, _/_, min}
+use lib.ListN.{length, take, drop, getD}
+use Rattle.frame.specs.Words.{if_then_else_, _≤?_, _=?_, _and_, Told, refused, gives, given_then_}
+use Rattle.frame.specs.Bytes.{numberOf}
+use Rattle.frame.specs.Identifier.{greatestDgn}
+use Rattle.frame.specs.Frame.{checkedOf}
+use Rattle.frame.specs.declared.Parts.{Parts}
+
+-- the lengths of a long message, in bytes
+abbrev pub shortest : ℕ
+shortest = 9
+
+abbrev pub longest : ℕ
+longest = 1785
+
+-- how many bytes of the message a packet carries
+abbrev pub packetBytes : ℕ
+packetBytes = 7
+
+-- the length divided by 7, rounded up
+abbrev pub packetsOf : ℕ → ℕ
+packetsOf size = (size + 6) / 7
+
+-- a message whose frames pause for longer, in milliseconds, is closed
+abbrev pub idleLimit : ℕ
+idleLimit = 750
+
+abbrev pub announcementDgn : ℕ
+announcementDgn = 0xECFF
+
+abbrev pub packetDgn : ℕ
+packetDgn = 0xEBFF
+
+-- byte 0 of an announcement to all
+abbrev pub toAll : ℕ
+toAll = 32
+
+-- byte `at` of a frame, and the number in its bytes `from` to `to`, low byte first
+abbrev pub byteAt : ℕ → List ℕ → ℕ
+byteAt at bytes = getD bytes at 0
+
+unfoldable pub bytesTo : ℕ → ℕ → List ℕ → ℕ
+bytesTo from to bytes = numberOf (take (to + 1 - from) (drop from bytes))
+
+-- What a frame means to the receiver.
+pub data Meaning : Type 0 where
+  other : Meaning
+  announcement : ℕ → ℕ → ℕ → Meaning  -- sender, length and DGN of the message
+  packet : ℕ → ℕ → Meaning  -- sender and number of the packet
+
+unfoldable pub announced : ℕ → ℕ → ℕ → ℕ → Told Meaning
+announced sender size count dgn =
+    if (shortest ≤? size) and (size ≤? longest) and (count =? packetsOf size) and (dgn ≤? greatestDgn)
+    then gives (announcement sender size dgn)
+    else refused 7
+
+-- A frame that has passed refusals 3 to 6. ECxxh and EBxxh to one destination are other DGNs.
+unfoldable pub meant : ℕ → ℕ → List ℕ → Told Meaning
+meant sender dgn bytes =
+    if dgn =? packetDgn then gives (packet sender (byteAt 0 bytes)) else
+    if dgn =? announcementDgn then
+    if byteAt 0 bytes =? toAll then announced sender (bytesTo 1 2 bytes) (byteAt 3 bytes) (bytesTo 5 7 bytes) else
+    gives other
+    else gives other
+
+unfoldable pub meaningOf : ℕ → List ℕ → Told Meaning
+meaningOf id bytes = given checkedOf id (length bytes) then λ p. meant (p .source) (p .dgn) bytes
+
+-- how many of a packet's bytes the message still needs
+abbrev pub needed : ℕ → ℕ → ℕ
+needed size number = min packetBytes (size - packetBytes * (number - 1))

@@ -1,0 +1,126 @@
+-- What each public call of this crate promises: one proposition over answer, state and every lent byte. The answers are read in document
+-- 01's terms.
+use mathlib.Core.Path.{_≡_}
+use mathlib.Core.Bool.{Bool, true, false}
+use mathlib.Core.List.{List, [], map}
+use Prim.Native.Nat.{ℕ, _≤_, _*_}
+use lib.ListN.{length, take, drop, replicate}
+use Rattle.frame.specs.Words.{if_then_else_, _<?_, _≤?_, _or_, Told, refused, gives}
+use Rattle.frame.specs.Frame.{frameBytes}
+use Rattle.frame.specs.Promises.{refusalOf}
+use Rattle.message.specs.LongMessage.{longest, packetsOf, Meaning, other, announcement, packet}
+use Rattle.message.specs.Receiver.{placeCount, room, freePlace, Outcome, nothingToDo, opened, stored, finished, After, heard, pausedPlaces, pausedAnswer}
+use Rattle.message.specs.Splitter.{announcementOf, packetOf}
+use Rattle.message.specs.declared.Place.{Place}
+use Rattle.message.specs.declared.Receiver.{Receiver}
+use Rattle.message.specs.declared.Answer.{Answer}
+use Rattle.message.specs.declared.Answer.the-variants.{StorageTooShort, BrokenState, BadFrame, MalformedAnnouncement, NoPlaceFree, NoOpenMessage, UnexpectedPacket, NothingToDo, Opened, Stored, Finished}
+use Rattle.message.specs.declared.Heard.{Heard}
+use Rattle.message.specs.declared.Pausing.{Pausing}
+use Rattle.message.specs.declared.Pausing.the-variants as Pausing
+use Rattle.message.specs.declared.Paused.{Paused}
+use Rattle.message.specs.declared.Unsplittable.{Unsplittable}
+use Rattle.message.specs.declared.Unsplittable.the-variants.{DgnTooLarge, LengthNotSplit, TooManyPackets}
+use Rattle.message.specs.declared.Announcing.{Announcing}
+use Rattle.message.specs.declared.Announcing.the-variants as Announcing
+use Rattle.message.specs.declared.Announced.{Announced}
+use Rattle.message.specs.declared.Cutting.{Cutting}
+use Rattle.message.specs.declared.Cutting.the-variants as Cutting
+use Rattle.message.specs.declared.Cut.{Cut}
+
+-- Receiver::new
+
+pub record New (r : Receiver) : Type 0 where
+  pub places : r .places ≡ replicate placeCount freePlace
+
+-- Receiver::hear
+
+abbrev pub toldAnswer : Answer → Told Outcome
+toldAnswer StorageTooShort = refused 1
+toldAnswer BrokenState = refused 2
+toldAnswer (BadFrame why) = refused (refusalOf why)
+toldAnswer MalformedAnnouncement = refused 7
+toldAnswer NoPlaceFree = refused 8
+toldAnswer NoOpenMessage = refused 9
+toldAnswer UnexpectedPacket = refused 10
+toldAnswer NothingToDo = gives nothingToDo
+toldAnswer Opened = gives opened
+toldAnswer Stored = gives stored
+toldAnswer (Finished place sender dgn size) = gives (finished place sender dgn size)
+
+-- state, storage and answer are those
+pub record LeftBy (after : After) (r : Heard) (storage : List ℕ) : Type 0 where
+  pub places : r .receiver .places ≡ after .places
+  pub storage-bytes : storage ≡ after .storage
+  pub answer : toldAnswer (r .answer) ≡ after .answer
+
+abbrev pub Hear : ℕ → List ℕ → List Place → List ℕ → Heard → List ℕ → Type 0
+Hear id bytes places storage r exit = LeftBy (heard id bytes places storage) r exit
+
+-- Receiver::pause
+
+abbrev pub toldPausing : Pausing → Told ℕ
+toldPausing (Pausing.Closed n) = gives n
+toldPausing Pausing.BrokenState = refused 2
+
+pub record Pause (ms : ℕ) (state : List Place) (r : Paused) : Type 0 where
+  pub places : r .receiver .places ≡ pausedPlaces ms state
+  pub answer : toldPausing (r .answer) ≡ pausedAnswer ms state
+
+-- message: the finished message is that part of the storage, and empty where no message was finished, or no such answer is ever given
+
+abbrev pub partOf : List ℕ → ℕ → ℕ → List ℕ
+partOf storage place size = if (placeCount ≤? place) or (longest <? size) then [] else take size (drop (longest * place) storage)
+
+abbrev pub messageIn : List ℕ → Told Outcome → List ℕ
+messageIn storage (refused n) = []
+messageIn storage (gives nothingToDo) = []
+messageIn storage (gives opened) = []
+messageIn storage (gives stored) = []
+messageIn storage (gives (finished place sender dgn size)) = partOf storage place size
+
+pub record Message (storage : List ℕ) (answer : Answer) (r : List ℕ) : Type 0 where
+  pub bytes : r ≡ (if length storage <? room then [] else messageIn storage (toldAnswer answer))
+
+-- announcement
+
+abbrev pub refusalWhy : Unsplittable → ℕ
+refusalWhy DgnTooLarge = 12
+refusalWhy LengthNotSplit = 13
+refusalWhy TooManyPackets = 14
+
+-- 0 where the bytes are given
+abbrev pub announcingNumber : Announcing → ℕ
+announcingNumber Announcing.Bytes = 0
+announcingNumber (Announcing.Refused why) = refusalWhy why
+
+-- the number, and the eight bytes, that a definition tells: zeros beside a refusal
+
+abbrev pub numberIn : Told (List ℕ) → ℕ
+numberIn (gives bytes) = 0
+numberIn (refused n) = n
+
+abbrev pub bytesIn : Told (List ℕ) → List ℕ
+bytesIn (gives bytes) = bytes
+bytesIn (refused n) = replicate frameBytes 0
+
+pub record AnnouncedBy (told : Told (List ℕ)) (r : Announced) : Type 0 where
+  pub number : announcingNumber (r .answer) ≡ numberIn told
+  pub bytes : r .bytes ≡ bytesIn told
+
+abbrev pub Announcement : List ℕ → ℕ → Announced → Type 0
+Announcement message dgn r = AnnouncedBy (announcementOf message dgn) r
+
+-- packet
+
+abbrev pub cuttingNumber : Cutting → ℕ
+cuttingNumber Cutting.Bytes = 0
+cuttingNumber (Cutting.Refused why) = refusalWhy why
+cuttingNumber Cutting.NoSuchPacket = 15
+
+pub record CutBy (told : Told (List ℕ)) (r : Cut) : Type 0 where
+  pub number : cuttingNumber (r .answer) ≡ numberIn told
+  pub bytes : r .bytes ≡ bytesIn told
+
+abbrev pub Packet : List ℕ → ℕ → ℕ → Cut → Type 0
+Packet message dgn number r = CutBy (packetOf message dgn number) r

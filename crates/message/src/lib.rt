@@ -1,0 +1,175 @@
+// Long messages: the receiver of eight senders over lent storage, and the splitter.
+ghost use Rattle.message.specs.Promises.{New, Hear, Pause, Message, Announcement, Packet};
+
+mod eight_places;
+mod meaning;
+mod one_place;
+mod rules;
+mod split;
+mod storage;
+
+use frame::BadFrame;
+
+// An open message's place: its sender, what was announced, the packet expected next, and the pauses since its last frame, in
+// milliseconds. A free place is all zeros.
+pub struct Place {
+    pub sender: u8,
+    pub length: u16,
+    pub dgn: u32,
+    pub expected: u8,
+    pub idle: u16,
+}
+
+// The receiver's state. Place p owns bytes 1785 p to 1785 p + 1784 of the storage.
+pub struct Receiver {
+    pub places: [Place; 8],
+}
+
+// What a frame did: the refusals 1 to 10 by name, or the four ways in which it was heard.
+pub enum Answer {
+    StorageTooShort,
+    BrokenState,
+    BadFrame(BadFrame),
+    MalformedAnnouncement,
+    NoPlaceFree,
+    NoOpenMessage,
+    UnexpectedPacket,
+    NothingToDo,
+    Opened,
+    Stored,
+    Finished {
+        place: usize,
+        sender: u8,
+        dgn: u32,
+        length: u16,
+    },
+}
+
+pub struct Heard {
+    pub receiver: Receiver,
+    pub answer: Answer,
+}
+
+// How many messages a pause closed, or refusal 2.
+pub enum Pausing {
+    Closed(u8),
+    BrokenState,
+}
+
+pub struct Paused {
+    pub receiver: Receiver,
+    pub answer: Pausing,
+}
+
+// Why a message cannot be split: refusals 12, 13 and 14.
+pub enum Unsplittable {
+    DgnTooLarge,
+    LengthNotSplit,
+    TooManyPackets,
+}
+
+pub enum Announcing {
+    Bytes,
+    Refused(Unsplittable),
+}
+
+// An announcement's eight bytes; zeros where it is refused.
+pub struct Announced {
+    pub answer: Announcing,
+    pub bytes: [u8; 8],
+}
+
+// A packet, or why not; refusal 15 where the message has no packet of that number.
+pub enum Cutting {
+    Bytes,
+    Refused(Unsplittable),
+    NoSuchPacket,
+}
+
+// A data packet's eight bytes; zeros where it is refused.
+pub struct Cut {
+    pub answer: Cutting,
+    pub bytes: [u8; 8],
+}
+
+impl Receiver {
+    // A receiver with eight free places.
+    pub fn new() -> Receiver
+        ensures { λ r. ⌜ New r ⌝ }
+    {
+        Receiver {
+            places: [one_place::free(); 8],
+        }
+    }
+
+    // A frame of the bus.
+    pub fn hear(self, storage: &mut [u8], id: u32, bytes: &[u8]) -> Heard
+        ensures { λ r. ⌜ Hear id (now (bytes .entry)) (self .places) (now (storage .entry)) r (now (storage .exit)) ⌝ }
+    {
+        if storage.len() < 14280 {
+            return eight_places::keeps(self, Answer::StorageTooShort);
+        }
+        if !rules::keep_rules(self) {
+            return eight_places::keeps(self, Answer::BrokenState);
+        }
+        eight_places::hear(self, storage, id, bytes)
+    }
+
+    // A pause on the bus, in milliseconds.
+    pub fn pause(self, ms: u16) -> Paused
+        ensures { λ r. ⌜ Pause ms (self .places) r ⌝ }
+    {
+        if !rules::keep_rules(self) {
+            return Paused {
+                receiver: self,
+                answer: Pausing::BrokenState,
+            };
+        }
+        eight_places::pause(self, ms)
+    }
+}
+
+// The finished message that `answer` tells of: that part of the storage, to be read before the next frame is heard. Empty for any
+// other answer.
+pub fn message(storage: &[u8], answer: Answer) -> &[u8]
+    ensures { λ r. ⌜ Message (now (storage .entry)) answer (now r) ⌝ }
+{
+    if storage.len() < 14280 {
+        return &storage[0..0];
+    }
+    match answer {
+        Answer::Finished {
+            place,
+            sender: _,
+            dgn: _,
+            length,
+        } => storage::part(storage, place, length),
+        _ => &storage[0..0],
+    }
+}
+
+// The announcement of a message.
+pub fn announcement(message: &[u8], dgn: u32) -> Announced
+    ensures { λ r. ⌜ Announcement (now (message .entry)) dgn r ⌝ }
+{
+    match split::splittable(message.len(), dgn) {
+        split::Splits::Refused(why) => Announced {
+            answer: Announcing::Refused(why),
+            bytes: [0u8; 8],
+        },
+        split::Splits::Into(count) => Announced {
+            answer: Announcing::Bytes,
+            bytes: split::announcement_bytes(message.len() as u16, dgn, count),
+        },
+    }
+}
+
+// Any one data packet of a message, by its number from 1.
+pub fn packet(message: &[u8], dgn: u32, number: u32) -> Cut
+    ensures { λ r. ⌜ Packet (now (message .entry)) dgn number r ⌝ }
+{
+    match split::splittable(message.len(), dgn) {
+        split::Splits::Refused(why) => split::refused(Cutting::Refused(why)),
+        split::Splits::Into(count) => split::cut(message, number, count),
+    }
+}

@@ -1,0 +1,156 @@
+-- Places: each is free, or held by one key with its session (document 01, "Eight senders at once"; request #101).
+use mathlib.Core.Bool.{Bool, true, false}
+use mathlib.Core.List.{List, [], _∷_, map}
+use mathlib.Core.Logic.{_≢_}
+use mathlib.Core.Option.{Option, some, none}
+use Prim.Native.Nat.{ℕ, _+_}
+use lib.ListN.{replicate}
+use Rattle.frame.specs.Words.{if_then_else_, _=?_}
+use Rattle.places.specs.Format.{Asks, fixed, opens, finishes, feeds, Fed, goes, ends, Format, Event, frame, pause, Step, step}
+
+pub data Place (S : Type 0) : Type 0 where
+  free : Place S
+  held : ℕ → S → Place S
+
+-- each format has eight places
+abbrev pub placeCount : ℕ
+placeCount = 8
+
+-- `full`: an opening found no place
+pub data Out (A : Type 0) : Type 0 where
+  full : Out A
+  said : A → Out A
+
+-- the session of k, if it has a place
+abbrev pub lookup : {S : Type 0} → ℕ → List (Place S) → Option S
+lookup k [] = none
+lookup k (free ∷ ps) = lookup k ps
+lookup k (held j s ∷ ps) = if j =? k then some s else lookup k ps
+
+abbrev pub keyed : {S : Type 0} → ℕ → Option S → Place S
+keyed k none = free
+keyed k (some s) = held k s
+
+-- the place of k with another session of k, or freed
+abbrev pub update : {S : Type 0} → ℕ → Option S → List (Place S) → List (Place S)
+update k m [] = []
+update k m (free ∷ ps) = free ∷ update k m ps
+update k m (held j s ∷ ps) = if j =? k then keyed k m ∷ ps else held j s ∷ update k m ps
+
+abbrev pub anyFree : {S : Type 0} → List (Place S) → Bool
+anyFree [] = false
+anyFree (free ∷ ps) = true
+anyFree (held j s ∷ ps) = anyFree ps
+
+-- the lowest free place taken
+abbrev pub takeLowest : {S : Type 0} → ℕ → S → List (Place S) → List (Place S)
+takeLowest k s [] = []
+takeLowest k s (free ∷ ps) = held k s ∷ ps
+takeLowest k s (held j t ∷ ps) = held j t ∷ takeLowest k s ps
+
+-- the keys that hold a place
+abbrev pub keysOf : {S : Type 0} → List (Place S) → List ℕ
+keysOf [] = []
+keysOf (free ∷ ps) = keysOf ps
+keysOf (held j s ∷ ps) = j ∷ keysOf ps
+
+abbrev pub Absent : ℕ → List ℕ → Type 0
+Absent k [] = Unit {0}
+Absent k (j ∷ js) = (j ≢ k) × Absent k js
+
+abbrev pub Distinct : List ℕ → Type 0
+Distinct [] = Unit {0}
+Distinct (j ∷ js) = Absent j js × Distinct js
+
+-- no key has two places
+abbrev pub OnePlaceEach : {S : Type 0} → List (Place S) → Type 0
+OnePlaceEach ps = Distinct (keysOf ps)
+
+-- how many pass a test
+abbrev pub count : {P : Type 0} → (P → Bool) → List P → ℕ
+count f [] = 0
+count f (p ∷ ps) = (if f p then 1 else 0) + count f ps
+
+abbrev pub isNone : {A : Type 0} → Option A → Bool
+isNone none = true
+isNone (some a) = false
+
+module _ (𝓕 : Format) where
+  abbrev pub Places : Type 0
+  Places = List (Place (𝓕 .Session))
+
+  -- an opening takes its key's place, or else the lowest free one
+  abbrev pub opened : ℕ → 𝓕 .Session → 𝓕 .Answer → Places → Option (𝓕 .Session) → Step Places (Out (𝓕 .Answer))
+  opened k s a ps (some t) = step (update k (some s) ps) (said a)
+  opened k s a ps none = if anyFree ps then step (takeLowest k s ps) (said a) else step ps full
+
+  -- one that finishes at once needs a place too, and leaves it free
+  abbrev pub finished : ℕ → 𝓕 .Answer → Places → Option (𝓕 .Session) → Step Places (Out (𝓕 .Answer))
+  finished k a ps (some t) = step (update k none ps) (said a)
+  finished k a ps none = if anyFree ps then step ps (said a) else step ps full
+
+  abbrev pub fed : ℕ → Places → Fed (𝓕 .Session) (𝓕 .Answer) → Step Places (Out (𝓕 .Answer))
+  fed k ps (goes s a) = step (update k (some s) ps) (said a)
+  fed k ps (ends a) = step (update k none ps) (said a)
+
+  abbrev pub packet : ℕ → 𝓕 .Data → 𝓕 .Answer → Places → Option (𝓕 .Session) → Step Places (Out (𝓕 .Answer))
+  packet k d a ps none = step ps (said a)
+  packet k d a ps (some s) = fed k ps (𝓕 .feed s d)
+
+  abbrev pub asked : ℕ → Asks (𝓕 .Session) (𝓕 .Data) (𝓕 .Answer) → Places → Step Places (Out (𝓕 .Answer))
+  asked k (fixed a) ps = step ps (said a)
+  asked k (opens s a) ps = opened k s a ps (lookup k ps)
+  asked k (finishes a) ps = finished k a ps (lookup k ps)
+  asked k (feeds d a) ps = packet k d a ps (lookup k ps)
+
+  abbrev pub hear : 𝓕 .Frame → Places → Step Places (Out (𝓕 .Answer))
+  hear f ps = asked (𝓕 .key f) (𝓕 .asks f) ps
+
+  -- a pause, at one place and at all
+  abbrev pub rest : ℕ → Place (𝓕 .Session) → Place (𝓕 .Session)
+  rest ms free = free
+  rest ms (held k s) = keyed k (𝓕 .wait ms s)
+
+  abbrev pub pass : ℕ → Places → Places
+  pass ms ps = map (rest ms) ps
+
+  -- the places that a pause frees, and how many
+  abbrev pub closes : ℕ → Place (𝓕 .Session) → Bool
+  closes ms free = false
+  closes ms (held k s) = isNone (𝓕 .wait ms s)
+
+  abbrev pub closedBy : ℕ → Places → ℕ
+  closedBy ms ps = count (closes ms) ps
+
+  -- at the start: eight places, all free
+  abbrev pub eightFree : Places
+  eightFree = replicate placeCount free
+
+  -- the places after a run
+  abbrev pub after : Places → List (Event (𝓕 .Frame)) → Places
+  after ps [] = ps
+  after ps (frame f ∷ es) = after (hear f ps .next) es
+  after ps (pause ms ∷ es) = after (pass ms ps) es
+
+  -- every answer of a run, with the key that it is told to
+  abbrev pub run : Places → List (Event (𝓕 .Frame)) → List (ℕ × Out (𝓕 .Answer))
+  run ps [] = []
+  run ps (frame f ∷ es) = (𝓕 .key f, hear f ps .answer) ∷ run (hear f ps .next) es
+  run ps (pause ms ∷ es) = run (pass ms ps) es
+
+  -- the events that a key sees: its own frames, and every pause
+  abbrev pub only : ℕ → List (Event (𝓕 .Frame)) → List (Event (𝓕 .Frame))
+  only k [] = []
+  only k (frame f ∷ es) = if 𝓕 .key f =? k then frame f ∷ only k es else only k es
+  only k (pause ms ∷ es) = pause ms ∷ only k es
+
+-- the answers that are told to k
+abbrev pub toldTo : {A : Type 0} → ℕ → List (ℕ × A) → List A
+toldTo k [] = []
+toldTo k (r ∷ rs) = if r .0 =? k then r .1 ∷ toldTo k rs else toldTo k rs
+
+-- no opening found all places held
+abbrev pub NeverFull : {A : Type 0} → List (Out A) → Type 0
+NeverFull [] = Unit {0}
+NeverFull (full ∷ os) = ⊥
+NeverFull (said a ∷ os) = NeverFull os

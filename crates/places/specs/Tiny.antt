@@ -1,0 +1,89 @@
+-- A made-up format, small enough to run by hand: the statements hold for more than one format, and an opening that finishes at once is seen at work.
+-- A frame has a key and a number. Number 0 is a message by itself; 1 to 9 opens one that needs so many packets; any other is a packet.
+use mathlib.Core.Path.{_≡_}
+use mathlib.Core.List.{List, [], _∷_}
+use mathlib.Core.Option.{Option, some, none}
+use Prim.Native.Nat.{ℕ, _+_, _-_}
+use Rattle.frame.specs.Words.{if_then_else_, _<?_, _≤?_, _=?_}
+use Rattle.places.specs.Format.{Asks, opens, finishes, feeds, Fed, goes, ends, Format, Event, frame, pause}
+use Rattle.places.specs.Places.{free, held, full, said, closedBy, eightFree, after, run}
+use Rattle.places.specs.Statements.{BusyAsQuiet, FullExactlyWhen, SumsOfPauses}
+
+pub record Card : Type 0 where
+  pub key : ℕ
+  pub number : ℕ
+
+pub record Pile : Type 0 where
+  pub missing : ℕ
+  pub idle : ℕ
+
+pub data Word : Type 0 where
+  opened stored finished unknown : Word
+
+abbrev pub mostPackets : ℕ
+mostPackets = 9
+
+abbrev pub tinyIdleLimit : ℕ
+tinyIdleLimit = 100
+
+unfoldable pub tinyAsks : ℕ → Asks Pile (Unit {0}) Word
+tinyAsks n =
+    if n =? 0 then finishes finished else
+    if n ≤? mostPackets then opens (record { missing = n; idle = 0 }) opened else
+    feeds tt unknown
+
+unfoldable pub tinyFeed : Pile → Unit {0} → Fed Pile Word
+tinyFeed p d = if p .missing ≤? 1 then ends finished else goes (record { missing = p .missing - 1; idle = 0 }) stored
+
+unfoldable pub tinyWait : ℕ → Pile → Option Pile
+tinyWait ms p = if tinyIdleLimit <? p .idle + ms then none else some (record { missing = p .missing; idle = p .idle + ms })
+
+abbrev pub tiny : Format
+tiny = record {
+  Session = Pile;
+  Data = Unit {0};
+  Answer = Word;
+  Frame = Card;
+  key = λ c. c .key;
+  asks = λ c. tinyAsks (c .number);
+  feed = tinyFeed;
+  wait = tinyWait;
+}
+
+abbrev pub card : ℕ → ℕ → Event Card
+card key number = frame (record { key = key; number = number })
+
+-- Nine keys: eight open, the ninth's message by itself finds no place. Packets finish the third's, and then the ninth is heard; the place is left free.
+abbrev pub nineKeys : List (Event Card)
+nineKeys =
+    card 1 2 ∷ card 2 2 ∷ card 3 2 ∷ card 4 2 ∷ card 5 2 ∷ card 6 2 ∷ card 7 2 ∷ card 8 2 ∷ card 9 0 ∷
+    card 3 10 ∷ pause 60 ∷ card 3 10 ∷ card 9 0 ∷ card 6 0 ∷ card 9 4 ∷ []
+
+abbrev pub NineKeysTold : Type 0
+NineKeysTold =
+    run tiny (eightFree tiny) nineKeys
+    ≡ (1, said opened) ∷ (2, said opened) ∷ (3, said opened) ∷ (4, said opened)
+    ∷ (5, said opened) ∷ (6, said opened) ∷ (7, said opened) ∷ (8, said opened)
+    ∷ (9, full) ∷ (3, said stored) ∷ (3, said finished) ∷ (9, said finished) ∷ (6, said finished) ∷ (9, said opened) ∷ []
+
+-- The ninth's last opening took the lowest free place, the third's. A pause of 41 closes those that have been idle for 60.
+abbrev pub NineKeysAfter : Type 0
+NineKeysAfter =
+    let waited : Pile = record { missing = 2; idle = 60 } in
+    after tiny (eightFree tiny) nineKeys
+    ≡ held 1 waited ∷ held 2 waited ∷ held 9 (record { missing = 4; idle = 0 }) ∷ held 4 waited
+    ∷ held 5 waited ∷ free ∷ held 7 waited ∷ held 8 waited ∷ []
+
+abbrev pub NineKeysPaused : Type 0
+NineKeysPaused = (closedBy tiny 40 (after tiny (eightFree tiny) nineKeys) ≡ 0) × (closedBy tiny 41 (after tiny (eightFree tiny) nineKeys) ≡ 6)
+
+-- The statements at this format.
+
+abbrev pub TinyBusyAsQuiet : Type 0
+TinyBusyAsQuiet = BusyAsQuiet tiny
+
+abbrev pub TinyFullExactlyWhen : Type 0
+TinyFullExactlyWhen = FullExactlyWhen tiny
+
+abbrev pub TinySumsOfPauses : Type 0
+TinySumsOfPauses = SumsOfPauses tiny

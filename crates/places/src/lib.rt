@@ -1,0 +1,6 @@
+// The places of a receiver of several senders at once, for every packet format: definitions in specs/, laws in proofs/. Code has only what a
+// search over places finds.
+pub enum Found {
+    At(usize),
+    Nowhere,
+}
