@@ -1,4 +1,3 @@
 pub mod Bytes
-pub mod Loops
 pub mod Steps
 pub mod Packets

@@ -5,10 +5,10 @@ use native.Mathlib.Omega.{arith}
 use borrow.Author.Tests.{not-true, not-false}
 use borrow.Author.Needs.{needs}
 use lib.ListN.{length, drop}
-use Rattle.message.specs.Receiver.{layout}
+use Rattle.message.specs.Receiver.{freePlace, layout}
 use Rattle.places.specs.Layout.{oneEach}
 use Rattle.places.proofs.Search.{length-field}
-use Rattle.message.proofs.Loops.{each-pass, each-stop, each-end}
+use Rattle.places.proofs.View.{one-each-pass, one-each-stop, one-each-end}
 use Rattle.message.proofs.rules.one_each.Statement.{statement}
 use Rattle.message.proofs.rules.one_each.Tie as tie
 
@@ -29,7 +29,7 @@ returns c =
     let l = c .before .before .before .loop in
     let ps = c .before .before .before .before .args .r .places in
     let h : l .i < length ps = omega arith in
-    sym (l .inv .2 ∙ each-stop ps (l .i) h (sym (c .before .is-alone .ensures) ∙ not-true (c .before .is-alone .result) (c .if1 .taken)))
+    sym (l .inv .2 ∙ one-each-stop layout ps (l .i) freePlace h (sym (c .before .is-alone .ensures) ∙ not-true (c .before .is-alone .result) (c .if1 .taken)))
 
 add-i : tie.Need-add-i Inv-loop μ-loop
 add-i c = search needs
@@ -42,12 +42,12 @@ loop-again c =
     let l = c .before .before .before .loop in
     let ps = c .before .before .before .before .args .r .places in
     let h : l .i < length ps = omega arith in
-    (search needs, l .inv .1, l .inv .2 ∙ each-pass ps (l .i) h (sym (c .before .is-alone .ensures) ∙ not-false (c .before .is-alone .result) (c .if1 .left)))
+    (search needs, l .inv .1, l .inv .2 ∙ one-each-pass layout ps (l .i) freePlace h (sym (c .before .is-alone .ensures) ∙ not-false (c .before .is-alone .result) (c .if1 .left)))
 
 returns-2 : tie.Need-returns-2 Inv-loop μ-loop
 returns-2 c =
     let l = c .before .loop in
-    sym (l .inv .2 ∙ each-end (c .before .before .args .r .places) (l .i) (omega arith))
+    sym (l .inv .2 ∙ one-each-end layout (c .before .before .args .r .places) (l .i) (omega arith))
 
 pub one-each-spec : {M : Type 1} → statement M
 one-each-spec =

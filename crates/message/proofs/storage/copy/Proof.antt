@@ -5,7 +5,7 @@ use native.Mathlib.Omega.{arith}
 use borrow.Author.Needs.{needs}
 use lib.Seq.{paste, paste-zero}
 use lib.ListN.{length, drop, length-set}
-use Rattle.message.proofs.Loops.{copy-turn}
+use Rattle.places.proofs.Stretch.{paste-turn}
 use Rattle.message.proofs.storage.copy.Statement.{statement}
 use Rattle.message.proofs.storage.copy.Tie as tie
 
@@ -42,7 +42,7 @@ loop-again c =
     let a = c .before .before .before .args in
     let h : a .to + l .i < length (a .part .now) = omega arith in
     let k : a .from + l .i < length (a .bytes .now) = omega arith in
-    (search needs, simp length-set (l .inv .1), copy-turn (a .part .now) (l .part) (a .bytes .now) (a .to) (a .from) (l .i) h k (l .inv .2))
+    (search needs, simp length-set (l .inv .1), paste-turn (a .part .now) (l .part) (a .bytes .now) (a .to) (a .from) (l .i) h k (l .inv .2))
 
 same-length : tie.Need-same-length Inv-loop μ-loop
 same-length c = c .before .loop .inv .1

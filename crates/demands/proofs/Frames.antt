@@ -1,0 +1,92 @@
+-- What a frame can mean to the receiver, read off its definition.
+-- Assumes nothing.
+use mathlib.Core.Path.{_≡_, refl, sym, ap, _∙_, subst}
+use mathlib.Core.Bool.{Bool, true, false, not}
+use mathlib.Core.List.{List}
+use Prim.Native.Nat.{ℕ, _≤_, _<_, _/_, _%_}
+use native.Mathlib.Nat.{mod-lt}
+use native.Mathlib.Omega.{arith}
+use borrow.Author.Tests.{eqb-true, eqb-false, leb-true}
+use lib.Dec.{lit<}
+use lib.ListN.{length}
+use Rattle.frame.specs.Words.{if_then_else_, _≤?_, _<?_, _=?_, _and_, _or_, bits, Told, refused, gives}
+use Rattle.frame.specs.Identifier.{sourceOf, dgnOf, reservedOf, partsOf, identifiers, greatestDgn}
+use Rattle.frame.specs.Frame.{sourceAllowed, checkedOf, frameBytes}
+use Rattle.frame.specs.declared.Parts.{Parts}
+use Rattle.frame.proofs.Words.{both-true, by-test, not-flips, true-false}
+use Rattle.message.specs.LongMessage.{shortest, longest, packetsOf, packetDgn, announcementDgn, toAll, byteAt, bytesTo, Meaning, other, announcement, packet, announced, meant, meaningOf}
+use Rattle.message.specs.Receiver.{greatestSender}
+
+by-if : {A : Type 0} (P : A → Type 0) (b : Bool) (x y : A) → (b ≡ true → P x) → (b ≡ false → P y) → P (if b then x else y)
+by-if P true x y f g = f refl
+by-if P false x y f g = g refl
+
+-- a checked frame
+
+abbrev Sound : ℕ → ℕ → Told Parts → Type 0
+Sound id size (refused n) = n < 8
+Sound id size (gives p) = (p ≡ partsOf id) × (size ≡ frameBytes) × (sourceAllowed (sourceOf id) (dgnOf id) ≡ true)
+
+checked-sound : (id size : ℕ) → Sound id size (checkedOf id size)
+unfolding checkedOf
+checked-sound id size =
+    by-if (Sound id size) (identifiers ≤? id) _ _ (λ _. omega arith) (λ _.
+    by-if (Sound id size) (not (size =? frameBytes)) _ _ (λ _. omega arith) (λ s.
+    by-if (Sound id size) (reservedOf id =? 1) _ _ (λ _. omega arith) (λ _.
+    by-if (Sound id size) (sourceAllowed (sourceOf id) (dgnOf id)) _ _
+    (λ a. (refl, eqb-true size frameBytes (not-flips (size =? frameBytes) s), a)) (λ _. omega arith))))
+
+-- a sender of an announcement is no higher than 253
+sender-low : (source dgn : ℕ) → source < 256 → dgn ≡ announcementDgn → sourceAllowed source dgn ≡ true → source ≤ greatestSender
+unfolding sourceAllowed
+sender-low source dgn h e f =
+    by-test (source =? 255)
+    (λ t. true-false (sym (rw t at f)))
+    (λ t. by-test (source =? 254)
+    (λ u. true-false (sym (rw (t, u, e) at f)))
+    (λ u. omega (arith, eqb-false source 255 t, eqb-false source 254 u)))
+
+-- What is known of a frame by its meaning.
+abbrev pub Known : ℕ → List ℕ → Told Meaning → Type 0
+Known id bytes (refused n) = n < 8
+Known id bytes (gives other) = Unit {0}
+Known id bytes (gives (announcement sender size dgn)) =
+    (sender ≡ sourceOf id) × (sender ≤ greatestSender) × (shortest ≤ size) × (size ≤ longest) × (dgn ≤ greatestDgn)
+Known id bytes (gives (packet sender number)) = (sender ≡ sourceOf id) × (length bytes ≡ frameBytes)
+
+announced-known : (id size count dgn : ℕ) (bytes : List ℕ) → sourceOf id ≤ greatestSender → Known id bytes (announced (sourceOf id) size count dgn)
+unfolding announced
+announced-known id size count dgn bytes h =
+    by-if (Known id bytes) ((shortest ≤? size) and (size ≤? longest) and (count =? packetsOf size) and (dgn ≤? greatestDgn)) _ _
+    (λ t.
+    let r₁ = both-true (shortest ≤? size) _ t in
+    let r₂ = both-true (size ≤? longest) _ (r₁ .1) in
+    let r₃ = both-true (count =? packetsOf size) _ (r₂ .1) in
+    (refl, h, leb-true _ _ (r₁ .0), leb-true _ _ (r₂ .0), leb-true _ _ (r₃ .1)))
+    (λ _. omega arith)
+
+source-byte : (id : ℕ) → sourceOf id < 256
+unfolding sourceOf
+source-byte id = mod-lt (id / 1) (lit< tt)
+
+meant-known : (id : ℕ) (bytes : List ℕ) → length bytes ≡ frameBytes → sourceAllowed (sourceOf id) (dgnOf id) ≡ true
+    → Known id bytes (meant (sourceOf id) (dgnOf id) bytes)
+unfolding meant
+meant-known id bytes l a =
+    by-if (Known id bytes) (dgnOf id =? packetDgn) _ _ (λ _. (refl, l)) (λ _.
+    by-if (Known id bytes) (dgnOf id =? announcementDgn) _ _
+    (λ d.
+    by-if (Known id bytes) (byteAt 0 bytes =? toAll) _ _
+    (λ _. announced-known id (bytesTo 1 2 bytes) (byteAt 3 bytes) (bytesTo 5 7 bytes) bytes
+    (sender-low (sourceOf id) (dgnOf id) (source-byte id) (eqb-true (dgnOf id) announcementDgn d) a))
+    (λ _. tt)) (λ _. tt))
+
+pub meaning-known : (id : ℕ) (bytes : List ℕ) → Known id bytes (meaningOf id bytes)
+unfolding meaningOf
+meaning-known id bytes = go (checkedOf id (length bytes)) refl
+  where
+    go : (t : Told Parts) → checkedOf id (length bytes) ≡ t → Known id bytes (meaningOf id bytes)
+    go (refused n) e = rw e (rw e at (checked-sound id (length bytes)))
+    go (gives p) e =
+        let k = rw e at (checked-sound id (length bytes)) in
+        rw e (subst (λ (q : Parts). Known id bytes (meant (q .source) (q .dgn) bytes)) (sym (k .0)) (meant-known id bytes (k .1) (k .2)))

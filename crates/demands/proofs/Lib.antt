@@ -1,0 +1,3 @@
+pub mod Frames
+pub mod LongReceiver
+pub mod BusyBus

@@ -1,0 +1,386 @@
+-- The receiver, its places seen with their stretches of the storage, does what the places of long messages do, and a state that keeps its
+-- rules leads to one that keeps them.
+-- Assumes nothing.
+use mathlib.Core.Path.{_≡_, refl, sym, ap, _∙_, subst, subst⁻¹}
+use mathlib.Core.Bool.{Bool, true, false, not}
+use mathlib.Core.List.{List, [], _∷_, _++_, map}
+use mathlib.Core.Logic.{_≢_}
+use mathlib.Core.Option.{Option, some, none}
+use Prim.Native.Nat.{ℕ, _+_, _-_, _*_, _≤_, _<_, min}
+use native.Mathlib.Omega.{arith}
+use borrow.Author.Tests.{eq-eqb, ne-eqb, eqb-true, eqb-false, lt-ltb, le-ltb, le-leb, lt-leb, ltb-false, not-true}
+use lib.ListN.{length, take, drop, getD, set, replicate, length-take, length-drop, length-map}
+use lib.Seq.{paste, length-paste, take-paste, take-take}
+use Rattle.frame.specs.Words.{if_then_else_, _≤?_, _<?_, _=?_, _and_, Told, refused, gives}
+use Rattle.frame.specs.Identifier.{sourceOf, greatestDgn}
+use Rattle.frame.specs.Frame.{frameBytes}
+use Rattle.frame.proofs.Words.{by-test, both-true}
+use Rattle.places.specs.Format.{fixed, opens, feeds, goes, ends, Step, step}
+use Rattle.places.specs.Places.{Out, full, said, rest, closes, count}
+use Rattle.places.specs.Layout.{first, every, stretch, AgreeBut, openBy, seat, view, oneEach}
+use Rattle.places.specs.Receiver.{Shows, Receiver, Fresh}
+use Rattle.places.specs.declared.Found.{Found}
+use Rattle.places.specs.declared.Found.the-variants.{At, Nowhere}
+use Rattle.places.proofs.Search.{found-at, every-at, every-set, every-map, every-replicate}
+use Rattle.places.proofs.Stretch.{stretch-same, stretch-other}
+use Rattle.places.proofs.View.{one-each-view, length-view, blank-view, view-pass, view-closes}
+use Rattle.places.proofs.Receiver.{shows-fixed, shows-opens-held, shows-opens-free, shows-full, shows-feeds-nowhere, shows-feeds-goes, shows-feeds-ends, shows-keeps, pass-keeps}
+use Rattle.message.specs.LongMessage.{shortest, longest, packetBytes, packetsOf, idleLimit, needed, Meaning, other, announcement, packet, meaningOf}
+use Rattle.message.specs.OneSender.{Open, Frame, Part, Tells, announcedBy, joined, expectingNext, fedBy, waits, asksBy, longMessages}
+use Rattle.message.specs.OneSender as OneSender
+use Rattle.message.specs.Receiver.{greatestSender, placeCount, room, freePlace, isFree, openMessage, layout, isOpenBy, isZero, placeKeepsRules, keepsRules, Outcome, After, leaves, placeFor, announces, keptAt, expecting, advanced, packetAt, carries, byMeaning, heard, idled, pausedPlaces, pausedAnswer}
+use Rattle.message.specs.Receiver as Eight
+use Rattle.message.specs.Promises.{messageIn, partOf}
+use Rattle.message.specs.declared.Place.{Place}
+use Rattle.message.proofs.Steps.{found-below, OpenRules, open-rules, rules-at, announces-at, announces-nowhere, advanced-last, advanced-next, packet-expected, packet-other, carries-at, carries-nowhere, heard-kept}
+use Rattle.demands.specs.BusyBus.{Held, fresh, tells, afterFrame, toldOf, afterPause, Keeps, openIn}
+use Rattle.demands.proofs.Frames.{Known, meaning-known}
+
+-- an open place that keeps its rules
+rules-open : (p : Place) → isFree p ≡ false → OpenRules p → placeKeepsRules p ≡ true
+unfolding placeKeepsRules
+rules-open p f o =
+    rw (f, le-leb _ _ (o .named), le-leb _ _ (o .long), le-leb _ _ (o .short), le-leb _ _ (o .about), le-leb _ _ (o .fresh), le-leb _ _ (o .begun), le-leb _ _ (o .within))
+
+free-rules : placeKeepsRules freePlace ≡ true
+unfolding placeKeepsRules isZero
+free-rules = refl
+
+not-free : (p : Place) → shortest ≤ p .length → isFree p ≡ false
+not-free p h = ne-eqb (p .length) 0 (λ e. omega arith)
+
+-- the expected packet, written into its stretch
+
+module _ (s bytes : List ℕ) (j : ℕ) (p : Place) (enough : room ≤ length s) (below : j < 8) (o : OpenRules p) (size : length bytes ≡ frameBytes) where
+  abbrev offset : ℕ
+  offset = packetBytes * (p .expected - 1)
+
+  abbrev keeps : ℕ
+  keeps = needed (p .length) (p .expected)
+
+  abbrev written : List ℕ
+  written = keptAt j p bytes s
+
+  seven : keeps ≤ length (drop 1 bytes)
+  seven = rw length-drop (omega arith)
+
+  fits : offset + keeps ≤ longest
+  fits = omega (arith, o .within, o .short, o .begun)
+
+  inside : longest * j + offset + keeps ≤ length s
+  inside = omega (arith, fits)
+
+  others : AgreeBut longest j s written
+  others = stretch-other longest j offset keeps s (drop 1 bytes) fits inside seven
+
+  own-bytes : take (offset + keeps) (stretch longest j written) ≡ joined (openMessage p (stretch longest j s)) (drop 1 bytes)
+  own-bytes =
+      let g : offset ≤ length (stretch longest j s) = rw (length-take, length-drop) (omega (arith, fits)) in
+      rw (stretch-same longest j offset keeps s (drop 1 bytes) fits inside seven) (take-paste (stretch longest j s) offset (drop 1 bytes) keeps g seven)
+
+  length-written : length written ≡ length s
+  length-written = length-paste s (longest * j + offset) (drop 1 bytes) keeps inside seven
+
+  whole-message : p .expected ≡ packetsOf (p .length) → partOf written j (p .length) ≡ joined (openMessage p (stretch longest j s)) (drop 1 bytes)
+  whole-message u =
+      let e : p .length ≡ offset + keeps = omega (arith, o .long) in
+      rw (lt-leb _ _ below, le-ltb _ _ (o .short))
+      (sym (take-take (p .length) longest (drop (longest * j) written) (o .short)) ∙ ap (λ n. take n (stretch longest j written)) e ∙ own-bytes)
+
+  next-message : p .expected ≢ packetsOf (p .length)
+      → openMessage (expecting (p .expected + 1) p) (stretch longest j written) ≡ expectingNext (openMessage p (stretch longest j s)) (joined (openMessage p (stretch longest j s)) (drop 1 bytes))
+  next-message n =
+      let y : packetBytes * (p .expected + 1 - 1) ≡ offset + keeps = omega (arith, n, o .within, o .begun) in
+      rw (y, own-bytes)
+
+  next-rules : p .expected ≢ packetsOf (p .length) → OpenRules (expecting (p .expected + 1) p)
+  next-rules n =
+      record {
+        named = o .named;
+        long = o .long;
+        short = o .short;
+        about = o .about;
+        fresh = omega arith;
+        begun = omega arith;
+        within = omega (arith, n, o .within);
+      }
+
+-- one frame at a state that keeps its rules
+
+module _ (f : Frame) (ps : List Place) (s : List ℕ) (eight : length ps ≡ placeCount) (ok : keepsRules ps ≡ true) (enough : room ≤ length s) where
+  -- what a frame leaves is what the places show, each place keeps its rules, and the storage its length
+  pub record Agrees (a : After) : Type 0 where
+    pub shows : Shows longMessages layout f ps s (a .places) (a .storage) (tells (a .storage) (a .answer))
+    pub rules : every placeKeepsRules (a .places) ≡ true
+    pub long : length (a .storage) ≡ length s
+
+  each-rules : every placeKeepsRules ps ≡ true
+  unfolding keepsRules
+  each-rules = both-true (every placeKeepsRules ps) _ ok .0
+
+  -- a fixed answer
+  kept : (t : Told Outcome) (a : Told Tells) → longMessages .asks f ≡ fixed a → tells s t ≡ said a → Agrees (leaves ps s t)
+  kept t a e k = record { shows = rw k (shows-fixed longMessages layout f ps s a e); rules = each-rules; long = refl }
+
+  -- an announcement
+  module _ (sender size dgn : ℕ) (by : sourceOf (f .id) ≡ sender) (named : sender ≤ greatestSender) (long : shortest ≤ size) (short : size ≤ longest) (about : dgn ≤ greatestDgn)
+      (asks : longMessages .asks f ≡ opens (announcedBy sender size dgn) (gives OneSender.opened)) where
+    abbrev new : Place
+    new = record { sender = sender; length = size; dgn = dgn; expected = 1; idle = 0 }
+
+    new-rules : placeKeepsRules new ≡ true
+    new-rules =
+        rules-open new (not-free new long) (record { named = named; long = long; short = short; about = about; fresh = omega arith; begun = omega arith; within = omega arith })
+
+    new-open : openBy layout (sourceOf (f .id)) new ≡ true
+    new-open = rw (not-free new long, by, eq-eqb sender sender refl)
+
+    found : (g : Found) → first (isOpenBy sender) ps ≡ g → first (openBy layout (sourceOf (f .id))) ps ≡ g
+    found g e = ap (λ k. first (openBy layout k) ps) by ∙ e
+
+    new-set : (j : ℕ) → every placeKeepsRules (set ps j new) ≡ true
+    new-set j = every-set placeKeepsRules ps j new each-rules new-rules
+
+    announced : Agrees (announces sender size dgn ps s)
+    unfolding announces placeFor
+    announced = held (first (isOpenBy sender) ps) refl
+      where
+        free : (g : Found) → first (isOpenBy sender) ps ≡ Nowhere → first isFree ps ≡ g → Agrees (announces sender size dgn ps s)
+        free (At j) n e =
+            rw (n, e)
+            (record {
+              shows = shows-opens-free longMessages layout f ps s (announcedBy sender size dgn) (gives OneSender.opened) j new s asks (found Nowhere n) e new-open refl (λ i x. refl);
+              rules = new-set j;
+              long = refl;
+            })
+        free Nowhere n e =
+            rw (n, e) (record { shows = shows-full longMessages layout f ps s (rw asks) (found Nowhere n) e; rules = each-rules; long = refl })
+
+        held : (g : Found) → first (isOpenBy sender) ps ≡ g → Agrees (announces sender size dgn ps s)
+        held (At j) e =
+            rw e
+            (record {
+              shows = shows-opens-held longMessages layout f ps s (announcedBy sender size dgn) (gives OneSender.opened) j new s asks (found (At j) e) new-open refl (λ i x. refl);
+              rules = new-set j;
+              long = refl;
+            })
+        held Nowhere e = free (first isFree ps) e refl
+
+  -- a data packet
+  module _ (sender number : ℕ) (by : sourceOf (f .id) ≡ sender) (size : length (f .bytes) ≡ frameBytes)
+      (asks : longMessages .asks f ≡ feeds (record { number = number; seven = drop 1 (f .bytes) }) (refused 9)) where
+    abbrev part : Part
+    part = record { number = number; seven = drop 1 (f .bytes) }
+
+    sought : (g : Found) → first (isOpenBy sender) ps ≡ g → first (openBy layout (sourceOf (f .id))) ps ≡ g
+    sought g e = ap (λ k. first (openBy layout k) ps) by ∙ e
+
+    module _ (j : ℕ) (e : first (isOpenBy sender) ps ≡ At j) where
+      abbrev p : Place
+      p = getD ps j freePlace
+
+      rules-here : OpenRules p
+      rules-here = rules-at sender j ps ok e
+
+      below : j < placeCount
+      below = found-below (isOpenBy sender) ps j eight e
+
+      from-sender : p .sender ≡ sender
+      from-sender = let t = both-true (not (isFree p)) _ (found-at j (isOpenBy sender) ps freePlace e .passes) in eqb-true (p .sender) sender (t .1)
+
+      freed : every placeKeepsRules (set ps j freePlace) ≡ true
+      freed = every-set placeKeepsRules ps j freePlace each-rules free-rules
+
+      last : number ≡ p .expected → p .expected ≡ packetsOf (p .length)
+          → fedBy (openMessage p (stretch longest j s)) part ≡ ends (gives (OneSender.finished (p .sender) (p .dgn) (joined (openMessage p (stretch longest j s)) (drop 1 (f .bytes)))))
+      last n u = rw (eq-eqb _ _ n, eq-eqb _ _ u)
+
+      next : number ≡ p .expected → p .expected ≢ packetsOf (p .length)
+          → fedBy (openMessage p (stretch longest j s)) part
+          ≡ goes (expectingNext (openMessage p (stretch longest j s)) (joined (openMessage p (stretch longest j s)) (drop 1 (f .bytes)))) (gives OneSender.stored)
+      next n u = rw (eq-eqb _ _ n, ne-eqb _ _ u)
+
+      wrong : number ≢ p .expected → fedBy (openMessage p (stretch longest j s)) part ≡ ends (refused 10)
+      wrong n = rw (ne-eqb _ _ n)
+
+      next-open : openBy layout (sourceOf (f .id)) (expecting (p .expected + 1) p) ≡ true
+      next-open = rw (not-free p (rules-here .long), by, eq-eqb (p .sender) sender from-sender)
+
+      expected-last : p .expected ≡ packetsOf (p .length) → number ≡ p .expected → Agrees (advanced j p ps (keptAt j p (f .bytes) s))
+      expected-last u n =
+          subst⁻¹ Agrees (advanced-last j p ps (keptAt j p (f .bytes) s) u)
+          (record {
+            shows =
+                subst⁻¹
+                (λ (m : List ℕ). Shows longMessages layout f ps s (set ps j freePlace) (keptAt j p (f .bytes) s) (said (gives (OneSender.finished (p .sender) (p .dgn) m))))
+                (whole-message s (f .bytes) j p enough below rules-here size u)
+                (shows-feeds-ends longMessages layout f ps s part (refused 9) (gives (OneSender.finished (p .sender) (p .dgn) (joined (openMessage p (stretch longest j s)) (drop 1 (f .bytes)))))
+                j freePlace freePlace (keptAt j p (f .bytes) s) asks (sought (At j) e) (last n u) refl (others s (f .bytes) j p enough below rules-here size));
+            rules = freed;
+            long = length-written s (f .bytes) j p enough below rules-here size;
+          })
+
+      expected-next : p .expected ≢ packetsOf (p .length) → number ≡ p .expected → Agrees (advanced j p ps (keptAt j p (f .bytes) s))
+      expected-next u n =
+          subst⁻¹ Agrees (advanced-next j p ps (keptAt j p (f .bytes) s) u)
+          (record {
+            shows =
+                shows-feeds-goes longMessages layout f ps s part (refused 9) (gives OneSender.stored)
+                (expectingNext (openMessage p (stretch longest j s)) (joined (openMessage p (stretch longest j s)) (drop 1 (f .bytes))))
+                j freePlace (expecting (p .expected + 1) p) (keptAt j p (f .bytes) s) asks (sought (At j) e) (next n u) next-open
+                (next-message s (f .bytes) j p enough below rules-here size u) (others s (f .bytes) j p enough below rules-here size);
+            rules =
+                every-set placeKeepsRules ps j (expecting (p .expected + 1) p) each-rules
+                (rules-open (expecting (p .expected + 1) p) (not-free p (rules-here .long)) (next-rules s (f .bytes) j p enough below rules-here size u));
+            long = length-written s (f .bytes) j p enough below rules-here size;
+          })
+
+      at-place : Agrees (packetAt j p number (f .bytes) ps s)
+      at-place =
+          by-test (number =? p .expected)
+          (λ t.
+          let n = eqb-true number (p .expected) t in
+          subst⁻¹ Agrees (packet-expected j p ps s number (f .bytes) n)
+          (by-test (p .expected =? packetsOf (p .length))
+          (λ u. expected-last (eqb-true (p .expected) (packetsOf (p .length)) u) n)
+          (λ u. expected-next (eqb-false (p .expected) (packetsOf (p .length)) u) n)))
+          (λ t.
+          let n = eqb-false number (p .expected) t in
+          subst⁻¹ Agrees (packet-other j p ps s number (f .bytes) n)
+          (record {
+            shows =
+                shows-feeds-ends longMessages layout f ps s part (refused 9) (refused 10) j freePlace freePlace s asks (sought (At j) e) (wrong n) refl (λ i x. refl);
+            rules = freed;
+            long = refl;
+          }))
+
+    carried : Agrees (carries sender number (f .bytes) ps s)
+    carried = go (first (isOpenBy sender) ps) refl
+      where
+        go : (g : Found) → first (isOpenBy sender) ps ≡ g → Agrees (carries sender number (f .bytes) ps s)
+        go (At j) e = subst⁻¹ Agrees (carries-at sender number (f .bytes) ps s j e) (at-place j e)
+        go Nowhere e =
+            subst⁻¹ Agrees (carries-nowhere sender number (f .bytes) ps s e)
+            (record { shows = shows-feeds-nowhere longMessages layout f ps s part (refused 9) asks (sought Nowhere e); rules = each-rules; long = refl })
+
+  -- a frame
+  pub agrees : Agrees (heard (f .id) (f .bytes) ps s)
+  agrees =
+      subst⁻¹ Agrees (heard-kept (f .id) (f .bytes) ps s enough ok) (go (meaningOf (f .id) (f .bytes)) refl (meaning-known (f .id) (f .bytes)))
+    where
+      asked : (m : Told Meaning) → meaningOf (f .id) (f .bytes) ≡ m → longMessages .asks f ≡ asksBy m (f .bytes)
+      asked m e = ap (λ (x : Told Meaning). asksBy x (f .bytes)) e
+
+      go : (m : Told Meaning) → meaningOf (f .id) (f .bytes) ≡ m → Known (f .id) (f .bytes) (meaningOf (f .id) (f .bytes)) → Agrees (byMeaning (meaningOf (f .id) (f .bytes)) (f .bytes) ps s)
+      go (refused n) e k =
+          let h : n < 8 = rw e at k in
+          rw e (kept (refused n) (refused n) (asked (refused n) e) (rw (ne-eqb n 8 (λ x. omega arith))))
+      go (gives other) e k = rw e (kept (gives Eight.nothingToDo) (gives OneSender.nothingToDo) (asked (gives other) e) refl)
+      go (gives (announcement sender size dgn)) e k =
+          let h = rw e at k in
+          rw e (announced sender size dgn (sym (h .0)) (h .1) (h .2) (h .3) (h .4) (asked (gives (announcement sender size dgn)) e))
+      go (gives (packet sender number)) e k =
+          let h = rw e at k in
+          rw e (carried sender number (sym (h .0)) (h .1) (asked (gives (packet sender number)) e))
+
+-- a pause at one place
+
+pub seat-idled : (ms : ℕ) (p : Place) (bytes : List ℕ) → seat layout (idled ms p) bytes ≡ rest longMessages ms (seat layout p bytes)
+unfolding idled
+seat-idled ms p bytes =
+    by-test (isFree p)
+    (λ f. rw f (rw f))
+    (λ f. by-test (idleLimit <? p .idle + ms) (λ g. rw (f, g)) (λ g. rw (f, g) (rw f)))
+
+pub seat-closes : (ms : ℕ) (p : Place) (bytes : List ℕ) → Eight.closes ms p ≡ closes longMessages ms (seat layout p bytes)
+unfolding Eight.closes
+seat-closes ms p bytes =
+    by-test (isFree p)
+    (λ f. rw f)
+    (λ f. by-test (idleLimit <? p .idle + ms) (λ g. rw (f, g)) (λ g. rw (f, g)))
+
+idled-rules : (ms : ℕ) (p : Place) → placeKeepsRules p ≡ true → placeKeepsRules (idled ms p) ≡ true
+unfolding idled
+idled-rules ms p k =
+    by-test (isFree p)
+    (λ f. rw f k)
+    (λ f. by-test (idleLimit <? p .idle + ms)
+    (λ g. rw (f, g) free-rules)
+    (λ g.
+    let o = open-rules p f k in
+    rw (f, g)
+    (rules-open (record { sender = p .sender; length = p .length; dgn = p .dgn; expected = p .expected; idle = p .idle + ms }) f
+    (record { named = o .named; long = o .long; short = o .short; about = o .about; fresh = ltb-false _ _ g; begun = o .begun; within = o .within }))))
+
+-- the rules, put together and taken apart
+
+both-rules : (ps : List Place) → every placeKeepsRules ps ≡ true → oneEach layout ps ≡ true → keepsRules ps ≡ true
+unfolding keepsRules
+both-rules ps e o = rw (e, o)
+
+pub each-alone : (ps : List Place) → keepsRules ps ≡ true → oneEach layout ps ≡ true
+unfolding keepsRules
+each-alone ps v = both-true (every placeKeepsRules ps) _ v .1
+
+all-rules : (ps : List Place) → keepsRules ps ≡ true → every placeKeepsRules ps ≡ true
+unfolding keepsRules
+all-rules ps v = both-true (every placeKeepsRules ps) _ v .0
+
+pub paused-places : (ms : ℕ) (ps : List Place) → keepsRules ps ≡ true → pausedPlaces ms ps ≡ map (idled ms) ps
+unfolding pausedPlaces
+paused-places ms ps v = rw v
+
+pub paused-count : (ms : ℕ) (ps : List Place) → keepsRules ps ≡ true → pausedAnswer ms ps ≡ gives (count (Eight.closes ms) ps)
+unfolding pausedAnswer
+paused-count ms ps v = rw v
+
+pub frame-kept : (f : Frame) (h : Held) → Keeps h → Keeps (afterFrame f h)
+frame-kept f h k =
+    let a = agrees f (h .places) (h .storage) (k .eight) (k .rules) (k .enough) in
+    let o = shows-keeps longMessages layout f (h .places) (h .storage) _ _ _ (a .shows) (each-alone (h .places) (k .rules)) in
+    let after = heard (f .id) (f .bytes) (h .places) (h .storage) in
+    record {
+      eight = o .1 ∙ k .eight;
+      rules = both-rules (after .places) (a .rules) (o .0);
+      enough = rw (a .long) (k .enough);
+    }
+
+pub pause-kept : (ms : ℕ) (h : Held) → Keeps h → Keeps (afterPause ms h)
+pause-kept ms h k =
+    let e = paused-places ms (h .places) (k .rules) in
+    record {
+      eight = rw e (length-map (h .places) (idled ms) ∙ k .eight);
+      rules =
+          rw e
+          (both-rules (map (idled ms) (h .places)) (every-map placeKeepsRules (idled ms) (idled-rules ms) (h .places) (all-rules (h .places) (k .rules)))
+          (pass-keeps longMessages layout ms (idled ms) (seat-idled ms) (h .places) (each-alone (h .places) (k .rules))));
+      enough = k .enough;
+    }
+
+-- The receiver of long messages.
+abbrev pub eightSenders : Receiver longMessages
+eightSenders = record {
+  State = Held;
+  Kept = Keeps;
+  seen = openIn;
+  heard = λ f h. step (afterFrame f h) (toldOf f h);
+  paused = afterPause;
+  closed = λ ms h. count (Eight.closes ms) (h .places);
+  eight = λ h k. length-view layout (h .places) (h .storage) ∙ k .eight;
+  each = λ h k. one-each-view layout (h .places) (h .storage) .0 (each-alone (h .places) (k .rules));
+  heard-kept = frame-kept;
+  heard-seen = λ f h k. agrees f (h .places) (h .storage) (k .eight) (k .rules) (k .enough) .shows .places;
+  heard-answer = λ f h k. agrees f (h .places) (h .storage) (k .eight) (k .rules) (k .enough) .shows .answer;
+  paused-kept = pause-kept;
+  paused-seen = λ ms h k.
+      ap (λ (ps : List Place). view layout ps (h .storage)) (paused-places ms (h .places) (k .rules))
+      ∙ view-pass longMessages layout ms (idled ms) (seat-idled ms) (h .places) (h .storage);
+  closed-seen = λ ms h k. view-closes longMessages layout ms (Eight.closes ms) (seat-closes ms) (h .places) (h .storage);
+}
+
+pub fresh-keeps : (storage : List ℕ) → room ≤ length storage → Keeps (fresh storage)
+unfolding keepsRules placeKeepsRules isZero
+fresh-keeps storage h = record { eight = refl; rules = refl; enough = h }
+
+pub fresh-receiver : (storage : List ℕ) → room ≤ length storage → Fresh eightSenders (fresh storage)
+fresh-receiver storage h = record { kept = fresh-keeps storage h; all-free = blank-view layout placeCount storage }

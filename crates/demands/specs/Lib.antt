@@ -1,0 +1,2 @@
+pub mod BusyBus
+pub mod SplitAndJoin
