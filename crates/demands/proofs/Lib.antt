@@ -1,3 +1,4 @@
 pub mod Frames
 pub mod LongReceiver
 pub mod BusyBus
+pub mod SplitAndJoin
