@@ -1,4 +1,3 @@
-pub mod Frames
 pub mod LongReceiver
 pub mod BusyBus
 pub mod SplitAndJoin

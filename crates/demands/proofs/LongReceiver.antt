@@ -34,7 +34,7 @@ use Rattle.message.specs.Promises.{messageIn, partOf}
 use Rattle.message.specs.declared.Place.{Place}
 use Rattle.message.proofs.Steps.{found-below, OpenRules, open-rules, rules-at, announces-at, announces-nowhere, advanced-last, advanced-next, packet-expected, packet-other, carries-at, carries-nowhere, heard-kept}
 use Rattle.demands.specs.BusyBus.{Held, fresh, tells, afterFrame, toldOf, afterPause, Keeps, openIn}
-use Rattle.demands.proofs.Frames.{Known, meaning-known}
+use Rattle.message.proofs.Frames.{Known, meaning-known}
 
 -- an open place that keeps its rules
 rules-open : (p : Place) → isFree p ≡ false → OpenRules p → placeKeepsRules p ≡ true

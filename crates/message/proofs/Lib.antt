@@ -1,3 +1,5 @@
 pub mod Bytes
 pub mod Steps
+pub mod Frames
 pub mod Packets
+pub mod Laws

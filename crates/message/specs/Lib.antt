@@ -4,3 +4,4 @@ pub mod Receiver
 pub mod Splitter
 pub mod Promises
 pub mod Private
+pub mod Laws

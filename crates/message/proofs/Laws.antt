@@ -1,0 +1,283 @@
+-- The statements of specs/Laws.antt, proved.
+-- Assumes nothing.
+use mathlib.Core.Path.{_≡_, refl, sym, ap, _∙_, subst⁻¹}
+use mathlib.Core.Bool.{Bool, true, false, not}
+use mathlib.Core.List.{List, _++_, append-assoc}
+use mathlib.Core.Logic.{_≢_}
+use Prim.Native.Nat.{ℕ, _+_, _-_, _*_, _≤_, _<_}
+use native.Mathlib.Omega.{arith}
+use borrow.Author.Tests.{eqb-true, eqb-false, ltb-true, ltb-false, leb-true, leb-false}
+use lib.ListN.{List·getD-append, length, take, drop, getD, set, length-drop, length-take}
+use lib.Seq.{paste, getD-take, getD-drop, getD-append-add, take-paste, drop-paste, length-paste-head}
+use Rattle.frame.specs.Words.{if_then_else_, _=?_, _<?_, _≤?_, Told, refused, gives}
+use Rattle.frame.specs.Frame.{frameBytes}
+use Rattle.frame.specs.Promises.{refusalOf}
+use Rattle.frame.specs.declared.BadFrame as Frames
+use Rattle.frame.specs.declared.BadFrame.the-variants.{IdentifierTooLarge, NotEightBytes, ReservedBitSet, SourceNotAllowed}
+use Rattle.frame.proofs.Words.{by-test}
+use Rattle.frame.proofs.Laws.{badBack, bad-back}
+use Rattle.places.specs.Places.{count}
+use Rattle.places.specs.Layout.{first}
+use Rattle.places.specs.declared.Found.{Found}
+use Rattle.places.specs.declared.Found.the-variants.{At, Nowhere}
+use Rattle.message.specs.LongMessage.{longest, packetBytes, packetsOf, needed, Meaning, other, announcement, packet, meaningOf}
+use Rattle.message.specs.Receiver.{room, freePlace, isOpenBy, keepsRules, Outcome, nothingToDo, opened, stored, finished, After, leaves, placeFor, announces, keptAt, advanced, packetAt, carries, byMeaning, heard, pausedPlaces, pausedAnswer}
+use Rattle.message.specs.Receiver as Receiver
+use Rattle.message.specs.Promises.{toldAnswer, toldPausing, announcingNumber, cuttingNumber, refusalWhy}
+use Rattle.message.specs.Laws.{ToldAnswerSame, ToldPausingSame, AnnouncingNumberSame, CuttingNumberSame, NewOnly, HearOnly, PauseOnly, MessageOnly, AnnouncementOnly, PacketOnly, RefusedKeeps, ClosedAt, TenCloses, PauseRefusedKeeps, ItsOwn, WritesItsOwn, NotBeyond}
+use Rattle.message.specs.declared.Place.{Place}
+use Rattle.message.specs.declared.Receiver.{Receiver}
+use Rattle.message.specs.declared.Answer.{Answer}
+use Rattle.message.specs.declared.Answer.the-variants.{StorageTooShort, BrokenState, BadFrame, MalformedAnnouncement, NoPlaceFree, NoOpenMessage, UnexpectedPacket, NothingToDo, Opened, Stored, Finished}
+use Rattle.message.specs.declared.Pausing.{Pausing}
+use Rattle.message.specs.declared.Pausing.the-variants as Pausing
+use Rattle.message.specs.declared.Unsplittable.{Unsplittable}
+use Rattle.message.specs.declared.Unsplittable.the-variants.{DgnTooLarge, LengthNotSplit, TooManyPackets}
+use Rattle.message.specs.declared.Announcing.{Announcing}
+use Rattle.message.specs.declared.Announcing.the-variants as Announcing
+use Rattle.message.specs.declared.Cutting.{Cutting}
+use Rattle.message.specs.declared.Cutting.the-variants as Cutting
+use Rattle.message.proofs.Frames.{Known, meaning-known}
+use Rattle.message.proofs.Steps.{found-below, OpenRules, rules-at, announces-at, announces-nowhere, advanced-last, advanced-next, packet-expected, packet-other, carries-at, carries-nowhere, heard-short, heard-broken, heard-kept}
+
+-- an answer is read back from what it tells
+
+answerBack : Told Outcome → Answer
+answerBack (refused n) =
+    if n =? 1 then StorageTooShort else
+    if n =? 2 then BrokenState else
+    if n =? 7 then MalformedAnnouncement else
+    if n =? 8 then NoPlaceFree else
+    if n =? 9 then NoOpenMessage else
+    if n =? 10 then UnexpectedPacket else
+    BadFrame (badBack n)
+answerBack (gives nothingToDo) = NothingToDo
+answerBack (gives opened) = Opened
+answerBack (gives stored) = Stored
+answerBack (gives (finished place sender dgn size)) = Finished place sender dgn size
+
+bad-answer : (w : Frames.BadFrame) → answerBack (refused (refusalOf w)) ≡ BadFrame w
+unfolding answerBack
+bad-answer IdentifierTooLarge = ap BadFrame (bad-back IdentifierTooLarge)
+bad-answer NotEightBytes = ap BadFrame (bad-back NotEightBytes)
+bad-answer ReservedBitSet = ap BadFrame (bad-back ReservedBitSet)
+bad-answer SourceNotAllowed = ap BadFrame (bad-back SourceNotAllowed)
+
+answer-back : (r : Answer) → answerBack (toldAnswer r) ≡ r
+unfolding answerBack
+answer-back StorageTooShort = refl
+answer-back BrokenState = refl
+answer-back (BadFrame w) = bad-answer w
+answer-back MalformedAnnouncement = refl
+answer-back NoPlaceFree = refl
+answer-back NoOpenMessage = refl
+answer-back UnexpectedPacket = refl
+answer-back NothingToDo = refl
+answer-back Opened = refl
+answer-back Stored = refl
+answer-back (Finished place sender dgn size) = refl
+
+pub told-answer-same : ToldAnswerSame
+told-answer-same r s e = sym (answer-back r) ∙ ap answerBack e ∙ answer-back s
+
+pausingBack : Told ℕ → Pausing
+pausingBack (gives n) = Pausing.Closed n
+pausingBack (refused n) = Pausing.BrokenState
+
+pausing-back : (r : Pausing) → pausingBack (toldPausing r) ≡ r
+unfolding pausingBack
+pausing-back (Pausing.Closed n) = refl
+pausing-back Pausing.BrokenState = refl
+
+pub told-pausing-same : ToldPausingSame
+told-pausing-same r s e = sym (pausing-back r) ∙ ap pausingBack e ∙ pausing-back s
+
+whyBack : ℕ → Unsplittable
+whyBack n = if n =? 12 then DgnTooLarge else if n =? 13 then LengthNotSplit else TooManyPackets
+
+announcingBack : ℕ → Announcing
+announcingBack n = if n =? 0 then Announcing.Bytes else Announcing.Refused (whyBack n)
+
+announcing-back : (r : Announcing) → announcingBack (announcingNumber r) ≡ r
+unfolding announcingBack whyBack
+announcing-back Announcing.Bytes = refl
+announcing-back (Announcing.Refused DgnTooLarge) = refl
+announcing-back (Announcing.Refused LengthNotSplit) = refl
+announcing-back (Announcing.Refused TooManyPackets) = refl
+
+pub announcing-number-same : AnnouncingNumberSame
+announcing-number-same r s e = sym (announcing-back r) ∙ ap announcingBack e ∙ announcing-back s
+
+cuttingBack : ℕ → Cutting
+cuttingBack n = if n =? 0 then Cutting.Bytes else if n =? 15 then Cutting.NoSuchPacket else Cutting.Refused (whyBack n)
+
+cutting-back : (r : Cutting) → cuttingBack (cuttingNumber r) ≡ r
+unfolding cuttingBack whyBack
+cutting-back Cutting.Bytes = refl
+cutting-back (Cutting.Refused DgnTooLarge) = refl
+cutting-back (Cutting.Refused LengthNotSplit) = refl
+cutting-back (Cutting.Refused TooManyPackets) = refl
+cutting-back Cutting.NoSuchPacket = refl
+
+pub cutting-number-same : CuttingNumberSame
+cutting-number-same r s e = sym (cutting-back r) ∙ ap cuttingBack e ∙ cutting-back s
+
+-- no second answer
+
+pub new-only : NewOnly
+new-only r s p q = λ i. record { places = (p .places ∙ sym (q .places)) i }
+
+pub hear-only : HearOnly
+hear-only id bytes places storage r s exit exit′ p q =
+    let u = p .places ∙ sym (q .places) in
+    let a = told-answer-same (r .answer) (s .answer) (p .answer ∙ sym (q .answer)) in
+    ((λ i. record { receiver = record { places = u i }; answer = a i }), p .storage-bytes ∙ sym (q .storage-bytes))
+
+pub pause-only : PauseOnly
+pause-only ms places r s p q =
+    let u = p .places ∙ sym (q .places) in
+    let a = told-pausing-same (r .answer) (s .answer) (p .answer ∙ sym (q .answer)) in
+    λ i. record { receiver = record { places = u i }; answer = a i }
+
+pub message-only : MessageOnly
+message-only storage answer r s p q = p .bytes ∙ sym (q .bytes)
+
+pub announcement-only : AnnouncementOnly
+announcement-only message dgn r s p q =
+    let a = announcing-number-same (r .answer) (s .answer) (p .number ∙ sym (q .number)) in
+    let b = p .bytes ∙ sym (q .bytes) in
+    λ i. record { answer = a i; bytes = b i }
+
+pub packet-only : PacketOnly
+packet-only message dgn number r s p q =
+    let a = cutting-number-same (r .answer) (s .answer) (p .number ∙ sym (q .number)) in
+    let b = p .bytes ∙ sym (q .bytes) in
+    λ i. record { answer = a i; bytes = b i }
+
+-- A frame, by its outcomes: either a refusal or an announcement that leaves the storage, or a packet at its sender's place.
+
+data Left (id : ℕ) (bytes : List ℕ) (ps : List Place) (s : List ℕ) : After → Type 0 where
+  refuses : {n : ℕ} → n ≢ 10 → Left id bytes ps s (leaves ps s (refused n))
+  passes : Left id bytes ps s (leaves ps s (gives nothingToDo))
+  opens : {qs : List Place} → Left id bytes ps s (leaves qs s (gives opened))
+  closes : {sender number i : ℕ} → meaningOf id bytes ≡ gives (packet sender number) → first (isOpenBy sender) ps ≡ At i
+      → Left id bytes ps s (leaves (set ps i freePlace) s (refused 10))
+  stores : {sender number i : ℕ} {qs : List Place} {o : Outcome} → meaningOf id bytes ≡ gives (packet sender number) → first (isOpenBy sender) ps ≡ At i
+      → OpenRules (getD ps i freePlace) → room ≤ length s → length bytes ≡ frameBytes
+      → Left id bytes ps s (leaves qs (keptAt i (getD ps i freePlace) bytes s) (gives o))
+
+module _ (id : ℕ) (bytes : List ℕ) (ps : List Place) (s : List ℕ) where
+  announces-left : (sender size dgn : ℕ) → Left id bytes ps s (announces sender size dgn ps s)
+  announces-left sender size dgn = go (placeFor sender ps) refl
+    where
+      go : (g : Found) → placeFor sender ps ≡ g → Left id bytes ps s (announces sender size dgn ps s)
+      go (At i) e = subst⁻¹ (Left id bytes ps s) (announces-at sender size dgn ps s i e) opens
+      go Nowhere e = subst⁻¹ (Left id bytes ps s) (announces-nowhere sender size dgn ps s e) (refuses (λ x. omega arith))
+
+  carries-left : (sender number : ℕ) → meaningOf id bytes ≡ gives (packet sender number) → keepsRules ps ≡ true → room ≤ length s → length bytes ≡ frameBytes
+      → Left id bytes ps s (carries sender number bytes ps s)
+  carries-left sender number m v enough l = go (first (isOpenBy sender) ps) refl
+    where
+      at : (i : ℕ) → first (isOpenBy sender) ps ≡ At i → Left id bytes ps s (packetAt i (getD ps i freePlace) number bytes ps s)
+      at i e =
+          let p = getD ps i freePlace in
+          by-test (number =? p .expected)
+          (λ t.
+          subst⁻¹ (Left id bytes ps s) (packet-expected i p ps s number bytes (eqb-true number (p .expected) t))
+          (by-test (p .expected =? packetsOf (p .length))
+          (λ u. subst⁻¹ (Left id bytes ps s) (advanced-last i p ps (keptAt i p bytes s) (eqb-true (p .expected) (packetsOf (p .length)) u)) (stores m e (rules-at sender i ps v e) enough l))
+          (λ u. subst⁻¹ (Left id bytes ps s) (advanced-next i p ps (keptAt i p bytes s) (eqb-false (p .expected) (packetsOf (p .length)) u)) (stores m e (rules-at sender i ps v e) enough l))))
+          (λ t. subst⁻¹ (Left id bytes ps s) (packet-other i p ps s number bytes (eqb-false number (p .expected) t)) (closes m e))
+
+      go : (g : Found) → first (isOpenBy sender) ps ≡ g → Left id bytes ps s (carries sender number bytes ps s)
+      go (At i) e = subst⁻¹ (Left id bytes ps s) (carries-at sender number bytes ps s i e) (at i e)
+      go Nowhere e = subst⁻¹ (Left id bytes ps s) (carries-nowhere sender number bytes ps s e) (refuses (λ x. omega arith))
+
+  meaning-left : (m : Told Meaning) → meaningOf id bytes ≡ m → Known id bytes m → keepsRules ps ≡ true → room ≤ length s → Left id bytes ps s (byMeaning m bytes ps s)
+  meaning-left (refused n) e k v enough = let h : n < 8 = k in let x : n ≡ 10 → ⊥ = λ y. omega arith in refuses x
+  meaning-left (gives other) e k v enough = passes
+  meaning-left (gives (announcement sender size dgn)) e k v enough = announces-left sender size dgn
+  meaning-left (gives (packet sender number)) e k v enough = carries-left sender number e v enough (k .1)
+
+  heard-left : Left id bytes ps s (heard id bytes ps s)
+  heard-left =
+      by-test (length s <? room)
+      (λ t. subst⁻¹ (Left id bytes ps s) (heard-short id bytes ps s (ltb-true (length s) room t)) (refuses (λ x. omega arith)))
+      (λ t. by-test (keepsRules ps)
+      (λ v. subst⁻¹ (Left id bytes ps s) (heard-kept id bytes ps s (ltb-false (length s) room t) v) (meaning-left (meaningOf id bytes) refl (meaning-known id bytes) v (ltb-false (length s) room t)))
+      (λ v. subst⁻¹ (Left id bytes ps s) (heard-broken id bytes ps s (ltb-false (length s) room t) v) (refuses (λ x. omega arith))))
+
+given-refused : {B : Type 0} {o : Outcome} {n : ℕ} → gives o ≡ refused n → B
+given-refused e = let y : _≡_ {A = ℕ} 0 1 = cc in absurd (omega arith)
+
+refused-is : {m n : ℕ} → _≡_ {A = Told Outcome} (refused m) (refused n) → m ≡ n
+refused-is e = cc
+
+pub refused-keeps : RefusedKeeps
+refused-keeps id bytes ps s n e k = go (heard id bytes ps s) (heard-left id bytes ps s) e
+  where
+    go : (a : After) → Left id bytes ps s a → a .answer ≡ refused n → (a .places ≡ ps) × (a .storage ≡ s)
+    go a (refuses h) x = (refl, refl)
+    go a passes x = given-refused x
+    go a opens x = given-refused x
+    go a (closes m f) x = absurd (k (sym (refused-is x)))
+    go a (stores m f o l b) x = given-refused x
+
+pub ten-closes : TenCloses
+ten-closes id bytes ps s e = go (heard id bytes ps s) (heard-left id bytes ps s) e
+  where
+    go : (a : After) → Left id bytes ps s a → a .answer ≡ refused 10
+        → (sender number i : ℕ) × (meaningOf id bytes ≡ gives (packet sender number)) × ClosedAt ps s (a .places) (a .storage) sender i
+    go a (refuses h) x = absurd (h (refused-is x))
+    go a passes x = given-refused x
+    go a opens x = given-refused x
+    go a (closes {sender = sender} {number = number} {i = i} m f) x = (sender, number, i, m, record { held = f; closed = refl; kept = refl })
+    go a (stores m f o l b) x = given-refused x
+
+pub pause-refused-keeps : PauseRefusedKeeps
+unfolding pausedPlaces pausedAnswer
+pause-refused-keeps ms ps n e =
+    by-test (keepsRules ps)
+    (λ v. let z : gives (count (Receiver.closes ms) ps) ≡ refused n = rw v at e in let y : _≡_ {A = ℕ} 0 1 = cc in absurd (omega arith))
+    (λ v. rw v)
+
+-- a byte outside a copy
+
+copy-keeps : (d : List ℕ) (at : ℕ) (b : List ℕ) (n k : ℕ) → at + n ≤ length d → n ≤ length b → (at ≤ k → k < at + n → ⊥) → getD (paste d at b n) k 0 ≡ getD d k 0
+copy-keeps d at b n k l m h =
+    by-test (k <? at)
+    (λ t.
+    let x : k < at = ltb-true k at t in
+    let y : k < length (take at d) = rw length-take (omega arith) in
+    sym (getD-take (at + n) (paste d at b n) k 0 (omega arith))
+    ∙ ap (λ (r : List ℕ). getD r k 0) (take-paste d at b n (omega arith) m)
+    ∙ List·getD-append (take at d) (take n b) 0 k y
+    ∙ getD-take at d k 0 x)
+    (λ t.
+    let x : at ≤ k = ltb-false k at t in
+    by-test (k <? at + n)
+    (λ u. absurd (h x (ltb-true k (at + n) u)))
+    (λ u.
+    let e : k ≡ at + n + (k - (at + n)) = omega (arith, ltb-false k (at + n) u) in
+    rw e
+    (sym (getD-drop (at + n) (paste d at b n) (k - (at + n)) 0)
+    ∙ ap (λ (r : List ℕ). getD r (k - (at + n)) 0) (drop-paste d at b n (omega arith) m)
+    ∙ getD-drop (at + n) d (k - (at + n)) 0)))
+
+pub writes-its-own : WritesItsOwn
+writes-its-own id bytes ps s k eight h = go (heard id bytes ps s) (heard-left id bytes ps s)
+  where
+    go : (a : After) → Left id bytes ps s a → getD (a .storage) k 0 ≡ getD s k 0
+    go a (refuses x) = refl
+    go a passes = refl
+    go a opens = refl
+    go a (closes m f) = refl
+    go a (stores {sender = sender} {number = number} {i = i} m f o enough b) =
+        let p = getD ps i freePlace in
+        let below = found-below (isOpenBy sender) ps i eight f in
+        let l : longest * i + packetBytes * (p .expected - 1) + needed (p .length) (p .expected) ≤ length s = omega (arith, o .within, o .short, o .begun) in
+        let r : needed (p .length) (p .expected) ≤ length (drop 1 bytes) = rw length-drop (omega arith) in
+        copy-keeps s (longest * i + packetBytes * (p .expected - 1)) (drop 1 bytes) (needed (p .length) (p .expected)) k l r (λ x y. h sender number i m f (record { from = x; below = y }))
+
+pub not-beyond : NotBeyond
+not-beyond p i k one most own = omega (arith, own .below)
