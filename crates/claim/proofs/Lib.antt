@@ -1,0 +1,6 @@
+pub mod Candidates
+pub mod Sound
+pub mod Outcomes
+pub mod Calls
+pub mod Machine
+pub mod Laws

@@ -1,0 +1,38 @@
+-- A run of calls, told by nothing but their promises: each call is handed the state that the one before it gave back.
+use mathlib.Core.List.{List, [], _∷_, _++_}
+use Prim.Native.Nat.{ℕ}
+use lib.ListN.{length}
+use Rattle.frame.specs.Words.{if_then_else_, _=?_, Told, refused, gives}
+use Rattle.frame.specs.Bytes.{numberOf}
+use Rattle.frame.specs.Frame.{checkedOf}
+use Rattle.frame.specs.declared.Parts.{Parts}
+use Rattle.claim.specs.Claim.{claimDgn}
+use Rattle.claim.specs.History.{Event, heard, paused}
+use Rattle.claim.specs.Promises.{Hear, Pause}
+use Rattle.claim.specs.declared.Claim.{Claim}
+use Rattle.claim.specs.declared.Heard.{Heard}
+use Rattle.claim.specs.declared.Paused.{Paused}
+
+pub data Call : Type 0 where
+  hears : ℕ → List ℕ → Call
+  pauses : ℕ → Call
+
+pub data Ran : Claim → List Call → Claim → Type 0 where
+  no-call : (c : Claim) → Ran c [] c
+  a-hear : (c : Claim) (id : ℕ) (bytes : List ℕ) (r : Heard) (calls : List Call) (d : Claim)
+      → Hear id bytes c r → Ran (r .claim) calls d → Ran c (hears id bytes ∷ calls) d
+  a-pause : (c : Claim) (ms : ℕ) (r : Paused) (calls : List Call) (d : Claim)
+      → Pause ms c r → Ran (r .claim) calls d → Ran c (pauses ms ∷ calls) d
+
+-- what calls are to the machine: a frame that is a claim is heard, any other frame is nothing, a refused one too
+unfoldable pub claimIn : Told Parts → List ℕ → List Event
+claimIn (refused n) bytes = []
+claimIn (gives parts) bytes = if parts .dgn =? claimDgn then heard (parts .source) (numberOf bytes) ∷ [] else []
+
+unfoldable pub eventsOf : Call → List Event
+eventsOf (hears id bytes) = claimIn (checkedOf id (length bytes)) bytes
+eventsOf (pauses ms) = paused ms ∷ []
+
+abbrev pub eventsIn : List Call → List Event
+eventsIn [] = []
+eventsIn (call ∷ calls) = eventsOf call ++ eventsIn calls

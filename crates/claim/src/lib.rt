@@ -1,0 +1,230 @@
+// Claiming an address: the candidate list, the contest of NAMEs, the wait until an address is held (document 01, "Claiming an address").
+use frame::BadFrame;
+ghost use Rattle.claim.specs.Promises.{Start, Hear, Pause, Stands, OurClaim, KeepsRules, HoldsList};
+
+mod contest;
+mod list;
+mod state;
+
+// A claim's state: the NAME, the candidate list (`count` addresses, then zeros), the position in it of the address that is claimed or held, the
+// milliseconds waited there, up to 250, and whether all addresses are lost.
+pub struct Claim {
+    pub name: u64,
+    pub list: [u8; 16],
+    pub count: usize,
+    pub position: usize,
+    pub wait: u16,
+    pub silent: bool,
+}
+
+// Started: our claim is sent; or refusal 16.
+pub enum Starting {
+    Sent,
+    ListMalformed,
+}
+
+// The new state, and the frame to send; zeros where the start is refused.
+pub struct Started {
+    pub claim: Claim,
+    pub answer: Starting,
+    pub id: u32,
+    pub bytes: [u8; 8],
+}
+
+// What a frame heard leads to; or refusal 2, 3 to 6, 16.
+pub enum Hearing {
+    // No claim at our address, or we are silent.
+    NothingToDo,
+    // A claim at our address with our own NAME.
+    OwnName,
+    // A higher NAME: our claim is sent once more.
+    Repeated,
+    // A lower NAME: the next address is claimed.
+    Moved,
+    // A lower NAME, and no address is left: our claim is sent from 254.
+    FellSilent,
+    StateBroken,
+    BadFrame(BadFrame),
+    ListMalformed,
+}
+
+// The state, and the frame to send; zeros where nothing is sent.
+pub struct Heard {
+    pub claim: Claim,
+    pub answer: Hearing,
+    pub id: u32,
+    pub bytes: [u8; 8],
+}
+
+// Waited; or refusal 2, 16.
+pub enum Pausing {
+    Waited,
+    StateBroken,
+    ListMalformed,
+}
+
+pub struct Paused {
+    pub claim: Claim,
+    pub answer: Pausing,
+}
+
+// Where a claim stands, and at which address; or refusal 2, 16.
+pub enum Standing {
+    Held(u8),
+    Claiming(u8),
+    Silent,
+    StateBroken,
+    ListMalformed,
+}
+
+// Our claim is told; or refusal 2, 16.
+pub enum Sending {
+    Sent,
+    StateBroken,
+    ListMalformed,
+}
+
+// The frame of our claim; zeros where the state is refused.
+pub struct ClaimFrame {
+    pub answer: Sending,
+    pub id: u32,
+    pub bytes: [u8; 8],
+}
+
+impl Claim {
+    // Claims the first address of the list.
+    pub fn start(name: u64, list: &[u8]) -> Started
+        ensures { λ r. ⌜ Start name (now (list .entry)) r ⌝ }
+    {
+        if !list::well_formed(list) {
+            return Started {
+                claim: state::blank(),
+                answer: Starting::ListMalformed,
+                id: 0,
+                bytes: [0u8; 8],
+            };
+        }
+        let claim = Claim {
+            name,
+            list: list::filled(list),
+            count: list.len(),
+            position: 0,
+            wait: 0,
+            silent: false,
+        };
+        Started {
+            claim,
+            answer: Starting::Sent,
+            id: state::claim_id(claim),
+            bytes: frame::bytes_of(name),
+        }
+    }
+
+    // Hears a frame: a rival's claim at our address is a contest.
+    pub fn hear(self, id: u32, bytes: &[u8]) -> Heard
+        ensures { λ r. ⌜ Hear id (now (bytes .entry)) self r ⌝ }
+    {
+        let answer = contest::answer_to(self, id, bytes);
+        match answer {
+            Hearing::Repeated => contest::sends(self, answer),
+            Hearing::Moved => contest::sends(state::at_next(self), answer),
+            Hearing::FellSilent => contest::sends(state::fallen(self), answer),
+            Hearing::NothingToDo => contest::keeps(self, answer),
+            Hearing::OwnName => contest::keeps(self, answer),
+            Hearing::StateBroken => contest::keeps(self, answer),
+            Hearing::BadFrame(_) => contest::keeps(self, answer),
+            Hearing::ListMalformed => contest::keeps(self, answer),
+        }
+    }
+
+    // Waits.
+    pub fn pause(self, ms: u16) -> Paused
+        ensures { λ r. ⌜ Pause ms self r ⌝ }
+    {
+        if !self.keeps_rules() {
+            return Paused {
+                claim: self,
+                answer: Pausing::StateBroken,
+            };
+        }
+        if !self.holds_list() {
+            return Paused {
+                claim: self,
+                answer: Pausing::ListMalformed,
+            };
+        }
+        Paused {
+            claim: state::waited(self, ms),
+            answer: Pausing::Waited,
+        }
+    }
+
+    // Where it stands.
+    pub fn stands(self) -> Standing
+        ensures { λ r. ⌜ Stands self r ⌝ }
+    {
+        if !self.keeps_rules() {
+            return Standing::StateBroken;
+        }
+        if !self.holds_list() {
+            return Standing::ListMalformed;
+        }
+        state::stand(self)
+    }
+
+    // The frame of our claim, from the address that we claim or hold, or from 254 when silent.
+    pub fn our_claim(self) -> ClaimFrame
+        ensures { λ r. ⌜ OurClaim self r ⌝ }
+    {
+        if !self.keeps_rules() {
+            return ClaimFrame {
+                answer: Sending::StateBroken,
+                id: 0,
+                bytes: [0u8; 8],
+            };
+        }
+        if !self.holds_list() {
+            return ClaimFrame {
+                answer: Sending::ListMalformed,
+                id: 0,
+                bytes: [0u8; 8],
+            };
+        }
+        ClaimFrame {
+            answer: Sending::Sent,
+            id: state::claim_id(self),
+            bytes: frame::bytes_of(self.name),
+        }
+    }
+
+    // Whether the state keeps its rules; 2 where it does not.
+    pub fn keeps_rules(self) -> bool
+        ensures { λ r. ⌜ KeepsRules self r ⌝ }
+    {
+        if self.count <= self.position {
+            return false;
+        }
+        if 250 < self.wait {
+            return false;
+        }
+        if !self.silent {
+            return true;
+        }
+        if self.position != 0 {
+            return false;
+        }
+        self.wait == 0
+    }
+
+    // Whether the list that the state holds is well formed; 16 where it is not.
+    pub fn holds_list(self) -> bool
+        ensures { λ r. ⌜ HoldsList self r ⌝ }
+    {
+        let count = self.count;
+        if 16 < count {
+            return false;
+        }
+        let list = self.list;
+        list::well_formed(&list[0..count])
+    }
+}

@@ -1,0 +1,75 @@
+// The candidate list: 1 to 16 distinct addresses, each at most 253.
+ghost use mathlib.Core.Path.{_≡_};
+ghost use Prim.Native.Nat.{_≤_};
+ghost use lib.ListN.{length, drop};
+ghost use Rattle.claim.specs.Candidates.{areAddresses, isAbsent, areDistinct, isWellFormed, padded};
+
+pub fn well_formed(list: &[u8]) -> bool
+    ensures { λ r. ⌜ r ≡ isWellFormed (now (list .entry)) ⌝ }
+{
+    if list.len() < 1 {
+        return false;
+    }
+    if 16 < list.len() {
+        return false;
+    }
+    if !addresses(list) {
+        return false;
+    }
+    distinct(list)
+}
+
+fn addresses(list: &[u8]) -> bool
+    ensures { λ r. ⌜ r ≡ areAddresses (now (list .entry)) ⌝ }
+{
+    let mut i: usize = 0;
+    while i < list.len() {
+        if 253 < list[i] {
+            return false;
+        }
+        i += 1;
+    }
+    true
+}
+
+fn distinct(list: &[u8]) -> bool
+    ensures { λ r. ⌜ r ≡ areDistinct (now (list .entry)) ⌝ }
+{
+    let mut i: usize = 0;
+    while i < list.len() {
+        if !absent(list[i], list, i + 1) {
+            return false;
+        }
+        i += 1;
+    }
+    true
+}
+
+// Whether an address does not stand in the list from a position on.
+fn absent(a: u8, list: &[u8], from: usize) -> bool
+    requires { ⌜ from ≤ length (now list) ⌝ }
+    ensures { λ r. ⌜ r ≡ isAbsent a (drop from (now (list .entry))) ⌝ }
+{
+    let mut i = from;
+    while i < list.len() {
+        if a == list[i] {
+            return false;
+        }
+        i += 1;
+    }
+    true
+}
+
+// The list filled up with zeros.
+pub fn filled(list: &[u8]) -> [u8; 16]
+    requires { ⌜ length (now list) ≤ 16 ⌝ }
+    ensures { λ r. ⌜ r ≡ padded (now (list .entry)) ⌝ }
+{
+    let mut out = [0u8; 16];
+    let mut i: usize = 0;
+    while i < list.len() {
+        out[i] = list[i];
+        i += 1;
+    }
+    out
+}

@@ -1,0 +1,102 @@
+// A claim's state: the steps that change it, the frame of its claim, where it stands.
+use crate::Claim;
+use crate::Standing;
+ghost use mathlib.Core.Path.{_≡_};
+ghost use Prim.Native.Nat.{_+_, _<_};
+ghost use Rattle.frame.specs.Words.{gives};
+ghost use Rattle.claim.specs.Claim.{claimSource, claimId, standOf, atNext, fallen, pause};
+ghost use Rattle.claim.specs.Promises.{blank, toldStanding};
+
+// The all-zero state, beside a refused start.
+pub fn blank() -> Claim
+    ensures { λ r. ⌜ r ≡ blank ⌝ }
+{
+    Claim {
+        name: 0,
+        list: [0u8; 16],
+        count: 0,
+        position: 0,
+        wait: 0,
+        silent: false,
+    }
+}
+
+// The next address of the list, claimed.
+pub fn at_next(claim: Claim) -> Claim
+    requires { ⌜ claim .position < 16 ⌝ }
+    ensures { λ r. ⌜ r ≡ atNext claim ⌝ }
+{
+    placed(claim, claim.position + 1, 0, false)
+}
+
+// No address is left.
+pub fn fallen(claim: Claim) -> Claim
+    ensures { λ r. ⌜ r ≡ fallen claim ⌝ }
+{
+    placed(claim, 0, 0, true)
+}
+
+// After a pause; the sum has room for 250 + 65535.
+pub fn waited(claim: Claim, ms: u16) -> Claim
+    ensures { λ r. ⌜ r ≡ pause ms claim ⌝ }
+{
+    if claim.silent {
+        return claim;
+    }
+    let sum = claim.wait as u32 + ms as u32;
+    if 250 < sum {
+        return placed(claim, claim.position, 250, claim.silent);
+    }
+    placed(claim, claim.position, sum as u16, claim.silent)
+}
+
+// The same NAME and list, elsewhere.
+fn placed(claim: Claim, position: usize, wait: u16, silent: bool) -> Claim
+    ensures { λ r. ⌜ r ≡ record { name = claim .name; list = claim .list; count = claim .count; position = position; wait = wait; silent = silent } ⌝ }
+{
+    let list = claim.list;
+    Claim {
+        name: claim.name,
+        list,
+        count: claim.count,
+        position,
+        wait,
+        silent,
+    }
+}
+
+// The source of our claim: the address, or 254 when silent.
+fn claim_source(claim: Claim) -> u8
+    requires { ⌜ claim .position < 16 ⌝ }
+    ensures { λ r. ⌜ r ≡ claimSource claim ⌝ }
+{
+    if claim.silent {
+        return 254;
+    }
+    let at = claim.position;
+    let list = claim.list;
+    list[at]
+}
+
+// The identifier of our claim: priority 6, DGN EEFFh.
+pub fn claim_id(claim: Claim) -> u32
+    requires { ⌜ claim .position < 16 ⌝ }
+    ensures { λ r. ⌜ r ≡ claimId claim ⌝ }
+{
+    0x18EEFF00 + claim_source(claim) as u32
+}
+
+pub fn stand(claim: Claim) -> Standing
+    requires { ⌜ claim .position < 16 ⌝ }
+    ensures { λ r. ⌜ toldStanding r ≡ gives (standOf claim) ⌝ }
+{
+    if claim.silent {
+        return Standing::Silent;
+    }
+    let at = claim.position;
+    let list = claim.list;
+    if claim.wait == 250 {
+        return Standing::Held(list[at]);
+    }
+    Standing::Claiming(list[at])
+}
