@@ -86,12 +86,13 @@ pub fn idled(p: Place, ms: u16) -> Place
     if 750 < sum {
         return free();
     }
+    let idle = sum as u16;
     Place {
         sender: p.sender,
         length: p.length,
         dgn: p.dgn,
         expected: p.expected,
-        idle: sum as u16,
+        idle,
     }
 }
 

@@ -22,8 +22,8 @@ returns-2 : tie.Need-returns-2
 unfolding idled
 returns-2 c = search tests
 
-cast-t7 : tie.Need-cast-t7
-cast-t7 c = search needs
+cast-idle : tie.Need-cast-idle
+cast-idle c = search needs
 
 returns-3 : tie.Need-returns-3
 unfolding idled
@@ -31,4 +31,4 @@ returns-3 c = search tests
 
 pub idled-spec : {M : Type 1} → statement M
 idled-spec =
-    tie.close (tie.spec returns cast-sum add-sum free-requires returns-2 cast-t7 returns-3)
+    tie.close (tie.spec returns cast-sum add-sum free-requires returns-2 cast-idle returns-3)

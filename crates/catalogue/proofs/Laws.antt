@@ -1,0 +1,414 @@
+-- The statements of specs/Laws.antt, proved.
+-- Assumes nothing.
+use mathlib.Core.Path.{_≡_, refl, sym, ap, _∙_, subst}
+use mathlib.Core.Bool.{true, false}
+use mathlib.Core.List.{List}
+use mathlib.Core.Logic.{_⊎_, inl, inr, ⊎-elim}
+use Prim.Native.Nat.{ℕ, _+_, _-_, _^_, _≤_, _<_}
+use native.Mathlib.Nat.{eq-or-lt-of-le}
+use native.Mathlib.Omega.{arith}
+use borrow.Author.Tests.{eq-eqb, ne-eqb, lt-ltb, le-ltb, ltb-true, ltb-false, leb-true, leb-false, eqb-true}
+use lib.ListN.{length}
+use Rattle.frame.specs.Words.{if_then_else_, given_then_, _<?_, _≤?_, _=?_, Told, refused, gives}
+use Rattle.frame.specs.Bytes.{numberOf, AreBytes}
+use Rattle.frame.specs.Frame.{frameBytes}
+use Rattle.frame.specs.Promises.{refusalOf}
+use Rattle.frame.specs.declared.BadFrame.{BadFrame}
+use Rattle.frame.specs.declared.BadFrame.the-variants.{IdentifierTooLarge, NotEightBytes, ReservedBitSet, SourceNotAllowed}
+use Rattle.frame.proofs.Words.{by-test, true-false, refused-gives, gives-same}
+use Rattle.frame.proofs.Bytes.{number-below, number-of-bytes, length-bytes, bytes-small}
+use Rattle.frame.proofs.Laws.{badBack, bad-back}
+use Rattle.catalogue.specs.Rows.{rows}
+use Rattle.catalogue.specs.Table.{rowAt, having}
+use Rattle.catalogue.specs.Field.{fieldOf, withField, InFrame}
+use Rattle.catalogue.specs.Classes.{greatestCode, hasThree, ofThree, classAt, classIn, belowGreatest}
+use Rattle.catalogue.specs.Scale.{scaledOf, valueAs, valueOf}
+use Rattle.catalogue.specs.Codes.{codeWhere, classCode, codeOf}
+use Rattle.catalogue.specs.Catalogue.{fieldIn, rowFor, readOf, scaledReadOf, replaced, writtenOf}
+use Rattle.catalogue.specs.Promises.{toldLooked, toldReading, toldScaled, toldWriting, doneIf, bytesAfter, Done}
+use Rattle.catalogue.specs.Laws as Laws
+use Rattle.catalogue.specs.declared.Row.{Row}
+use Rattle.catalogue.specs.declared.Field.{Field}
+use Rattle.catalogue.specs.declared.Class.{Class}
+use Rattle.catalogue.specs.declared.Class.the-variants.{Number, NoData, OutOfRange, Reserved}
+use Rattle.catalogue.specs.declared.Value.{Value}
+use Rattle.catalogue.specs.declared.Looked.{Looked}
+use Rattle.catalogue.specs.declared.Looked.the-variants as Looked
+use Rattle.catalogue.specs.declared.Reading.{Reading}
+use Rattle.catalogue.specs.declared.Reading.the-variants as Reading
+use Rattle.catalogue.specs.declared.ScaledReading.{ScaledReading}
+use Rattle.catalogue.specs.declared.ScaledReading.the-variants as ScaledReading
+use Rattle.catalogue.specs.declared.Writing.{Writing}
+use Rattle.catalogue.specs.declared.Writing.the-variants as Writing
+use Rattle.catalogue.proofs.Rule as Rule
+use Rattle.catalogue.proofs.Bits as Bits
+use Rattle.catalogue.proofs.Codes.{scaled-of, code-given}
+use Rattle.catalogue.proofs.Found.{given-then, found, found-frame, for-bad, for-sound, read-none, read-row, scaled-none, scaled-row, write-none, write-uncoded}
+
+-- an answer is read back from what it tells
+
+lookedBack : Told Row → Looked
+lookedBack (gives row) = Looked.Is row
+lookedBack (refused n) = Looked.NoSuchRow
+
+looked-back : (r : Looked) → lookedBack (toldLooked r) ≡ r
+unfolding lookedBack
+looked-back (Looked.Is row) = refl
+looked-back Looked.NoSuchRow = refl
+
+pub told-looked-same : Laws.ToldLookedSame
+told-looked-same r s e = sym (looked-back r) ∙ ap lookedBack e ∙ looked-back s
+
+-- 3 to 6 are other numbers than 11 and 12
+
+not-eleven : (why : BadFrame) → (refusalOf why =? 11) ≡ false
+not-eleven IdentifierTooLarge = refl
+not-eleven NotEightBytes = refl
+not-eleven ReservedBitSet = refl
+not-eleven SourceNotAllowed = refl
+
+not-twelve : (why : BadFrame) → (refusalOf why =? 12) ≡ false
+not-twelve IdentifierTooLarge = refl
+not-twelve NotEightBytes = refl
+not-twelve ReservedBitSet = refl
+not-twelve SourceNotAllowed = refl
+
+readingBack : Told Field → Reading
+readingBack (gives field) = Reading.Is field
+readingBack (refused n) = if n =? 11 then Reading.NoSuchRow else Reading.BadFrame (badBack n)
+
+reading-back : (r : Reading) → readingBack (toldReading r) ≡ r
+unfolding readingBack
+reading-back (Reading.Is field) = refl
+reading-back (Reading.BadFrame why) = rw (not-eleven why) (ap Reading.BadFrame (bad-back why))
+reading-back Reading.NoSuchRow = refl
+
+pub told-reading-same : Laws.ToldReadingSame
+told-reading-same r s e = sym (reading-back r) ∙ ap readingBack e ∙ reading-back s
+
+scaledBack : Told Value → ScaledReading
+scaledBack (gives value) = ScaledReading.Is value
+scaledBack (refused n) = if n =? 11 then ScaledReading.NoSuchRow else ScaledReading.BadFrame (badBack n)
+
+scaled-back : (r : ScaledReading) → scaledBack (toldScaled r) ≡ r
+unfolding scaledBack
+scaled-back (ScaledReading.Is value) = refl
+scaled-back (ScaledReading.BadFrame why) = rw (not-eleven why) (ap ScaledReading.BadFrame (bad-back why))
+scaled-back ScaledReading.NoSuchRow = refl
+
+pub told-scaled-same : Laws.ToldScaledSame
+told-scaled-same r s e = sym (scaled-back r) ∙ ap scaledBack e ∙ scaled-back s
+
+writingBack : Told Done → Writing
+writingBack (gives d) = Writing.Written
+writingBack (refused n) = if n =? 11 then Writing.NoSuchRow else if n =? 12 then Writing.NoCode else Writing.BadFrame (badBack n)
+
+writing-back : (r : Writing) → writingBack (toldWriting r) ≡ r
+unfolding writingBack
+writing-back Writing.Written = refl
+writing-back (Writing.BadFrame why) = rw (not-eleven why, not-twelve why) (ap Writing.BadFrame (bad-back why))
+writing-back Writing.NoSuchRow = refl
+writing-back Writing.NoCode = refl
+
+pub told-writing-same : Laws.ToldWritingSame
+told-writing-same r s e = sym (writing-back r) ∙ ap writingBack e ∙ writing-back s
+
+-- no second answer
+
+pub rows-only : Laws.RowsOnly
+rows-only r s p q = p .answer ∙ sym (q .answer)
+
+pub row-at-only : Laws.RowAtOnly
+row-at-only n r s p q = told-looked-same r s (p .answer ∙ sym (q .answer))
+
+pub rows-of-only : Laws.RowsOfOnly
+rows-of-only dgn r s p q = p .answer ∙ sym (q .answer)
+
+pub classify-only : Laws.ClassifyOnly
+classify-only row number r s p q = p .answer ∙ sym (q .answer)
+
+pub read-only : Laws.ReadOnly
+read-only n id bytes r s p q = told-reading-same r s (p .answer ∙ sym (q .answer))
+
+pub read-scaled-only : Laws.ReadScaledOnly
+read-scaled-only n id bytes r s p q = told-scaled-same r s (p .answer ∙ sym (q .answer))
+
+pub write-only : Laws.WriteOnly
+write-only n id bytes value r s after after′ p q =
+    (told-writing-same r s (p .answer ∙ sym (q .answer)), p .data-bytes ∙ sym (q .data-bytes))
+
+kept : (t : Told (List ℕ)) (bytes : List ℕ) (k : ℕ) → doneIf t ≡ refused k → bytesAfter t bytes ≡ bytes
+kept (gives new) bytes k e = refused-gives (sym e)
+kept (refused n) bytes k e = refl
+
+pub refused-keeps : Laws.RefusedKeeps
+refused-keeps n id bytes value r after k p e =
+    p .data-bytes ∙ kept (writtenOf n id bytes value) bytes k (sym (p .answer) ∙ e)
+
+pub lowest-wins : (n id : ℕ) (bytes : List ℕ) (value : Value) → Laws.LowestWins n id bytes value
+lowest-wins n id bytes value =
+    record {
+      frame-first = λ k e. refuses k (sym (for-bad n id (length bytes) k e));
+      row-next = λ parts e f. refuses 11 (sym (for-sound n id (length bytes) parts e) ∙ f);
+      code-last = λ row e f. write-uncoded n id bytes value row 12 e f;
+    }
+  where
+    refuses : (k : ℕ) → rowFor n id (length bytes) ≡ refused k
+        → (readOf n id bytes ≡ refused k) × (scaledReadOf n id bytes ≡ refused k) × (writtenOf n id bytes value ≡ refused k)
+    refuses k e = (sym (read-none n id bytes k e), sym (scaled-none n id bytes k e), write-none n id bytes value k e)
+
+-- the table
+
+pub row-count : Laws.RowCount
+row-count = Rule.row-count
+
+pub rising : Laws.Rising
+rising i j h g =
+    let p = Rule.in-order i j h g in
+    let a = Rule.in-frame-at i (omega arith) in
+    let b = Rule.in-frame-at j g in
+    let le : rowAt i .dgn ≤ rowAt j .dgn = omega arith in
+    ⊎-elim (λ e. inr (e, omega arith)) inl (eq-or-lt-of-le le)
+
+pub ends : Laws.Ends
+ends = Rule.in-frame-at
+
+pub apart : Laws.Apart
+apart i j b h g n e p q = ⊎-elim (λ l. omega arith) (λ l. omega arith) (Rule.apart-at i j h g n e)
+
+pub exactly : Laws.Exactly
+exactly = Rule.exactly
+
+pub within : Laws.Within
+within = Rule.span-within
+
+pub three-rows : Laws.ThreeRows
+unfolding having rows
+three-rows = refl
+
+-- classes
+
+-- a width of three classes has four codes at least
+wide-three : (w : ℕ) → hasThree w ≡ true → 3 ≤ greatestCode w
+wide-three w t =
+    by-test (w =? 8) (λ e. rw (eqb-true w 8 e) (omega arith))
+    (λ e. by-test (w =? 16) (λ f. rw (eqb-true w 16 f) (omega arith))
+    (λ f. by-test (w =? 32) (λ g. rw (eqb-true w 32 g) (omega arith)) (λ g. true-false (sym (rw (e, f, g) at t)))))
+
+of-three : (g c : ℕ) → 3 ≤ g → (c ≡ g → ⊥) → (c ≡ g - 1 → ⊥) → (c ≡ g - 2 → ⊥) → ofThree g c ≡ Number
+unfolding ofThree
+of-three g c h a b d = rw (ne-eqb c g a, ne-eqb c (g - 1) b, ne-eqb c (g - 2) d)
+
+class-three : (row : Row) (c : ℕ) → row .plain ≡ false → hasThree (row .width) ≡ true → classIn row c ≡ ofThree (greatestCode (row .width)) c
+unfolding classIn classAt
+class-three row c p t = rw (p, t)
+
+pub three-classes : Laws.ThreeClasses
+unfolding ofThree
+three-classes row p t =
+    let g = greatestCode (row .width) in
+    let h = wide-three (row .width) t in
+    record {
+      greatest = class-three row g p t ∙ rw (eq-eqb g g refl);
+      one-less = class-three row (g - 1) p t ∙ rw (ne-eqb (g - 1) g (λ e. omega arith), eq-eqb (g - 1) (g - 1) refl);
+      two-less = class-three row (g - 2) p t ∙ rw (ne-eqb (g - 2) g (λ e. omega arith), ne-eqb (g - 2) (g - 1) (λ e. omega arith), eq-eqb (g - 2) (g - 2) refl);
+      all-else = λ c l. class-three row c p t ∙ of-three g c h (λ e. omega arith) (λ e. omega arith) (λ e. omega arith);
+    }
+
+class-one : (row : Row) (c : ℕ) → row .plain ≡ false → hasThree (row .width) ≡ false → 2 ≤ row .width
+    → classIn row c ≡ (if c =? greatestCode (row .width) then NoData else Number)
+unfolding classIn classAt
+class-one row c p t h = rw (p, t, le-ltb (row .width) 2 h)
+
+pub one-class : Laws.OneClass
+one-class row p t h =
+    let g = greatestCode (row .width) in
+    record {
+      greatest = class-one row g p t h ∙ rw (eq-eqb g g refl);
+      all-else = λ c l. class-one row c p t h ∙ rw (ne-eqb c g (λ e. omega arith));
+    }
+
+narrow : (w : ℕ) → w < 2 → hasThree w ≡ false
+narrow w h = rw (ne-eqb w 8 (λ e. omega arith), ne-eqb w 16 (λ e. omega arith), ne-eqb w 32 (λ e. omega arith))
+
+class-narrow : (row : Row) (c : ℕ) → row .plain ≡ false → row .width < 2 → classIn row c ≡ Number
+unfolding classIn classAt
+class-narrow row c p h = rw (p, narrow (row .width) h, lt-ltb (row .width) 2 h)
+
+class-plain : (row : Row) (c : ℕ) → row .plain ≡ true → classIn row c ≡ Number
+unfolding classIn
+class-plain row c p = rw p
+
+pub always-numbers : Laws.AlwaysNumbers
+always-numbers row c a =
+    ⊎-elim (class-plain row c) (λ h. by-test (row .plain) (class-plain row c) (λ p. class-narrow row c p h)) a
+
+-- a code of another class stands where that class has its code
+abbrev Placed : Row → ℕ → Class → Type 0
+Placed row c k = (k ≡ Number) ⊎ ((belowGreatest k ≤ greatestCode (row .width)) × (c ≡ greatestCode (row .width) - belowGreatest k))
+
+pub bit-of-byte : Laws.BitOfByte
+bit-of-byte = Bits.bit-of-byte
+
+placed : (row : Row) (c : ℕ) → Placed row c (classIn row c)
+unfolding ofThree
+placed row c =
+    let g = greatestCode (row .width) in
+    by-test (row .plain) (λ p. inl (class-plain row c p))
+    (λ p. by-test (hasThree (row .width))
+    (λ t. let h = wide-three (row .width) t in rw (class-three row c p t) (in-three g c h))
+    (λ t. by-test (row .width <? 2)
+    (λ n. inl (class-narrow row c p (ltb-true (row .width) 2 n)))
+    (λ n. rw (class-one row c p t (ltb-false (row .width) 2 n)) (in-one g c))))
+  where
+    in-three : (g c : ℕ) → 3 ≤ g → (ofThree g c ≡ Number) ⊎ ((belowGreatest (ofThree g c) ≤ g) × (c ≡ g - belowGreatest (ofThree g c)))
+    in-three g c h =
+        by-test (c =? g) (λ e. rw e (inr (omega arith, omega (arith, eqb-true c g e))))
+        (λ e. by-test (c =? g - 1) (λ f. rw (e, f) (inr (omega arith, eqb-true c (g - 1) f)))
+        (λ f. by-test (c =? g - 2) (λ k. rw (e, f, k) (inr (omega arith, eqb-true c (g - 2) k))) (λ k. rw (e, f, k) (inl refl))))
+
+    in-one : (g c : ℕ) → ((if c =? g then NoData else Number) ≡ Number) ⊎ ((belowGreatest (if c =? g then NoData else Number) ≤ g) × (c ≡ g - belowGreatest (if c =? g then NoData else Number)))
+    in-one g c = by-test (c =? g) (λ e. rw e (inr (omega arith, omega (arith, eqb-true c g e)))) (λ e. rw e (inl refl))
+
+-- codes and values
+
+class-code-of : (row : Row) (k : Class) (c : ℕ) → classIn row c ≡ k → (k ≡ Number → ⊥) → classCode row k ≡ gives c
+unfolding classCode codeWhere
+class-code-of row k c e n =
+    ⊎-elim (λ z. absurd (n z))
+    (λ b. rw (le-ltb (greatestCode (row .width)) (belowGreatest k) (b .0), ← (b .1), eq-eqb (belowGreatest (classIn row c)) (belowGreatest k) (ap belowGreatest e)))
+    (subst (Placed row c) e (placed row c))
+
+not-number : (k : Class) → (belowGreatest k ≡ 3 → ⊥) → k ≡ Number → ⊥
+not-number k n e = n (ap belowGreatest e)
+
+pub code-back : Laws.CodeBack
+unfolding valueOf codeOf
+code-back row c h = go (classIn row c) refl
+  where
+    go : (k : Class) → classIn row c ≡ k → codeOf row (valueAs k (scaledOf (row .unit) (row .width) c)) ≡ gives c
+    go Number e = scaled-of row c (record { fits = h; class = e })
+    go NoData e = class-code-of row NoData c e (not-number NoData (λ z. omega arith))
+    go OutOfRange e = class-code-of row OutOfRange c e (not-number OutOfRange (λ z. omega arith))
+    go Reserved e = class-code-of row Reserved c e (not-number Reserved (λ z. omega arith))
+
+pub value-back : Laws.ValueBack
+value-back row value c e = let w = code-given row value c e in (w .fits, w .has)
+
+-- a frame that was written
+
+written-number : (row : Row) (code : ℕ) (bytes : List ℕ) → InFrame (row .first) (row .width) → code < 2 ^ row .width → length bytes ≡ frameBytes → AreBytes bytes
+    → numberOf (replaced row code bytes) ≡ withField (row .first) (row .width) code (numberOf bytes)
+unfolding replaced
+written-number row code bytes i h l a =
+    let n : numberOf bytes < 2 ^ 64 = rw l at (number-below bytes a) in
+    number-of-bytes 8 (withField (row .first) (row .width) code (numberOf bytes)) (Bits.with-below (row .first) (row .width) code (numberOf bytes) (i .ends) h n)
+
+length-replaced : (row : Row) (code : ℕ) (bytes : List ℕ) → length (replaced row code bytes) ≡ frameBytes
+unfolding replaced
+length-replaced row code bytes = length-bytes 8 (withField (row .first) (row .width) code (numberOf bytes))
+
+-- the row, code and bytes of a write that gave new bytes
+record Wrote (n id : ℕ) (bytes new : List ℕ) (value : Value) : Type 0 where
+  row : Row
+  code : ℕ
+  for : rowFor n id (length bytes) ≡ gives row
+  coded : codeOf row value ≡ gives code
+  is : new ≡ replaced row code bytes
+
+wrote : (n id : ℕ) (bytes new : List ℕ) (value : Value) → writtenOf n id bytes value ≡ gives new → Wrote n id bytes new value
+unfolding writtenOf
+wrote n id bytes new value e =
+    let a = given-then (rowFor n id (length bytes)) (λ row. given codeOf row value then λ code. gives (replaced row code bytes)) e in
+    let b = given-then (codeOf (a .0) value) (λ code. gives (replaced (a .0) code bytes)) (a .2) in
+    record { row = a .0; code = b .0; for = a .1; coded = b .1; is = sym (gives-same (b .2)) }
+
+-- the field of a frame just written
+field-written : (n id : ℕ) (bytes : List ℕ) (value : Value) (row : Row) (code : ℕ) → AreBytes bytes → rowFor n id (length bytes) ≡ gives row → codeOf row value ≡ gives code
+    → fieldIn row (numberOf (replaced row code bytes)) ≡ Laws.fieldAt row code
+unfolding fieldIn
+field-written n id bytes value row code a e f =
+    let w = code-given row value code f in
+    let i = found-frame n id (length bytes) row e in
+    let q = found n id (length bytes) row e .eight in
+    let c : fieldOf (row .first) (row .width) (numberOf (replaced row code bytes)) ≡ code =
+    ap (fieldOf (row .first) (row .width)) (written-number row code bytes i (w .fits) q a) ∙ Bits.field-back (row .first) (row .width) code (numberOf bytes) (w .fits) in
+    rw c
+
+same-size : (n id : ℕ) (bytes : List ℕ) (row : Row) (code : ℕ) → rowFor n id (length bytes) ≡ gives row → length (replaced row code bytes) ≡ length bytes
+same-size n id bytes row code e = length-replaced row code bytes ∙ sym (found n id (length bytes) row e .eight)
+
+pub reads-code : Laws.ReadsCode
+reads-code n id bytes value row code a e f =
+    let s = same-size n id bytes row code e in
+    sym (read-row n id (replaced row code bytes) row (ap (rowFor n id) s ∙ e)) ∙ ap gives (field-written n id bytes value row code a e f)
+
+pub reads-back : Laws.ReadsBack
+reads-back n id bytes new value a e =
+    let w = wrote n id bytes new value e in
+    let s = same-size n id bytes (w .row) (w .code) (w .for) in
+    let g = code-given (w .row) value (w .code) (w .coded) in
+    ap (scaledReadOf n id) (w .is)
+    ∙ sym (scaled-row n id (replaced (w .row) (w .code) bytes) (w .row) (ap (rowFor n id) s ∙ w .for))
+    ∙ ap gives (ap (valueOf (w .row)) (field-written n id bytes value (w .row) (w .code) a (w .for) (w .coded)) ∙ g .has)
+
+pub eight-bytes : Laws.EightBytes
+unfolding replaced
+eight-bytes n id bytes new value e =
+    let w = wrote n id bytes new value e in
+    (ap length (w .is) ∙ length-replaced (w .row) (w .code) bytes, subst AreBytes (sym (w .is)) (bytes-small 8 (withField (w .row .first) (w .row .width) (w .code) (numberOf bytes))))
+
+-- a field beside the row that was written
+beside : (n id : ℕ) (bytes new : List ℕ) (value : Value) → AreBytes bytes → writtenOf n id bytes value ≡ gives new
+    → (g x : ℕ) → (g + x ≤ rowAt n .first) ⊎ (rowAt n .first + rowAt n .width ≤ g) → fieldOf g x (numberOf new) ≡ fieldOf g x (numberOf bytes)
+beside n id bytes new value a e g x o =
+    let w = wrote n id bytes new value e in
+    let q = found n id (length bytes) (w .row) (w .for) in
+    let c = code-given (w .row) value (w .code) (w .coded) in
+    let i = found-frame n id (length bytes) (w .row) (w .for) in
+    let o′ : (g + x ≤ w .row .first) ⊎ (w .row .first + w .row .width ≤ g) = subst (λ (r : Row). (g + x ≤ r .first) ⊎ (r .first + r .width ≤ g)) (sym (q .is)) o in
+    ap (λ (b : List ℕ). fieldOf g x (numberOf b)) (w .is)
+    ∙ ap (fieldOf g x) (written-number (w .row) (w .code) bytes i (c .fits) (q .eight) a)
+    ∙ Bits.field-beside (w .row .first) (w .row .width) (w .code) (numberOf bytes) g x (c .fits) o′
+
+pub bits-kept : Laws.BitsKept
+bits-kept n id b bytes new value a h e =
+    beside n id bytes new value a e b 1
+    (by-test (b <? rowAt n .first) (λ t. inl (let l = ltb-true b (rowAt n .first) t in omega arith))
+    (λ t. inr (by-test (rowAt n .first + rowAt n .width ≤? b) (λ u. leb-true _ _ u) (λ u. absurd (h (ltb-false b (rowAt n .first) t, leb-false _ _ u))))))
+
+-- the cases of a search for a row
+row-cases : {P : Type 0} (t : Told Row) → ((k : ℕ) → t ≡ refused k → P) → ((row : Row) → t ≡ gives row → P) → P
+row-cases (refused k) f g = f k refl
+row-cases (gives row) f g = g row refl
+
+pub reads-others : Laws.ReadsOthers
+unfolding fieldIn
+reads-others n m id bytes new value a d e =
+    let w = wrote n id bytes new value e in
+    let q = found n id (length bytes) (w .row) (w .for) in
+    let s : length new ≡ length bytes = ap length (w .is) ∙ same-size n id bytes (w .row) (w .code) (w .for) in
+    let z : rowFor m id (length new) ≡ rowFor m id (length bytes) = ap (rowFor m id) s in
+    row-cases (rowFor m id (length bytes))
+    (λ k f. (sym (read-none m id new k (z ∙ f)) ∙ read-none m id bytes k f, sym (scaled-none m id new k (z ∙ f)) ∙ scaled-none m id bytes k f))
+    (λ row f. let p = found m id (length bytes) row f in
+    let same : rowAt m .dgn ≡ rowAt n .dgn = ap (λ (r : Row). r .dgn) (sym (p .is)) ∙ p .dgn ∙ sym (q .dgn) ∙ ap (λ (r : Row). r .dgn) (q .is) in
+    let c : fieldIn row (numberOf new) ≡ fieldIn row (numberOf bytes) =
+    rw (p .is) (ap (λ (x : ℕ). record { class = classIn (rowAt m) x; code = x }) (beside n id bytes new value a e (rowAt m .first) (rowAt m .width) (Rule.apart-at m n (p .below) (q .below) d same))) in (
+      sym (read-row m id new row (z ∙ f)) ∙ ap gives c ∙ read-row m id bytes row f,
+      sym (scaled-row m id new row (z ∙ f)) ∙ ap (λ (x : Field). gives (valueOf row x)) c ∙ scaled-row m id bytes row f,
+    ))
+
+-- examples
+
+pub example-eight : Laws.ExampleEight
+unfolding classAt ofThree
+example-eight = (refl, refl)
+
+pub example-nine : Laws.ExampleNine
+unfolding scaledOf
+example-nine = refl
+
+pub example-ten : Laws.ExampleTen
+unfolding scaledOf
+example-ten = refl

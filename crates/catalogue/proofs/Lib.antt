@@ -1,0 +1,7 @@
+pub mod Rule
+pub mod Packing
+pub mod Bits
+pub mod Scales
+pub mod Codes
+pub mod Found
+pub mod Laws

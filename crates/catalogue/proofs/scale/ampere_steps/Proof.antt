@@ -1,0 +1,24 @@
+-- `catalogue::scale::ampere_steps` meets its contract. Assumes nothing.
+use mathlib.Core.Path.{_∙_}
+use borrow.Author.Needs.{needs}
+use Rattle.catalogue.specs.Scale.{ampereSteps}
+use Rattle.frame.proofs.Tests.{tests}
+use Rattle.catalogue.proofs.scale.ampere_steps.Statement.{statement}
+use Rattle.catalogue.proofs.scale.ampere_steps.Tie as tie
+
+by-steps-requires : tie.Need-by-steps-requires
+by-steps-requires c κs = search needs
+
+returns : tie.Need-returns
+unfolding ampereSteps
+returns c = c .by-steps .ensures ∙ search tests
+
+by-steps-requires-2 : tie.Need-by-steps-requires-2
+by-steps-requires-2 c κs = search needs
+
+returns-2 : tie.Need-returns-2
+unfolding ampereSteps
+returns-2 c = c .by-steps2 .ensures ∙ search tests
+
+pub ampere-steps-spec : {M : Type 1} → statement M
+ampere-steps-spec = tie.close (tie.spec by-steps-requires returns by-steps-requires-2 returns-2)

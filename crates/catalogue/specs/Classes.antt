@@ -1,0 +1,47 @@
+-- Classes of codes (document 01, "Classes"; 000, Table 3.2.3b): at widths 8, 16 and 32 the greatest code is no-data, one less out-of-range, two less
+-- reserved. At other widths from 2 up, all ones is no-data. All else is a number, and so is all in a plain row.
+use mathlib.Core.Bool.{Bool}
+use Prim.Native.Nat.{ℕ, _-_, _^_}
+use Rattle.frame.specs.Words.{if_then_else_, _<?_, _=?_, _or_}
+use Rattle.catalogue.specs.declared.Row.{Row}
+use Rattle.catalogue.specs.declared.Class.{Class}
+use Rattle.catalogue.specs.declared.Class.the-variants.{Number, NoData, OutOfRange, Reserved}
+
+-- all ones
+abbrev pub greatestCode : ℕ → ℕ
+greatestCode width = 2 ^ width - 1
+
+-- the widths that have all three classes
+abbrev pub hasThree : ℕ → Bool
+hasThree width = width =? 8 or width =? 16 or width =? 32
+
+-- counted down from the greatest code
+unfoldable pub ofThree : ℕ → ℕ → Class
+ofThree greatest code =
+    if code =? greatest then NoData else
+    if code =? greatest - 1 then OutOfRange else
+    if code =? greatest - 2 then Reserved else
+    Number
+
+-- the class by the width alone
+unfoldable pub classAt : ℕ → ℕ → Class
+classAt width code =
+    if hasThree width then ofThree (greatestCode width) code else
+    if width <? 2 then Number else
+    if code =? greatestCode width then NoData else
+    Number
+
+-- the class of a code in a row: the one place that reads a row's marks
+unfoldable pub classIn : Row → ℕ → Class
+classIn row code = if row .plain then Number else classAt (row .width) code
+
+-- how far below the greatest code a class stands; numbers stand below the three
+abbrev pub belowGreatest : Class → ℕ
+belowGreatest NoData = 0
+belowGreatest OutOfRange = 1
+belowGreatest Reserved = 2
+belowGreatest Number = 3
+
+infix 50 _is_
+abbrev pub _is_ : Class → Class → Bool
+a is b = belowGreatest a =? belowGreatest b

@@ -1,0 +1,10 @@
+pub mod Rows
+pub mod Table
+pub mod Packed
+pub mod Field
+pub mod Classes
+pub mod Scale
+pub mod Codes
+pub mod Catalogue
+pub mod Promises
+pub mod Laws

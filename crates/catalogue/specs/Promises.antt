@@ -1,0 +1,107 @@
+-- What each public call of this crate promises: one proposition over all that it answers. The answers are read in document 01's terms.
+use mathlib.Core.Path.{_≡_}
+use mathlib.Core.List.{List}
+use Prim.Native.Nat.{ℕ}
+use lib.ListN.{length}
+use Rattle.frame.specs.Words.{Told, refused, gives}
+use Rattle.frame.specs.Bytes.{numberOf}
+use Rattle.frame.specs.Identifier.{catalogueForm}
+use Rattle.frame.specs.Frame.{checkedOf}
+use Rattle.frame.specs.Promises.{refusalOf, bytesIf}
+use Rattle.catalogue.specs.Rows.{rows}
+use Rattle.catalogue.specs.Table.{rowOf, spanOf}
+use Rattle.catalogue.specs.Catalogue.{fieldIn, rowFor, readOf, scaledReadOf, writtenOf}
+use Rattle.catalogue.specs.declared.Row.{Row}
+use Rattle.catalogue.specs.declared.Span.{Span}
+use Rattle.catalogue.specs.declared.Field.{Field}
+use Rattle.catalogue.specs.declared.Value.{Value}
+use Rattle.catalogue.specs.declared.Looked.{Looked}
+use Rattle.catalogue.specs.declared.Looked.the-variants as Looked
+use Rattle.catalogue.specs.declared.Reading.{Reading}
+use Rattle.catalogue.specs.declared.Reading.the-variants as Reading
+use Rattle.catalogue.specs.declared.ScaledReading.{ScaledReading}
+use Rattle.catalogue.specs.declared.ScaledReading.the-variants as ScaledReading
+use Rattle.catalogue.specs.declared.Writing.{Writing}
+use Rattle.catalogue.specs.declared.Writing.the-variants as Writing
+use Rattle.catalogue.specs.declared.Outcome.{Outcome}
+use Rattle.catalogue.specs.declared.Outcome.the-variants as Outcome
+use Rattle.catalogue.specs.declared.Opened.{Opened}
+
+-- rows
+
+pub record Rows (r : ℕ) : Type 0 where
+  pub answer : r ≡ length rows
+
+-- row_at
+
+abbrev pub toldLooked : Looked → Told Row
+toldLooked (Looked.Is row) = gives row
+toldLooked Looked.NoSuchRow = refused 11
+
+pub record RowAt (n : ℕ) (r : Looked) : Type 0 where
+  pub answer : toldLooked r ≡ rowOf n
+
+-- rows_of
+
+pub record RowsOf (dgn : ℕ) (r : Span) : Type 0 where
+  pub answer : r ≡ spanOf (catalogueForm dgn)
+
+-- classify
+
+pub record Classify (row : Row) (number : ℕ) (r : Field) : Type 0 where
+  pub answer : r ≡ fieldIn row number
+
+-- read
+
+abbrev pub toldReading : Reading → Told Field
+toldReading (Reading.Is field) = gives field
+toldReading (Reading.BadFrame why) = refused (refusalOf why)
+toldReading Reading.NoSuchRow = refused 11
+
+pub record ReadField (n id : ℕ) (bytes : List ℕ) (r : Reading) : Type 0 where
+  pub answer : toldReading r ≡ readOf n id bytes
+
+-- read_scaled
+
+abbrev pub toldScaled : ScaledReading → Told Value
+toldScaled (ScaledReading.Is value) = gives value
+toldScaled (ScaledReading.BadFrame why) = refused (refusalOf why)
+toldScaled ScaledReading.NoSuchRow = refused 11
+
+pub record ReadScaled (n id : ℕ) (bytes : List ℕ) (r : ScaledReading) : Type 0 where
+  pub answer : toldScaled r ≡ scaledReadOf n id bytes
+
+-- write: the answer, and the frame's bytes afterwards
+
+pub data Done : Type 0 where
+  done : Done
+
+abbrev pub toldWriting : Writing → Told Done
+toldWriting Writing.Written = gives done
+toldWriting (Writing.BadFrame why) = refused (refusalOf why)
+toldWriting Writing.NoSuchRow = refused 11
+toldWriting Writing.NoCode = refused 12
+
+abbrev pub doneIf : Told (List ℕ) → Told Done
+doneIf (gives bytes) = gives done
+doneIf (refused n) = refused n
+
+-- a refusal leaves the bytes
+abbrev pub bytesAfter : Told (List ℕ) → List ℕ → List ℕ
+bytesAfter (gives new) old = new
+bytesAfter (refused n) old = old
+
+pub record WriteField (n id : ℕ) (bytes : List ℕ) (value : Value) (r : Writing) (after : List ℕ) : Type 0 where
+  pub answer : toldWriting r ≡ doneIf (writtenOf n id bytes value)
+  pub data-bytes : after ≡ bytesAfter (writtenOf n id bytes value) bytes
+
+-- open, which the three calls above share: the row for a frame, and the frame's bytes as a number
+
+abbrev pub toldOutcome : Outcome → Told Row
+toldOutcome (Outcome.At row) = gives row
+toldOutcome (Outcome.Bad why) = refused (refusalOf why)
+toldOutcome Outcome.NoSuchRow = refused 11
+
+pub record Opens (n id : ℕ) (bytes : List ℕ) (r : Opened) : Type 0 where
+  pub outcome : toldOutcome (r .outcome) ≡ rowFor n id (length bytes)
+  pub number : r .number ≡ numberOf (bytesIf (checkedOf id (length bytes)) bytes)
