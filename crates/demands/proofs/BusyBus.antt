@@ -13,10 +13,11 @@ use Rattle.frame.specs.Identifier.{sourceOf}
 use Rattle.frame.proofs.Words.{by-test}
 use Rattle.places.specs.Format.{Event, frame, pause, opens, goes, ends}
 use Rattle.places.specs.OneKey.{pauseAlone}
-use Rattle.places.specs.Places.{Out, full, said, NeverFull}
+use Rattle.places.specs.Places.{Place, Out, full, said, NeverFull, run, eightFree}
+use Rattle.places.specs.Places as Places
 use Rattle.places.specs.Receiver.{stateAfter, received, toldBy}
 use Rattle.places.specs.Statements.{Pausing}
-use Rattle.places.proofs.Receiver.{received-as-quiet, received-full-exactly-when, received-sums, received-pause, after-kept}
+use Rattle.places.proofs.Receiver.{received-run, received-as-quiet, received-full-exactly-when, received-sums, received-pause, after-kept}
 use Rattle.message.specs.LongMessage.{idleLimit, packetsOf, Meaning, other, announcement, packet, meaningOf}
 use Rattle.message.specs.OneSender.{Open, Frame, Part, Tells, longMessages, announcedBy, waits, fedBy, asksBy}
 use Rattle.message.specs.OneSender as OneSender
@@ -41,6 +42,14 @@ state-run : (h : Held) (events : List (Event Frame)) → stateAfter eightSenders
 state-run h [] = refl
 state-run h (frame f ∷ es) = state-run (afterFrame f h) es
 state-run h (pause ms ∷ es) = state-run (afterPause ms h) es
+
+-- and a run of the places, which needs no storage to be computed
+pub told-places : (storage : List ℕ) → room ≤ length storage → (sender : ℕ) (events : List (Event Frame))
+    → toldTo sender (fresh storage) events ≡ Places.toldTo sender (run longMessages (eightFree longMessages) events)
+told-places storage enough sender events =
+    let r = fresh-receiver storage enough in
+    sym (told-run sender (fresh storage) events)
+    ∙ ap (Places.toldTo sender) (received-run eightSenders (fresh storage) events (r .kept) ∙ ap (λ (ps : List (Place Open)). run longMessages ps events) (r .all-free))
 
 pub busy-bus : BusyBus
 busy-bus storage enough sender events n =

@@ -1,0 +1,139 @@
+-- Document 01's proved examples: one table, one statement. A line has the example's number, what the promise's own definition gives, and what 01
+-- prints, both as numbers: a refusal is its number alone, what is given begins with 0.
+use mathlib.Core.Path.{_≡_}
+use mathlib.Core.List.{List, [], _∷_, _++_}
+use Prim.Native.Nat.{ℕ, _+_}
+use lib.IntN.{ℤ, pos, negsuc}
+use lib.ListN.{replicate}
+use Rattle.frame.specs.Words.{Told, refused, gives}
+use Rattle.frame.specs.Identifier.{identifierOf}
+use Rattle.frame.specs.Frame.{formedOf}
+use Rattle.places.specs.Format.{Event, frame, pause}
+use Rattle.places.specs.Places.{Out, full, said}
+use Rattle.message.specs.LongMessage.{Meaning, other, announcement, packet, meaningOf}
+use Rattle.message.specs.OneSender.{Frame, Tells, nothingToDo, opened, stored, finished}
+use Rattle.message.specs.Receiver.{room, freePlace, pausedAnswer}
+use Rattle.message.specs.declared.Place.{Place}
+use Rattle.message.specs.Splitter.{announcementOf}
+use Rattle.demands.specs.BusyBus.{fresh, toldTo}
+use Rattle.catalogue.specs.Classes.{classAt, belowGreatest}
+use Rattle.catalogue.specs.Scale.{scaledOf}
+use Rattle.catalogue.specs.declared.Unit.the-variants.{Celsius, Ampere}
+
+pub record Line : Type 0 where
+  pub example : ℕ
+  pub computed : List ℕ
+  pub printed : List ℕ
+
+abbrev pub line : ℕ → List ℕ → List ℕ → Line
+line example computed printed = record { example = example; computed = computed; printed = printed }
+
+-- answers as numbers
+
+abbrev pub number : Told ℕ → List ℕ
+number (refused n) = n ∷ []
+number (gives n) = 0 ∷ n ∷ []
+
+abbrev pub bytes : Told (List ℕ) → List ℕ
+bytes (refused n) = n ∷ []
+bytes (gives l) = 0 ∷ l
+
+abbrev pub meaning : Told Meaning → List ℕ
+meaning (refused n) = n ∷ []
+meaning (gives other) = 0 ∷ []
+meaning (gives (announcement sender size dgn)) = 0 ∷ sender ∷ size ∷ dgn ∷ []
+meaning (gives (packet sender number)) = 0 ∷ sender ∷ number ∷ []
+
+-- nothing to do 0, opened 1, stored 2, a finished message its sender, DGN and bytes
+abbrev pub answer : Out (Told Tells) → List ℕ
+answer full = 8 ∷ []
+answer (said (refused n)) = n ∷ []
+answer (said (gives nothingToDo)) = 0 ∷ 0 ∷ []
+answer (said (gives opened)) = 0 ∷ 1 ∷ []
+answer (said (gives stored)) = 0 ∷ 2 ∷ []
+answer (said (gives (finished sender dgn l))) = 0 ∷ sender ∷ dgn ∷ l
+
+abbrev pub answers : List (Out (Told Tells)) → List ℕ
+answers [] = []
+answers (a ∷ rest) = answer a ++ answers rest
+
+-- a whole number by its sign, 0 or 1 for below zero, and its size
+abbrev pub signed : ℤ → List ℕ
+signed (pos n) = 0 ∷ n ∷ []
+signed (negsuc n) = 1 ∷ (n + 1) ∷ []
+
+-- the long message of 01, and a receiver over storage of zeros
+
+abbrev pub storage : List ℕ
+storage = replicate room 0
+
+-- eight places, the first open by 54h
+abbrev pub oneOpen : List Place
+oneOpen = record { sender = 0x54; length = 9; dgn = 0xFEEB; expected = 1; idle = 0 } ∷ replicate 7 freePlace
+
+abbrev pub announces : ℕ → List ℕ → Event Frame
+announces sender l = frame (record { id = identifierOf 7 0xECFF sender; bytes = l })
+
+abbrev pub nineBytes : List ℕ
+nineBytes = 0x20 ∷ 0x09 ∷ 0x00 ∷ 0x02 ∷ 0xFF ∷ 0xEB ∷ 0xFE ∷ 0x00 ∷ []
+
+abbrev pub announcement54 : Event Frame
+announcement54 = frame (record { id = 0x1CECFF54; bytes = nineBytes })
+
+abbrev pub first54 : Event Frame
+first54 = frame (record { id = 0x1CEBFF54; bytes = 0x01 ∷ 0x41 ∷ 0x43 ∷ 0x4D ∷ 0x45 ∷ 0x2A ∷ 0x58 ∷ 0x31 ∷ [] })
+
+abbrev pub second54 : Event Frame
+second54 = frame (record { id = 0x1CEBFF54; bytes = 0x02 ∷ 0x2A ∷ 0x39 ∷ 0xFF ∷ 0xFF ∷ 0xFF ∷ 0xFF ∷ 0xFF ∷ [] })
+
+-- an announcement of so many bytes in so many packets, as 54h would send it
+abbrev pub announced : ℕ → ℕ → ℕ → Told Meaning
+announced low high packets = meaningOf 0x1CECFF54 (0x20 ∷ low ∷ high ∷ packets ∷ 0xFF ∷ 0xEB ∷ 0xFE ∷ 0x00 ∷ [])
+
+abbrev pub eightSenders : List (Event Frame)
+eightSenders =
+    announces 1 nineBytes ∷ announces 2 nineBytes ∷ announces 3 nineBytes ∷ announces 4 nineBytes ∷ announces 5 nineBytes ∷ announces 6 nineBytes
+    ∷ announces 7 nineBytes ∷ announces 8 nineBytes ∷ []
+
+abbrev pub table : List Line
+table =
+    -- (1) DM_RV, priority 6, source 54h
+    line 1 (number (formedOf 6 0x1FECA 0x54)) (0 ∷ 0x19FECA54 ∷ [])
+    -- (2) lengths 8 and 9, announced and split
+    ∷ line 2 (meaning (announced 8 0 2)) (7 ∷ [])
+    ∷ line 2 (meaning (announced 9 0 2)) (0 ∷ 0x54 ∷ 9 ∷ 0xFEEB ∷ [])
+    ∷ line 2 (bytes (announcementOf (replicate 8 0) 0xFEEB)) (13 ∷ [])
+    ∷ line 2 (bytes (announcementOf (replicate 9 0) 0xFEEB)) (0 ∷ 0x20 ∷ 9 ∷ 0 ∷ 2 ∷ 0xFF ∷ 0xEB ∷ 0xFE ∷ 0 ∷ [])
+    -- (3) lengths 1,785 and 1,786, announced and split
+    ∷ line 3 (meaning (announced 0xF9 0x06 255)) (0 ∷ 0x54 ∷ 1785 ∷ 0xFEEB ∷ [])
+    ∷ line 3 (meaning (announced 0xFA 0x06 255)) (7 ∷ [])
+    ∷ line 3 (bytes (announcementOf (replicate 1785 0) 0xFEEB)) (0 ∷ 0x20 ∷ 0xF9 ∷ 0x06 ∷ 255 ∷ 0xFF ∷ 0xEB ∷ 0xFE ∷ 0 ∷ [])
+    ∷ line 3 (bytes (announcementOf (replicate 1786 0) 0xFEEB)) (13 ∷ [])
+    -- (4) count 1 for 9 bytes
+    ∷ line 4 (meaning (announced 9 0 1)) (7 ∷ [])
+    -- (5) idle 750 and 751: a pause closes none, or one
+    ∷ line 5 (number (pausedAnswer 750 oneOpen)) (0 ∷ 0 ∷ [])
+    ∷ line 5 (number (pausedAnswer 751 oneOpen)) (0 ∷ 1 ∷ [])
+    -- (6) a ninth sender
+    ∷ line 6 (answers (toldTo 9 (fresh storage) (eightSenders ++ (announces 9 nineBytes ∷ [])))) (8 ∷ [])
+    -- (7) the long message
+    ∷ line 7 (answers (toldTo 0x54 (fresh storage) (announcement54 ∷ pause 50 ∷ first54 ∷ pause 50 ∷ second54 ∷ [])))
+    (0 ∷ 1 ∷ 0 ∷ 2 ∷ 0 ∷ 0x54 ∷ 0xFEEB ∷ 0x41 ∷ 0x43 ∷ 0x4D ∷ 0x45 ∷ 0x2A ∷ 0x58 ∷ 0x31 ∷ 0x2A ∷ 0x39 ∷ [])
+    -- (8) 8-bit 252 is a number, 253 reserved: how far below the greatest code the class stands, 3 for a number
+    ∷ line 8 (belowGreatest (classAt 8 252) ∷ []) (3 ∷ [])
+    ∷ line 8 (belowGreatest (classAt 8 253) ∷ []) (2 ∷ [])
+    -- (9) 16-bit amperes, 32000
+    ∷ line 9 (signed (scaledOf Ampere 16 32000)) (0 ∷ 0 ∷ [])
+    -- (10) 8-bit °C, 0
+    ∷ line 10 (signed (scaledOf Celsius 8 0)) (1 ∷ 1280 ∷ [])
+    ∷ []
+
+-- Each line is as printed.
+
+infixr 5 _▸_
+pub data Agree : List Line → Type 0 where
+  end : Agree []
+  _▸_ : {l : Line} {lines : List Line} → l .computed ≡ l .printed → Agree lines → Agree (l ∷ lines)
+
+abbrev pub AllAsPrinted : Type 0
+AllAsPrinted = Agree table

@@ -1,0 +1,1 @@
+// The proved examples of document 01: one table, one statement. There is no code here.
