@@ -1,0 +1,36 @@
+-- `message_vectors::announced_of` meets its contract. Assumes nothing.
+use mathlib.Core.Path.{sym}
+use native.Mathlib.Omega.{arith}
+use borrow.Author.Needs.{needs}
+use lib.Seq.{length-take-le}
+use Rattle.message_vectors.proofs.announced_of.Statement.{statement}
+use Rattle.message_vectors.proofs.announced_of.Tie as tie
+
+pattern-requires : tie.Need-pattern-requires
+pattern-requires c κs = search needs
+
+slice-aggregate-all : tie.Need-slice-aggregate-all
+slice-aggregate-all c = search needs
+
+slice-aggregate-announced : tie.Need-slice-aggregate-announced
+slice-aggregate-announced c = sym (length-take-le (c .before .before .before .before .args .n) (c .before .before .before .pattern .result) (omega arith))
+
+announced-requires : tie.Need-announced-requires
+announced-requires c κs = search needs
+
+returns : tie.Need-returns
+returns c = search needs
+
+returns-2 : tie.Need-returns-2
+returns-2 c = search needs
+
+pub announced-of-spec : {M : Type 1} → statement M
+announced-of-spec =
+    tie.close
+    (tie.spec
+    pattern-requires
+    slice-aggregate-all
+    slice-aggregate-announced
+    announced-requires
+    returns
+    returns-2)
