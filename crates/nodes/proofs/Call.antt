@@ -1,0 +1,85 @@
+-- A call judged: what is asked of a table, by the first refusal that applies, and the answer, the turns and the claim that belong to it.
+-- Assumes nothing.
+use mathlib.Core.Path.{_≡_, sym, ap, _∙_}
+use mathlib.Core.List.{List}
+use mathlib.Core.Bool.{true, false}
+use Prim.Native.Nat.{ℕ, _≤_, _<_}
+use borrow.Author.Tests.{lt-ltb, le-ltb}
+use lib.ListN.{length, getD}
+use Rattle.frame.specs.Words.{Told, refused, gives}
+use Rattle.frame.specs.Frame.{checkedOf}
+use Rattle.frame.specs.declared.Parts.{Parts}
+use Rattle.nodes.specs.Table.{greatestAddress, addresses, absent, keepsRules}
+use Rattle.nodes.specs.Call.{Asked, nothing, claims, askedBy, askedOf, claimOutcome, answerOf, nobody, holderOf, lookedUpOf}
+use Rattle.nodes.specs.Promises.{toldHeard}
+use Rattle.nodes.specs.Inside.{turnsOf, claimOf, unaskedAs, JudgedAs}
+use Rattle.nodes.specs.declared.Node.{Node}
+use Rattle.nodes.specs.declared.Claim.{Claim}
+use Rattle.nodes.specs.declared.Judged.{Judged}
+use Rattle.nodes.specs.declared.Heard.{Heard}
+use Rattle.nodes.specs.declared.Heard.the-variants.{NothingToDo}
+
+module _ (records : List Node) (told : Told Asked) (r : Judged) where
+  pub judged-refused : (n : ℕ) (h : Heard) → told ≡ refused n → toldHeard h ≡ refused n → r ≡ unaskedAs h → JudgedAs records told r
+  judged-refused n h t e u =
+      record {
+        answer = ap (λ (j : Judged). toldHeard (j .answer)) u ∙ e ∙ sym (ap (answerOf records) t);
+        turns = ap (λ (j : Judged). j .turns) u ∙ sym (ap turnsOf t);
+        claim = ap (λ (j : Judged). j .claim) u ∙ sym (ap claimOf t);
+      }
+
+  pub judged-nothing : told ≡ gives nothing → r ≡ unaskedAs NothingToDo → JudgedAs records told r
+  judged-nothing t u =
+      record {
+        answer = ap (λ (j : Judged). toldHeard (j .answer)) u ∙ sym (ap (answerOf records) t);
+        turns = ap (λ (j : Judged). j .turns) u ∙ sym (ap turnsOf t);
+        claim = ap (λ (j : Judged). j .claim) u ∙ sym (ap claimOf t);
+      }
+
+  pub judged-claim : (claim : Claim) → told ≡ gives (claims claim) → toldHeard (r .answer) ≡ gives (claimOutcome records claim)
+      → r .turns ≡ addresses → r .claim ≡ claim → JudgedAs records told r
+  judged-claim claim t a n e =
+      record {
+        answer = a ∙ sym (ap (answerOf records) t);
+        turns = n ∙ sym (ap turnsOf t);
+        claim = e ∙ sym (ap claimOf t);
+      }
+
+-- what is asked of a table, by the first refusal that applies
+module _ (size : ℕ) (records : List Node) (id : ℕ) (bytes : List ℕ) where
+  pub asked-short : size < addresses → askedOf size records id bytes ≡ refused 1
+  unfolding askedOf
+  asked-short h = rw (lt-ltb _ _ h)
+
+  pub asked-broken : addresses ≤ size → keepsRules records ≡ false → askedOf size records id bytes ≡ refused 2
+  unfolding askedOf
+  asked-broken h k = rw (le-ltb _ _ h, k)
+
+  pub asked-bad : addresses ≤ size → keepsRules records ≡ true → (n : ℕ) → checkedOf id (length bytes) ≡ refused n
+      → askedOf size records id bytes ≡ refused n
+  unfolding askedOf
+  asked-bad h k n e = rw (le-ltb _ _ h, k, e)
+
+  pub asked-sound : addresses ≤ size → keepsRules records ≡ true → (p : Parts) → checkedOf id (length bytes) ≡ gives p
+      → askedOf size records id bytes ≡ gives (askedBy p bytes)
+  unfolding askedOf
+  asked-sound h k p e = rw (le-ltb _ _ h, k, e)
+
+-- what is looked up, likewise
+module _ (size : ℕ) (records : List Node) (address : ℕ) where
+  pub looked-short : size < addresses → lookedUpOf size records address ≡ refused 1
+  unfolding lookedUpOf
+  looked-short h = rw (lt-ltb _ _ h)
+
+  pub looked-broken : addresses ≤ size → keepsRules records ≡ false → lookedUpOf size records address ≡ refused 2
+  unfolding lookedUpOf
+  looked-broken h k = rw (le-ltb _ _ h, k)
+
+  pub looked-past : addresses ≤ size → keepsRules records ≡ true → greatestAddress < address → lookedUpOf size records address ≡ gives nobody
+  unfolding lookedUpOf
+  looked-past h k a = rw (le-ltb _ _ h, k, lt-ltb _ _ a)
+
+  pub looked-at : addresses ≤ size → keepsRules records ≡ true → address ≤ greatestAddress
+      → lookedUpOf size records address ≡ gives (holderOf (getD records address absent))
+  unfolding lookedUpOf
+  looked-at h k a = rw (le-ltb _ _ h, k, le-ltb _ _ a)

@@ -1,0 +1,12 @@
+pub mod Rules
+pub mod Call
+pub mod Each
+pub mod Copy
+pub mod Record
+pub mod Array
+pub mod Calls
+pub mod Pass
+pub mod Whole
+pub mod Sound
+pub mod Kept
+pub mod Laws

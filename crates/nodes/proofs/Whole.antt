@@ -1,0 +1,78 @@
+-- From what the core judges of the records read out to what the public calls promise of the whole table.
+-- Assumes nothing.
+use mathlib.Core.Path.{_≡_, refl, sym, ap, _∙_}
+use mathlib.Core.Bool.{Bool, true, false}
+use mathlib.Core.List.{List}
+use Prim.Native.Nat.{ℕ, _≤_, _<_}
+use native.Mathlib.Omega.{arith}
+use lib.ListN.{length, take, replicate}
+use lib.Dec.{ltb}
+use borrow.Author.Tests.{ltb-true, ltb-false}
+use Rattle.frame.specs.Words.{if_then_else_, Told, refused, gives}
+use Rattle.frame.proofs.Words.{past-refusal}
+use Rattle.nodes.specs.Table.{addresses, absent}
+use Rattle.nodes.specs.Call.{Asked, nothing, claims, askedOf, answerOf, leftBy, lookedUpOf}
+use Rattle.nodes.specs.Promises.{Hear, LookUp, toldLookedUp}
+use Rattle.nodes.specs.Inside.{afterOf, eachFrom, recordsOf, JudgedAs, turnsOf, claimOf}
+use Rattle.nodes.specs.declared.Node.{Node}
+use Rattle.nodes.specs.declared.Judged.{Judged}
+use Rattle.nodes.specs.declared.LookedUp.{LookedUp}
+use Rattle.nodes.proofs.Call.{asked-short, looked-short}
+use Rattle.nodes.proofs.Pass.{pass-claims}
+
+-- nothing is asked but of a table that has all the addresses
+pub given-long : (size : ℕ) (records : List Node) (id : ℕ) (bytes : List ℕ) (a : Asked) → askedOf size records id bytes ≡ gives a → addresses ≤ size
+unfolding askedOf
+given-long size records id bytes a e = ltb-false size addresses (past-refusal (ltb size addresses) 1 _ e .0)
+
+turns-by : (size : ℕ) (records : List Node) (id : ℕ) (bytes : List ℕ) (told : Told Asked) → askedOf size records id bytes ≡ told → turnsOf told ≤ size
+turns-by size records id bytes (refused n) e = omega arith
+turns-by size records id bytes (gives nothing) e = omega arith
+turns-by size records id bytes (gives (claims c)) e = given-long size records id bytes (claims c) e
+
+-- the pass leaves what the definition leaves
+pass-left : (told : Told Asked) (table : List Node) → eachFrom (afterOf (claimOf told)) (turnsOf told) 0 table ≡ leftBy told table
+unfolding eachFrom
+pass-left (refused n) table = refl
+pass-left (gives nothing) table = refl
+pass-left (gives (claims c)) table = pass-claims c table
+
+-- the records are the table's, or the table is refused before they are looked at
+module _ (table : List Node) (id : ℕ) (bytes : List ℕ) where
+  abbrev asked : List Node → Told Asked
+  asked records = askedOf (length table) records id bytes
+
+  same-by : (t : Bool) → ltb (length table) addresses ≡ t
+      → answerOf (if t then replicate addresses absent else take addresses table) (asked (if t then replicate addresses absent else take addresses table))
+      ≡ answerOf (take addresses table) (asked (take addresses table))
+  same-by true e =
+      let h : length table < addresses = ltb-true _ _ e in
+      ap (answerOf (replicate addresses absent)) (asked-short _ _ id bytes h) ∙ sym (ap (answerOf (take addresses table)) (asked-short _ _ id bytes h))
+  same-by false e = refl
+
+  asked-by : (t : Bool) → ltb (length table) addresses ≡ t → asked (if t then replicate addresses absent else take addresses table) ≡ asked (take addresses table)
+  asked-by true e = let h : length table < addresses = ltb-true _ _ e in asked-short _ _ id bytes h ∙ sym (asked-short _ _ id bytes h)
+  asked-by false e = refl
+
+  asked-same : asked (recordsOf table) ≡ asked (take addresses table)
+  asked-same = asked-by (ltb (length table) addresses) refl
+
+  module _ (r : Judged) (j : JudgedAs (recordsOf table) (asked (recordsOf table)) r) where
+    pub judged-inside : r .turns ≤ length table
+    judged-inside = let h = turns-by (length table) (recordsOf table) id bytes (asked (recordsOf table)) refl in rw (j .turns) h
+
+    pub judged-heard : Hear table id bytes (r .answer) (eachFrom (afterOf (r .claim)) (r .turns) 0 table)
+    judged-heard =
+        record {
+          answer = j .answer ∙ same-by (ltb (length table) addresses) refl;
+          table-after = rw (j .turns, j .claim, asked-same) (pass-left (asked (take addresses table)) table);
+        }
+
+module _ (table : List Node) (address : ℕ) where
+  looked-by : (t : Bool) → ltb (length table) addresses ≡ t
+      → lookedUpOf (length table) (if t then replicate addresses absent else take addresses table) address ≡ lookedUpOf (length table) (take addresses table) address
+  looked-by true e = let h : length table < addresses = ltb-true _ _ e in looked-short _ _ address h ∙ sym (looked-short _ _ address h)
+  looked-by false e = refl
+
+  pub judged-looked : (r : LookedUp) → toldLookedUp r ≡ lookedUpOf (length table) (recordsOf table) address → LookUp table address r
+  judged-looked r e = record { answer = e ∙ looked-by (ltb (length table) addresses) refl }

@@ -1,0 +1,70 @@
+-- `nodes::flat::held_from` meets its contract. Assumes nothing.
+use mathlib.Core.Path.{_≡_, refl, sym, _∙_}
+use Prim.Native.Nat.{_-_, _≤_, _<_}
+use native.Mathlib.Omega.{arith}
+use borrow.Author.Needs.{needs}
+use lib.ListN.{length, drop}
+use Rattle.nodes.specs.Table.{heldIn}
+use Rattle.nodes.proofs.Rules.{length-field, held-turn, held-hit, held-end}
+use Rattle.nodes.proofs.flat.held_from.Statement.{statement}
+use Rattle.nodes.proofs.flat.held_from.Tie as tie
+
+abbrev Inv-loop : tie.InvT-loop
+Inv-loop from name records i₀ i = (i ≤ 254) × (length records ≡ 254) × (heldIn name (drop i records) ≡ heldIn name (drop i₀ records))
+
+abbrev μ-loop : tie.MeasureT-loop
+μ-loop from name records i₀ i = 254 - i
+
+loop-holds : tie.Need-loop-holds Inv-loop μ-loop
+loop-holds c =
+    let e : length (c .args .t1) ≡ 254 = search length-field in
+    (c .pre, e, refl)
+
+mul-has-name : tie.Need-mul-has-name Inv-loop μ-loop
+mul-has-name c = search needs
+
+array-copy-out-has-name : tie.Need-array-copy-out-has-name Inv-loop μ-loop
+array-copy-out-has-name c = search needs
+
+has-name-requires : tie.Need-has-name-requires Inv-loop μ-loop
+has-name-requires c κs = search needs
+
+returns : tie.Need-returns Inv-loop μ-loop
+returns c =
+    let l = c .before .before .before .before .loop in
+    let h : l .i < length (c .before .before .before .before .before .args .t1) = omega arith in
+    sym (held-hit _ _ (l .i) h (sym (c .before .has-name .ensures) ∙ c .if1 .taken)) ∙ l .inv .2
+
+add-i : tie.Need-add-i Inv-loop μ-loop
+add-i c = search needs
+
+loop-less : tie.Need-loop-less Inv-loop μ-loop
+loop-less c = search needs
+
+loop-again : tie.Need-loop-again Inv-loop μ-loop
+loop-again c =
+    let l = c .before .before .before .before .loop in
+    let h : l .i < length (c .before .before .before .before .before .args .t1) = omega arith in
+    (omega arith, l .inv .1, sym (held-turn _ _ (l .i) h (sym (c .before .has-name .ensures) ∙ c .if1 .left)) ∙ l .inv .2)
+
+returns-2 : tie.Need-returns-2 Inv-loop μ-loop
+returns-2 c =
+    let l = c .before .loop in
+    let h : length (c .before .before .args .t1) ≤ l .i = omega arith in
+    sym (held-end _ (c .before .before .args .t1) (l .i) h) ∙ l .inv .2
+
+pub held-from-spec : {M : Type 1} → statement M
+held-from-spec =
+    tie.close
+    (tie.spec
+    Inv-loop
+    μ-loop
+    loop-holds
+    mul-has-name
+    array-copy-out-has-name
+    has-name-requires
+    returns
+    add-i
+    loop-less
+    loop-again
+    returns-2)

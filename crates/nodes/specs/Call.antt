@@ -1,0 +1,86 @@
+-- What a call on the node table is told and what it leaves (document 01, "Refusal numbers" 1 to 6 and "Node table"). It goes by the
+-- length of the table and the records of the addresses; no other record is read.
+use mathlib.Core.List.{List}
+use Prim.Native.Nat.{ℕ}
+use lib.ListN.{length, getD, take}
+use Rattle.frame.specs.Words.{if_then_else_, given_then_, _<?_, _=?_, Told, refused, gives}
+use Rattle.frame.specs.Bytes.{numberOf}
+use Rattle.frame.specs.Frame.{checkedOf}
+use Rattle.frame.specs.declared.Parts.{Parts}
+use Rattle.nodes.specs.Table.{greatestAddress, addresses, absent, givesWay, clearedOf, claimedOf, keepsRules}
+use Rattle.nodes.specs.declared.Node.{Node}
+use Rattle.nodes.specs.declared.Claim.{Claim}
+
+-- the DGN of an address claim; EExxh to one destination is another
+abbrev pub claimDgn : ℕ
+claimDgn = 0xEEFF
+
+-- what a frame asks of the table
+pub data Asked : Type 0 where
+  nothing : Asked
+  claims : Claim → Asked
+
+-- a claim has its NAME in the eight bytes, low byte first
+unfoldable pub askedBy : Parts → List ℕ → Asked
+askedBy parts bytes =
+    if parts .dgn =? claimDgn then claims (record { source = parts .source; name = numberOf bytes }) else
+    nothing
+
+-- refusals 1 and 2, which the table alone earns
+abbrev pub tableOr : {A : Type 0} → ℕ → List Node → Told A → Told A
+tableOr size records told =
+    if size <? addresses then refused 1 else
+    if keepsRules records then told else
+    refused 2
+
+-- a table of `size` records, of which those of the addresses are `records`, hears a frame
+unfoldable pub askedOf : ℕ → List Node → ℕ → List ℕ → Told Asked
+askedOf size records id bytes = tableOr size records (given checkedOf id (length bytes) then (λ parts. gives (askedBy parts bytes)))
+
+-- what came of it
+pub data Outcome : Type 0 where
+  nothingToDo : Outcome
+  -- the record of this address has taken the NAME, or stays with a lower one
+  taken : ℕ → Outcome
+  heldByLower : ℕ → Outcome
+  -- the claim came from 254: its sender has no address
+  silent : Outcome
+
+unfoldable pub claimOutcome : List Node → Claim → Outcome
+claimOutcome records claim =
+    if greatestAddress <? claim .source then silent else
+    if givesWay (claim .name) (clearedOf (claim .name) (getD records (claim .source) absent)) then taken (claim .source) else
+    heldByLower (claim .source)
+
+abbrev pub outcomeOf : List Node → Asked → Outcome
+outcomeOf records nothing = nothingToDo
+outcomeOf records (claims claim) = claimOutcome records claim
+
+abbrev pub answerOf : List Node → Told Asked → Told Outcome
+answerOf records told = given told then (λ asked. gives (outcomeOf records asked))
+
+-- a refusal, and a frame that asks nothing, leave the table
+abbrev pub leftBy : Told Asked → List Node → List Node
+leftBy (refused n) table = table
+leftBy (gives nothing) table = table
+leftBy (gives (claims claim)) table = claimedOf claim table
+
+-- hear: what it tells, and the table at exit
+abbrev pub heardOf : List Node → ℕ → List ℕ → Told Outcome
+heardOf table id bytes = answerOf (take addresses table) (askedOf (length table) (take addresses table) id bytes)
+
+abbrev pub tableAfter : List Node → ℕ → List ℕ → List Node
+tableAfter table id bytes = leftBy (askedOf (length table) (take addresses table) id bytes) table
+
+-- look_up: who has an address; above 253 nobody has one
+pub data Holder : Type 0 where
+  nobody : Holder
+  holder : ℕ → Holder
+
+unfoldable pub holderOf : Node → Holder
+holderOf n = if n .present then holder (n .name) else nobody
+
+unfoldable pub lookedUpOf : ℕ → List Node → ℕ → Told Holder
+lookedUpOf size records address =
+    tableOr size records
+    (if greatestAddress <? address then gives nobody else gives (holderOf (getD records address absent)))

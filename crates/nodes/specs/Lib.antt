@@ -1,0 +1,5 @@
+pub mod Table
+pub mod Call
+pub mod Promises
+pub mod Inside
+pub mod Laws

@@ -1,0 +1,41 @@
+-- What each public call of this crate promises: one proposition over its answer and the whole table at exit. The answers are read in
+-- document 01's terms.
+use mathlib.Core.Path.{_≡_}
+use mathlib.Core.List.{List}
+use Prim.Native.Nat.{ℕ}
+use lib.ListN.{length, take}
+use Rattle.frame.specs.Words.{Told, refused, gives}
+use Rattle.frame.specs.Promises.{refusalOf}
+use Rattle.nodes.specs.Table.{addresses}
+use Rattle.nodes.specs.Call.{Outcome, nothingToDo, taken, heldByLower, silent, Holder, nobody, holder, heardOf, tableAfter, lookedUpOf}
+use Rattle.nodes.specs.declared.Node.{Node}
+use Rattle.nodes.specs.declared.Heard.{Heard}
+use Rattle.nodes.specs.declared.Heard.the-variants as Heard
+use Rattle.nodes.specs.declared.LookedUp.{LookedUp}
+use Rattle.nodes.specs.declared.LookedUp.the-variants as LookedUp
+
+-- hear
+
+abbrev pub toldHeard : Heard → Told Outcome
+toldHeard (Heard.Taken address) = gives (taken address)
+toldHeard (Heard.HeldByLower address) = gives (heldByLower address)
+toldHeard Heard.Silent = gives silent
+toldHeard Heard.NothingToDo = gives nothingToDo
+toldHeard Heard.TableTooShort = refused 1
+toldHeard Heard.BrokenTable = refused 2
+toldHeard (Heard.BadFrame why) = refused (refusalOf why)
+
+pub record Hear (table : List Node) (id : ℕ) (bytes : List ℕ) (r : Heard) (after : List Node) : Type 0 where
+  pub answer : toldHeard r ≡ heardOf table id bytes
+  pub table-after : after ≡ tableAfter table id bytes
+
+-- look_up; the table is only read
+
+abbrev pub toldLookedUp : LookedUp → Told Holder
+toldLookedUp (LookedUp.Present name) = gives (holder name)
+toldLookedUp LookedUp.Absent = gives nobody
+toldLookedUp LookedUp.TableTooShort = refused 1
+toldLookedUp LookedUp.BrokenTable = refused 2
+
+pub record LookUp (table : List Node) (address : ℕ) (r : LookedUp) : Type 0 where
+  pub answer : toldLookedUp r ≡ lookedUpOf (length table) (take addresses table) address

@@ -1,0 +1,89 @@
+// The node table: which NAME holds which address. The table is a slice of records that the caller lends; record a stands for address a.
+mod flat; // the work on values
+
+ghost use mathlib.Core.Path.{_≡_};
+ghost use Prim.Native.Nat.{_≤_};
+ghost use lib.ListN.{length};
+ghost use Rattle.nodes.specs.Promises.{Hear, LookUp};
+ghost use Rattle.nodes.specs.Inside.{afterOf, eachFrom, recordsOf};
+
+// A record: whether a node holds the address, and its NAME. A cleared record is absent with NAME 0.
+pub struct Node {
+    pub present: bool,
+    pub name: u64,
+}
+
+// What came of a frame: a claim's record took the NAME, or stays with a lower one; a claim from 254, whose sender has no address; or
+// refusal 1, 2, or 3 to 6.
+pub enum Heard {
+    Taken(u8),
+    HeldByLower(u8),
+    Silent,
+    NothingToDo,
+    TableTooShort,
+    BrokenTable,
+    BadFrame(frame::BadFrame),
+}
+
+// Who has an address, or refusal 1 or 2.
+pub enum LookedUp {
+    Present(u64),
+    Absent,
+    TableTooShort,
+    BrokenTable,
+}
+
+// Hears a frame: a claim clears its NAME from every record, and then takes the record of its source.
+pub fn hear(table: &mut [Node], id: u32, bytes: &[u8]) -> Heard
+    ensures { λ r. ⌜ Hear (now (table .entry)) id (now (bytes .entry)) r (now (table .exit)) ⌝ }
+{
+    let judged = flat::judge(table.len(), records(table), id, bytes);
+    claimed(table, judged.turns, judged.claim);
+    judged.answer
+}
+
+// Looks up who has an address. Above 253 nobody has.
+pub fn look_up(table: &[Node], address: u8) -> LookedUp
+    ensures { λ r. ⌜ LookUp (now (table .entry)) address r ⌝ }
+{
+    flat::looked_up(table.len(), records(table), address)
+}
+
+// A claim: who sends it, and its NAME.
+struct Claim {
+    source: u8,
+    name: u64,
+}
+
+// A call judged: its answer, over how many records its claim goes, and the claim.
+struct Judged {
+    answer: Heard,
+    turns: usize,
+    claim: Claim,
+}
+
+// The one pass over the lent table: the claim's NAME is cleared, and the record of its source taken.
+fn claimed(table: &mut [Node], turns: usize, claim: Claim)
+    requires { ⌜ turns ≤ length (now table) ⌝ }
+    ensures { λ _. ⌜ now (table .exit) ≡ eachFrom (afterOf claim) turns 0 (now (table .entry)) ⌝ }
+{
+    let mut i: usize = 0;
+    while i < turns {
+        table[i] = flat::after(table[i], i, claim);
+        i += 1;
+    }
+}
+
+// The records of the addresses, read out of the lent table.
+fn records(table: &[Node]) -> [Node; 254]
+    ensures { λ r. ⌜ r ≡ recordsOf (now (table .entry)) ⌝ }
+{
+    let count = flat::readable(table.len());
+    let mut out = flat::blank();
+    let mut i: usize = 0;
+    while i < count {
+        out[i] = table[i];
+        i += 1;
+    }
+    out
+}
