@@ -1,0 +1,330 @@
+-- The statements of specs/Laws.antt on answers, refusals and what is handed in, proved.
+-- Assumes nothing.
+use mathlib.Core.Path.{_≡_, refl, sym, ap, _∙_}
+use mathlib.Core.Bool.{Bool, true, false, not}
+use mathlib.Core.List.{List}
+use Prim.Native.Nat.{ℕ, _-_, _/_, _≤_}
+use native.Mathlib.Nat.{div-one}
+use native.Mathlib.Omega.{arith}
+use borrow.Author.Tests.{eqb-true}
+use lib.ListN.{length, getD, replicate}
+use lib.Seq.{take-at, length-take-le}
+use Rattle.frame.specs.Words.{if_then_else_, _≤?_, _=?_, _and_, Told, refused, gives, given_then_}
+use Rattle.frame.specs.Identifier.{greatestDgn, destinationOf, catalogueForm}
+use Rattle.frame.specs.Frame.{checkedOf}
+use Rattle.frame.specs.Laws.{toldButPriority}
+use Rattle.frame.specs.declared.Parts.{Parts}
+use Rattle.frame.specs.declared.BadFrame.the-variants.{IdentifierTooLarge, NotEightBytes, ReservedBitSet, SourceNotAllowed}
+use Rattle.frame.proofs.Words.{by-test, both-true, before-refusal, refused-gives}
+use Rattle.frame.proofs.Laws as frame-laws
+use Rattle.places.specs.Layout.{every}
+use Rattle.claim.specs.Claim.{keepsRules, holdsList, standOf}
+use Rattle.claim.specs.Promises.{Done, done}
+use Rattle.claim.specs.declared.Claim.{Claim}
+use Rattle.command.specs.Hosted.{mostEntries, blankEntry, isHostedDgn, isEntry, noPairRepeats, hosted, isWellFormed, begun}
+use Rattle.command.specs.Handed.{handedIn}
+use Rattle.command.specs.Commands as Commands
+use Rattle.command.specs.Commands.{Outcome, picks, routeOf, routedOf}
+use Rattle.command.specs.Acknowledgment.{Frame}
+use Rattle.command.specs.Requests as Requests
+use Rattle.command.specs.Requests.{requestedDgn, Reply, claims, supported, nak, unsupported, askedOf, requestedOf}
+use Rattle.command.specs.Promises.{toldStarting, startedOf, toldRouting, toldRequesting, toldAcknowledging}
+use Rattle.command.specs.Laws as the
+use Rattle.command.specs.declared.Host.{Host}
+use Rattle.command.specs.declared.Starting.{Starting}
+use Rattle.command.specs.declared.Starting.the-variants as Starting
+use Rattle.command.specs.declared.Routing.{Routing}
+use Rattle.command.specs.declared.Routing.the-variants as Routing
+use Rattle.command.specs.declared.Requesting.{Requesting}
+use Rattle.command.specs.declared.Requesting.the-variants as Requesting
+use Rattle.command.specs.declared.Acknowledging.{Acknowledging}
+use Rattle.command.specs.declared.Acknowledging.the-variants as Acknowledging
+use Rattle.command.proofs.Handing.{handed-broken, handed-lists}
+use Rattle.command.proofs.Answers.{acknowledged-broken, acknowledged-nobody, acknowledged-ill, acknowledged-large, acknowledged-unheld, routed-refused, requested-refused, route-other, route-unheld, asked-other, asked-large}
+
+-- an answer is read back from what it tells
+
+startingBack : Told Done → Starting
+startingBack (gives d) = Starting.Hosted
+startingBack (refused n) = Starting.ListMalformed
+
+starting-back : (r : Starting) → startingBack (toldStarting r) ≡ r
+unfolding startingBack
+starting-back Starting.Hosted = refl
+starting-back Starting.ListMalformed = refl
+
+pub told-starting-same : the.ToldStartingSame
+told-starting-same r s e = sym (starting-back r) ∙ ap startingBack e ∙ starting-back s
+
+routingBack : Told Outcome → Routing
+routingBack (gives Commands.nothingToDo) = Routing.NothingToDo
+routingBack (gives (picks ps)) = Routing.Picked
+routingBack (refused n) =
+    if n =? 2 then Routing.StateBroken else
+    if n =? 16 then Routing.ListMalformed else
+    if n =? 18 then Routing.NoAddressHeld else
+    Routing.BadFrame (frame-laws.badBack n)
+
+routing-back : (r : Routing) (ps : List ℕ) → routingBack (toldRouting r ps) ≡ r
+unfolding routingBack
+routing-back Routing.NothingToDo ps = refl
+routing-back Routing.Picked ps = refl
+routing-back Routing.StateBroken ps = refl
+routing-back (Routing.BadFrame IdentifierTooLarge) ps = ap Routing.BadFrame (frame-laws.bad-back IdentifierTooLarge)
+routing-back (Routing.BadFrame NotEightBytes) ps = ap Routing.BadFrame (frame-laws.bad-back NotEightBytes)
+routing-back (Routing.BadFrame ReservedBitSet) ps = ap Routing.BadFrame (frame-laws.bad-back ReservedBitSet)
+routing-back (Routing.BadFrame SourceNotAllowed) ps = ap Routing.BadFrame (frame-laws.bad-back SourceNotAllowed)
+routing-back Routing.ListMalformed ps = refl
+routing-back Routing.NoAddressHeld ps = refl
+
+pub told-routing-same : the.ToldRoutingSame
+told-routing-same r s ps qs e = sym (routing-back r ps) ∙ ap routingBack e ∙ routing-back s qs
+
+requestingBack : Told Reply → Requesting
+requestingBack (gives Requests.nothingToDo) = Requesting.NothingToDo
+requestingBack (gives (claims f)) = Requesting.ClaimSent
+requestingBack (gives (supported ps)) = Requesting.Supported
+requestingBack (gives (nak f)) = Requesting.NakSent
+requestingBack (gives unsupported) = Requesting.Unsupported
+requestingBack (refused n) =
+    if n =? 2 then Requesting.StateBroken else
+    if n =? 16 then Requesting.ListMalformed else
+    if n =? 17 then Requesting.DgnTooLarge else
+    if n =? 18 then Requesting.NoAddressHeld else
+    Requesting.BadFrame (frame-laws.badBack n)
+
+requesting-back : (r : Requesting) (ps : List ℕ) (f : Frame) → requestingBack (toldRequesting r ps f) ≡ r
+unfolding requestingBack
+requesting-back Requesting.NothingToDo ps f = refl
+requesting-back Requesting.ClaimSent ps f = refl
+requesting-back Requesting.Supported ps f = refl
+requesting-back Requesting.NakSent ps f = refl
+requesting-back Requesting.Unsupported ps f = refl
+requesting-back Requesting.StateBroken ps f = refl
+requesting-back (Requesting.BadFrame IdentifierTooLarge) ps f = ap Requesting.BadFrame (frame-laws.bad-back IdentifierTooLarge)
+requesting-back (Requesting.BadFrame NotEightBytes) ps f = ap Requesting.BadFrame (frame-laws.bad-back NotEightBytes)
+requesting-back (Requesting.BadFrame ReservedBitSet) ps f = ap Requesting.BadFrame (frame-laws.bad-back ReservedBitSet)
+requesting-back (Requesting.BadFrame SourceNotAllowed) ps f = ap Requesting.BadFrame (frame-laws.bad-back SourceNotAllowed)
+requesting-back Requesting.ListMalformed ps f = refl
+requesting-back Requesting.DgnTooLarge ps f = refl
+requesting-back Requesting.NoAddressHeld ps f = refl
+
+pub told-requesting-same : the.ToldRequestingSame
+told-requesting-same r s ps qs f g e = sym (requesting-back r ps f) ∙ ap requestingBack e ∙ requesting-back s qs g
+
+acknowledgingBack : Told Frame → Acknowledging
+acknowledgingBack (gives f) = Acknowledging.Formed
+acknowledgingBack (refused n) =
+    if n =? 2 then Acknowledging.StateBroken else
+    if n =? 6 then Acknowledging.RequesterNotAllowed else
+    if n =? 16 then Acknowledging.ListMalformed else
+    if n =? 17 then Acknowledging.DgnTooLarge else
+    Acknowledging.NoAddressHeld
+
+acknowledging-back : (r : Acknowledging) (f : Frame) → acknowledgingBack (toldAcknowledging r f) ≡ r
+unfolding acknowledgingBack
+acknowledging-back Acknowledging.Formed f = refl
+acknowledging-back Acknowledging.StateBroken f = refl
+acknowledging-back Acknowledging.RequesterNotAllowed f = refl
+acknowledging-back Acknowledging.ListMalformed f = refl
+acknowledging-back Acknowledging.DgnTooLarge f = refl
+acknowledging-back Acknowledging.NoAddressHeld f = refl
+
+pub told-acknowledging-same : the.ToldAcknowledgingSame
+told-acknowledging-same r s f g e = sym (acknowledging-back r f) ∙ ap acknowledgingBack e ∙ acknowledging-back s g
+
+-- no second answer
+
+pub start-only : the.StartOnly
+start-only entries count r s p q =
+    let a = told-starting-same (r .answer) (s .answer) (p .answer ∙ sym (q .answer)) in
+    let h = p .state ∙ sym (q .state) in
+    λ i. record { host = h i; answer = a i }
+
+pub route-only : the.RouteOnly
+route-only id bytes h c r s p q =
+    let a = told-routing-same (r .answer) (s .answer) _ _ (p .answer ∙ sym (q .answer)) in
+    let x = p .positions ∙ sym (q .positions) in
+    λ i. record { answer = a i; positions = x i }
+
+pub request-only : the.RequestOnly
+request-only id bytes h c r s p q =
+    let a = told-requesting-same (r .answer) (s .answer) _ _ _ _ (p .answer ∙ sym (q .answer)) in
+    let x = p .positions ∙ sym (q .positions) in
+    let d = p .sent-id ∙ sym (q .sent-id) in
+    let b = p .sent-bytes ∙ sym (q .sent-bytes) in
+    λ i. record { answer = a i; positions = x i; id = d i; bytes = b i }
+
+pub acknowledge-only : the.AcknowledgeOnly
+acknowledge-only c requester code instance dgn r s p q =
+    let a = told-acknowledging-same (r .answer) (s .answer) _ _ (p .answer ∙ sym (q .answer)) in
+    let d = p .sent-id ∙ sym (q .sent-id) in
+    let b = p .sent-bytes ∙ sym (q .sent-bytes) in
+    λ i. record { answer = a i; id = d i; bytes = b i }
+
+-- a refusal keeps
+
+pub start-refused-keeps : the.StartRefusedKeeps
+unfolding startedOf
+start-refused-keeps entries count r n p e =
+    by-test (isWellFormed (record { entries = entries; count = count }))
+    (λ w. refused-gives {a = done} (sym e ∙ p .answer ∙ rw w))
+    (λ w. p .state ∙ rw w)
+
+pub route-refused-keeps : the.RouteRefusedKeeps
+route-refused-keeps id bytes h c r n p e = p .positions ∙ rw e
+
+pub request-refused-keeps : the.RequestRefusedKeeps
+request-refused-keeps id bytes h c r n p e = (p .positions ∙ rw e, (p .sent-id ∙ rw e, p .sent-bytes ∙ rw e))
+
+pub acknowledge-refused-keeps : the.AcknowledgeRefusedKeeps
+acknowledge-refused-keeps c requester code instance dgn r n p e = (p .sent-id ∙ rw e, p .sent-bytes ∙ rw e)
+
+-- the lowest number wins
+
+pub lowest-wins : (id : ℕ) (bytes : List ℕ) (h : Host) (c : Claim) → the.LowestWins id bytes h c
+unfolding handedIn
+lowest-wins id bytes h c =
+    record {
+      two = handed-broken id bytes h c;
+      three-to-six = λ n k e. rw (k, e);
+      sixteen-claim = λ p k e l. handed-lists id bytes h c p k e ∙ rw l;
+      sixteen-host = λ p k e w. handed-lists id bytes h c p k e ∙ ill (holdsList c) (isWellFormed h) p w;
+      fine = λ p s e w. let b = both-true (keepsRules c) (holdsList c) s in handed-lists id bytes h c p (b .0) e ∙ rw (b .1, w);
+      passed-on = λ n e. (routed-refused id bytes h c n e, requested-refused id bytes h c n e);
+    }
+  where
+    ill : (a b : Bool) (p : Parts) → b ≡ false → (if not (a and b) then refused 16 else gives p) ≡ refused 16
+    ill true b p w = rw w
+    ill false b p w = refl
+
+pub acknowledge-lowest-wins : (c : Claim) (requester code instance dgn : ℕ) → the.AcknowledgeLowestWins c requester code instance dgn
+acknowledge-lowest-wins c requester code instance dgn =
+    record {
+      two = acknowledged-broken c requester code instance dgn;
+      six = acknowledged-nobody c requester code instance dgn;
+      sixteen = acknowledged-ill c requester code instance dgn;
+      seventeen = λ s q d. let b = both-true (keepsRules c) (holdsList c) s in acknowledged-large c requester code instance dgn (b .0) q (b .1) d;
+      eighteen = λ s q d a. let b = both-true (keepsRules c) (holdsList c) s in acknowledged-unheld c requester code instance dgn (standOf c) refl a (b .0) q (b .1) d;
+    }
+
+-- a frame is read by its DGN and its source alone
+
+handed-but : (id : ℕ) (bytes : List ℕ) (h : Host) (c : Claim)
+    → toldButPriority (handedIn id bytes h c)
+    ≡ (if not (keepsRules c) then refused 2 else
+    given toldButPriority (checkedOf id (length bytes)) then λ q.
+    if not (holdsList c and isWellFormed h) then refused 16 else
+    gives q)
+unfolding handedIn
+handed-but id bytes h c =
+    by-test (keepsRules c)
+    (λ k. rw k (go (checkedOf id (length bytes))))
+    (λ k. rw k)
+  where
+    go : (t : Told Parts)
+        → toldButPriority (given t then λ p. if not (holdsList c and isWellFormed h) then refused 16 else gives p)
+        ≡ (given toldButPriority t then λ q. if not (holdsList c and isWellFormed h) then refused 16 else gives q)
+    go (refused n) = refl
+    go (gives p) =
+        by-test (holdsList c and isWellFormed h)
+        (λ w. rw w)
+        (λ w. rw w)
+
+routed-but : (t : Told Parts) (bytes : List ℕ) (h : Host) (c : Claim)
+    → (given t then λ p. routeOf (p .dgn) (getD bytes 0 0) (hosted h) (standOf c))
+    ≡ (given toldButPriority t then λ q. routeOf (q .0) (getD bytes 0 0) (hosted h) (standOf c))
+routed-but (refused n) bytes h c = refl
+routed-but (gives p) bytes h c = refl
+
+asked-but : (t : Told Parts) (bytes : List ℕ) (h : Host) (c : Claim)
+    → (given t then λ p. askedOf p bytes (hosted h) c)
+    ≡ (given toldButPriority t then λ q. askedOf (record { priority = 0; dgn = q .0; source = q .1 }) bytes (hosted h) c)
+unfolding askedOf
+asked-but (refused n) bytes h c = refl
+asked-but (gives p) bytes h c = refl
+
+pub priority-ignored : the.PriorityIgnored
+unfolding routedOf requestedOf
+priority-ignored id id′ bytes h c l l′ e =
+    let q = frame-laws.priority-ignored id id′ (length bytes) l l′ e in
+    let t : toldButPriority (handedIn id bytes h c) ≡ toldButPriority (handedIn id′ bytes h c) = handed-but id bytes h c ∙ rw q (sym (handed-but id′ bytes h c)) in (
+      rw (routed-but (handedIn id bytes h c) bytes h c, t) (sym (routed-but (handedIn id′ bytes h c) bytes h c)),
+      rw (asked-but (handedIn id bytes h c) bytes h c, t) (sym (asked-but (handedIn id′ bytes h c) bytes h c)),
+    )
+
+-- only the entries count
+
+well-same : (h h′ : Host) → h .count ≡ h′ .count → hosted h ≡ hosted h′ → isWellFormed h ≡ isWellFormed h′
+unfolding isWellFormed
+well-same h h′ n e = λ i. (n i ≤? mostEntries) and every isEntry (e i) and noPairRepeats (e i)
+
+pub past-count-ignored : the.PastCountIgnored
+unfolding handedIn routedOf requestedOf
+past-count-ignored id bytes h h′ c n e =
+    let w = well-same h h′ n e in
+    let t : handedIn id bytes h c ≡ handedIn id bytes h′ c = rw w in (
+      (λ i. given t i then λ p. routeOf (p .dgn) (getD bytes 0 0) (e i) (standOf c)),
+      (λ i. given t i then λ p. askedOf p bytes (e i) c),
+    )
+
+hosted-begun : (h : Host) → h .count ≤ length (h .entries) → hosted (begun h) ≡ hosted h
+unfolding begun
+hosted-begun h l = take-at (hosted h) (replicate (mostEntries - h .count) blankEntry) (h .count) (length-take-le (h .count) (h .entries) l)
+
+count-begun : (h : Host) → begun h .count ≡ h .count
+unfolding begun
+count-begun h = refl
+
+pub start-hosts : the.StartHosts
+unfolding startedOf
+start-hosts entries count r p e l =
+    let h : Host = record { entries = entries; count = count } in
+    let w = before-refusal (isWellFormed h) 16 (gives done) (sym (p .answer) ∙ e) .0 in
+    let b : r .host ≡ begun h = p .state ∙ rw w in (
+      ap hosted b ∙ hosted-begun h l,
+      ap isWellFormed b ∙ well-same (begun h) h (count-begun h) (hosted-begun h l) ∙ w,
+    )
+
+pub hosted-dgn-low : the.HostedDgnLow
+unfolding isHostedDgn catalogueForm destinationOf
+hosted-dgn-low dgn w a =
+    let b = both-true (dgn ≤? greatestDgn) (catalogueForm dgn =? dgn) w in
+    let e : dgn - destinationOf dgn ≡ dgn = rw a at (eqb-true (catalogueForm dgn) dgn (b .1)) in
+    let d : dgn / 1 ≡ dgn = div-one dgn in
+    omega arith
+
+-- commands and requests that are nothing to do, or refused
+
+pub not-hosted : the.NotHosted
+unfolding routedOf
+not-hosted id bytes h c p e n = rw e (route-other (p .dgn) (getD bytes 0 0) (hosted h) (standOf c) (catalogueForm (p .dgn)) refl n)
+
+pub unheld-command : the.UnheldCommand
+unfolding routedOf
+unheld-command id bytes h c p e n a = rw e (route-unheld (p .dgn) (getD bytes 0 0) (hosted h) (standOf c) (catalogueForm (p .dgn)) refl n a)
+
+pub other-dgn : the.OtherDgn
+unfolding requestedOf
+other-dgn id bytes h c p e n = rw e (asked-other p bytes (hosted h) c n)
+
+pub request-too-large : the.RequestTooLarge
+unfolding requestedOf
+request-too-large id bytes h c p e d l = rw e (asked-large p bytes (hosted h) c (requestedDgn bytes) d refl l)
+
+later-asked : (parts : Parts) (bytes bytes′ : List ℕ) (h : Host) (c : Claim) → requestedDgn bytes ≡ requestedDgn bytes′
+    → askedOf parts bytes (hosted h) c ≡ askedOf parts bytes′ (hosted h) c
+unfolding askedOf
+later-asked parts bytes bytes′ h c d = rw d
+
+pub later-bytes-ignored : the.LaterBytesIgnored
+unfolding requestedOf requestedDgn handedIn
+later-bytes-ignored id bytes bytes′ h c l e =
+    let d : requestedDgn bytes ≡ requestedDgn bytes′ = rw e in
+    let t : handedIn id bytes h c ≡ handedIn id bytes′ h c = rw l in
+    rw t (go (handedIn id bytes′ h c) d)
+  where
+    go : (t : Told Parts) → requestedDgn bytes ≡ requestedDgn bytes′
+        → (given t then λ p. askedOf p bytes (hosted h) c) ≡ (given t then λ p. askedOf p bytes′ (hosted h) c)
+    go (refused n) d = refl
+    go (gives p) d = later-asked p bytes bytes′ h c d

@@ -1,0 +1,7 @@
+pub mod Lists
+pub mod Picks
+pub mod Handing
+pub mod Answers
+pub mod PositionLaws
+pub mod Laws
+pub mod ReplyLaws

@@ -1,0 +1,300 @@
+-- The laws of replies, proved: what each shows of the claim, the request and the frame that is sent.
+-- Assumes nothing.
+use mathlib.Core.Path.{_≡_, refl, sym, ap, _∙_}
+use mathlib.Core.Bool.{true, false, not}
+use mathlib.Core.List.{List}
+use Prim.Native.Nat.{ℕ, _+_, _≤_, _<_}
+use native.Mathlib.Omega.{arith}
+use borrow.Author.Tests.{ne-eqb, eqb-true, eqb-false, ltb-false}
+use lib.ListN.{length}
+use Rattle.frame.specs.Words.{_≤?_, _<?_, _=?_, gives}
+use Rattle.frame.specs.Bytes.{bytesOf}
+use Rattle.frame.specs.Identifier.{identifierOf, identifiers, greatestDgn, priorityOf, reservedOf, dgnOf, sourceOf, destinationOf, everyone, catalogueForm}
+use Rattle.frame.specs.Frame.{frameBytes, sourceAllowed, checkedOf}
+use Rattle.frame.specs.declared.Parts.{Parts}
+use Rattle.frame.proofs.Words.{by-test, both-true, true-false, past-refusal, before-refusal, refused-gives, gives-same, not-flips}
+use Rattle.frame.proofs.Frame.{checked-given}
+use Rattle.frame.proofs.Laws as frame-laws
+use Rattle.places.specs.Layout.{any}
+use Rattle.claim.specs.Candidates.{greatestAddress}
+use Rattle.claim.specs.Claim.{heldAfter, noAddress, keepsRules, holdsList, address, claimSource, claimId, Stand, held, claiming, silent, standOf}
+use Rattle.claim.specs.Promises.{isSound}
+use Rattle.claim.specs.declared.Claim.{Claim}
+use Rattle.claim.proofs.Sound.{rules-of, holds-of, address-low}
+use Rattle.claim.proofs.Calls.{given-past, sound-well}
+use Rattle.command.specs.Hosted.{hosted}
+use Rattle.command.specs.Positions.{positionsWhere, listed}
+use Rattle.command.specs.Handed.{handedIn, addressHeld}
+use Rattle.command.specs.Commands as Commands
+use Rattle.command.specs.Commands.{hasCommand, picks, routeOf, routedOf}
+use Rattle.command.specs.Acknowledgment.{Frame, noFrame, claimFrame, unused, acknowledgmentDgn, acknowledgmentPriority, acknowledgmentId, acknowledgmentBytes, acknowledgment, acknowledgedOf}
+use Rattle.command.specs.Requests as Requests
+use Rattle.command.specs.Requests.{requestDgn, requestedDgn, addressClaimed, nakCode, supports, isOurAddress, isOurs, Reply, claims, supported, nak, unsupported, statusOf, replyOf, askedOf, requestedOf}
+use Rattle.command.specs.Promises.{sentIn, toldRequesting, toldAcknowledging}
+use Rattle.command.specs.Laws as the
+use Rattle.command.specs.declared.Entry.{Entry}
+use Rattle.command.specs.declared.Host.{Host}
+use Rattle.command.specs.declared.Requesting.{Requesting}
+use Rattle.command.specs.declared.Requesting.the-variants as Requesting
+use Rattle.command.specs.declared.Acknowledging.{Acknowledging}
+use Rattle.command.proofs.Handing.{handed-fine}
+use Rattle.command.proofs.Answers.{acknowledged-held, reply-elsewhere, status-supported, status-global, status-nobody, status-nak}
+
+-- an address that is not ours
+
+pub claiming-for-claim-only : the.ClaimingForClaimOnly
+unfolding isOurs isOurAddress
+claiming-for-claim-only to source dgn address es c s t d =
+    reply-elsewhere to source dgn es c (claiming address) (sym s) (rw (ne-eqb to everyone t, ne-eqb dgn addressClaimed d))
+
+pub silent-only-global : the.SilentOnlyGlobal
+unfolding isOurs isOurAddress
+silent-only-global to source dgn es c s t = reply-elsewhere to source dgn es c silent (sym s) (rw (ne-eqb to everyone t))
+
+-- an address that is given is held
+
+held-address : (stand : Stand) (address : ℕ) → addressHeld stand ≡ gives address → stand ≡ held address
+unfolding addressHeld
+held-address (held a) address e = ap held (gives-same e)
+held-address (claiming a) address e = refused-gives e
+held-address silent address e = refused-gives e
+
+-- a held address is the claim's, and so at most 253
+
+stand-address : (c : Claim) (a : ℕ) → standOf c ≡ held a → a ≡ address c
+unfolding standOf
+stand-address c a e =
+    by-test (c .silent)
+    (λ s. let e′ : silent ≡ held a = rw s at e in let z : _≡_ {A = ℕ} 0 1 = cc in absurd (omega arith))
+    (λ s. by-test (c .wait =? heldAfter)
+    (λ w. let e′ : held (address c) ≡ held a = rw (s, w) at e in cc)
+    (λ w. let e′ : claiming (address c) ≡ held a = rw (s, w) at e in let z : _≡_ {A = ℕ} 0 1 = cc in absurd (omega arith)))
+
+held-low : (c : Claim) (a : ℕ) → isSound c ≡ true → standOf c ≡ held a → a ≤ greatestAddress
+held-low c a s e =
+    let b = both-true (keepsRules c) (holdsList c) s in
+    let l = address-low c (rules-of c (b .0)) (holds-of c (b .1)) in
+    let h = stand-address c a e in
+    omega arith
+
+-- the frames that are sent
+
+source-low : (source dgn : ℕ) → source ≤ greatestAddress → sourceAllowed source dgn ≡ true
+unfolding sourceAllowed
+source-low source dgn h =
+    let n : source ≡ 255 → ⊥ = λ e. omega arith in
+    let m : source ≡ 254 → ⊥ = λ e. omega arith in
+    rw (ne-eqb source 255 n, ne-eqb source 254 m)
+
+acknowledgment-checked : (address requester code instance dgn : ℕ) → address ≤ greatestAddress → requester < 256
+    → checkedOf (acknowledgmentId address requester) (length (acknowledgmentBytes requester code instance dgn))
+    ≡ gives (record { priority = acknowledgmentPriority; dgn = acknowledgmentDgn + requester; source = address })
+unfolding acknowledgmentId acknowledgmentBytes bytesOf identifierOf priorityOf reservedOf dgnOf sourceOf
+acknowledgment-checked address requester code instance dgn h q =
+    let id = acknowledgmentId address requester in
+    let i : id < identifiers = omega arith in
+    let r : reservedOf id ≡ 0 = omega arith in
+    let e₁ : priorityOf id ≡ acknowledgmentPriority = omega arith in
+    let e₂ : dgnOf id ≡ acknowledgmentDgn + requester = omega arith in
+    let e₃ : sourceOf id ≡ address = omega arith in
+    let a : sourceAllowed (sourceOf id) (dgnOf id) ≡ true = rw e₃ (source-low address (dgnOf id) h) in
+    frame-laws.lowest-wins id 8 .sound i refl r a ∙ (λ j. gives (record { priority = e₁ j; dgn = e₂ j; source = e₃ j }))
+
+claim-source : (c : Claim) → isSound c ≡ true → sourceOf (claimId c) ≡ claimSource c
+unfolding claimId claimSource identifierOf sourceOf
+claim-source c s =
+    let b = both-true (keepsRules c) (holdsList c) s in
+    let l = address-low c (rules-of c (b .0)) (holds-of c (b .1)) in
+    by-test (c .silent)
+    (λ z. rw z)
+    (λ z. rw z (omega arith))
+
+-- a source that a sound frame has
+source-checked : (id size : ℕ) (p : Parts) → checkedOf id size ≡ gives p → sourceOf id ≤ noAddress
+unfolding checkedOf sourceAllowed sourceOf
+source-checked id size p e =
+    let r₃ = past-refusal (identifiers ≤? id) 3 _ e in
+    let r₄ = past-refusal (not (size =? frameBytes)) 4 _ (r₃ .1) in
+    let r₅ = past-refusal (reservedOf id =? 1) 5 _ (r₄ .1) in
+    let r₆ = before-refusal (sourceAllowed (sourceOf id) (dgnOf id)) 6 _ (r₅ .1) in
+    by-test (sourceOf id =? 255)
+    (λ t. true-false (sym (r₆ .0) ∙ rw t))
+    (λ t. let n = eqb-false (sourceOf id) 255 t in omega (arith, n))
+
+-- commands
+
+pub picked-held : the.PickedHeld
+unfolding routedOf routeOf
+picked-held id bytes h c ps e =
+    given-past (handedIn id bytes h c) _ e
+    (λ parts p m. by-test (any (hasCommand (catalogueForm (parts .dgn))) (hosted h))
+    (λ n. given-past (addressHeld (standOf c)) _ (rw n at m) (λ address a k. (address, held-address (standOf c) address a)))
+    (λ n. let m′ : gives Commands.nothingToDo ≡ gives (picks ps) = rw n at m in let z : _≡_ {A = ℕ} 0 1 = cc in absurd (omega arith)))
+
+-- requests: how an answer that is given came about
+
+pub data Came (to source dgn : ℕ) (es : List Entry) (c : Claim) : Reply → Type 0 where
+  elsewhere : Came to source dgn es c Requests.nothingToDo
+  claimed : dgn ≡ addressClaimed → Came to source dgn es c (claims (claimFrame c))
+  reported : (address : ℕ) → standOf c ≡ held address → Came to source dgn es c (supported (positionsWhere (supports dgn) es))
+  unanswered : Came to source dgn es c unsupported
+  denied : (address : ℕ) → standOf c ≡ held address → isOurs to dgn (held address) ≡ true → any (supports dgn) es ≡ false → (to ≡ everyone → ⊥) → (source ≡ noAddress → ⊥)
+      → Came to source dgn es c (nak (acknowledgment address source nakCode unused dgn))
+
+came-held : (to source dgn : ℕ) (es : List Entry) (c : Claim) (address : ℕ) → standOf c ≡ held address → isOurs to dgn (held address) ≡ true
+    → Came to source dgn es c (statusOf to source dgn es address)
+came-held to source dgn es c address s o =
+    by-test (any (supports dgn) es)
+    (λ n. rw (status-supported to source dgn es address n) (reported address s))
+    (λ n. by-test (to =? everyone)
+    (λ t. rw (status-global to source dgn es address n (eqb-true to everyone t)) unanswered)
+    (λ t.
+    let t′ = eqb-false to everyone t in
+    by-test (source =? noAddress)
+    (λ q. rw (status-nobody to source dgn es address n t′ (eqb-true source noAddress q)) unanswered)
+    (λ q.
+    let q′ = eqb-false source noAddress q in
+    rw (status-nak to source dgn es address n t′ q′) (denied address s o n t′ q′))))
+
+came : (to source dgn : ℕ) (es : List Entry) (c : Claim) (reply : Reply) → replyOf to source dgn es c ≡ gives reply → Came to source dgn es c reply
+unfolding replyOf
+came to source dgn es c reply e =
+    by-test (isOurs to dgn (standOf c))
+    (λ o. by-test (dgn =? addressClaimed)
+    (λ d. rw (sym (gives-same (rw (o, d) at e))) (claimed (eqb-true dgn addressClaimed d)))
+    (λ d. given-past (addressHeld (standOf c)) _ (rw (o, d) at e)
+    (λ address a m.
+    let s = held-address (standOf c) address a in
+    rw (sym (gives-same m)) (came-held to source dgn es c address s (rw s at o)))))
+    (λ o. rw (sym (gives-same (rw o at e))) elsewhere)
+
+-- a request that was answered
+pub record Answered (id : ℕ) (bytes : List ℕ) (h : Host) (c : Claim) (reply : Reply) : Type 0 where
+  pub sound : isSound c ≡ true
+  pub source : sourceOf id ≤ noAddress
+  pub came-about : Came (destinationOf (dgnOf id)) (sourceOf id) (requestedDgn bytes) (hosted h) c reply
+
+answered : (id : ℕ) (bytes : List ℕ) (h : Host) (c : Claim) (reply : Reply) → requestedOf id bytes h c ≡ gives reply → Answered id bytes h c reply
+unfolding requestedOf askedOf
+answered id bytes h c reply e =
+    given-past (handedIn id bytes h c) (λ parts. askedOf parts bytes (hosted h) c) e
+    (λ parts p m.
+    let f = handed-fine id bytes h c parts p in
+    let q = checked-given id (length bytes) parts (f .frame) .1 in
+    let l = source-checked id (length bytes) parts (f .frame) in
+    by-test (catalogueForm (parts .dgn) =? requestDgn)
+    (λ d.
+    let r₁₇ = past-refusal (greatestDgn <? requestedDgn bytes) 17 _ (rw d at m) in
+    let k : replyOf (destinationOf (dgnOf id)) (sourceOf id) (requestedDgn bytes) (hosted h) c ≡ gives reply = rw q at (r₁₇ .1) in
+    record { sound = f .claim; source = l; came-about = came _ _ _ (hosted h) c reply k })
+    (λ d. rw (sym (gives-same (rw d at m))) (record { sound = f .claim; source = l; came-about = elsewhere })))
+
+-- positions are given from a held address
+
+supported-came : (to source dgn : ℕ) (es : List Entry) (c : Claim) (reply : Reply) (ps : List ℕ) → reply ≡ supported ps → Came to source dgn es c reply
+    → (address : ℕ) × (standOf c ≡ held address) × (ps ≡ positionsWhere (supports dgn) es)
+supported-came to source dgn es c reply ps e elsewhere = let z : _≡_ {A = ℕ} 0 1 = cc in absurd (omega arith)
+supported-came to source dgn es c reply ps e (claimed d) = let z : _≡_ {A = ℕ} 0 1 = cc in absurd (omega arith)
+supported-came to source dgn es c reply ps e (reported address s) = (address, s, cc)
+supported-came to source dgn es c reply ps e unanswered = let z : _≡_ {A = ℕ} 0 1 = cc in absurd (omega arith)
+supported-came to source dgn es c reply ps e (denied address s o n t q) = let z : _≡_ {A = ℕ} 0 1 = cc in absurd (omega arith)
+
+pub supported-held : the.SupportedHeld
+supported-held id bytes h c ps e =
+    supported-came _ _ (requestedDgn bytes) (hosted h) c (supported ps) ps refl (answered id bytes h c (supported ps) e .came-about)
+
+-- a NAK
+
+our-address : (to dgn address : ℕ) → isOurs to dgn (held address) ≡ true → (to ≡ everyone → ⊥) → to ≡ address
+unfolding isOurs isOurAddress
+our-address to dgn address o n = eqb-true to address (rw (ne-eqb to everyone n) at o)
+
+nak-came : (id : ℕ) (bytes : List ℕ) (h : Host) (c : Claim) (reply : Reply) (frame : Frame) → reply ≡ nak frame → isSound c ≡ true → sourceOf id ≤ noAddress
+    → Came (destinationOf (dgnOf id)) (sourceOf id) (requestedDgn bytes) (hosted h) c reply → the.NakSound id bytes h c frame
+nak-came id bytes h c reply frame e s l elsewhere = let z : _≡_ {A = ℕ} 0 1 = cc in absurd (omega arith)
+nak-came id bytes h c reply frame e s l (claimed d) = let z : _≡_ {A = ℕ} 0 1 = cc in absurd (omega arith)
+nak-came id bytes h c reply frame e s l (reported address t) = let z : _≡_ {A = ℕ} 0 1 = cc in absurd (omega arith)
+nak-came id bytes h c reply frame e s l unanswered = let z : _≡_ {A = ℕ} 0 1 = cc in absurd (omega arith)
+nak-came id bytes h c reply frame e s l (denied address t o n d q) =
+    let f : frame ≡ acknowledgment address (sourceOf id) nakCode unused (requestedDgn bytes) = cc in
+    record {
+      address = address;
+      holds = t;
+      directed = our-address (destinationOf (dgnOf id)) (requestedDgn bytes) address o d;
+      requester = omega (arith, q);
+      unsupported = n;
+      parts = rw f (acknowledgment-checked address (sourceOf id) nakCode unused (requestedDgn bytes) (held-low c address s t) (omega arith));
+    }
+
+pub nak-is-sound : the.NakIsSound
+nak-is-sound id bytes h c frame e =
+    let a = answered id bytes h c (nak frame) e in
+    nak-came id bytes h c (nak frame) frame refl (a .sound) (a .source) (a .came-about)
+
+-- our claim
+
+claims-came : (to source dgn : ℕ) (es : List Entry) (c : Claim) (reply : Reply) (frame : Frame) → reply ≡ claims frame → Came to source dgn es c reply
+    → (dgn ≡ addressClaimed) × (frame ≡ claimFrame c)
+claims-came to source dgn es c reply frame e elsewhere = let z : _≡_ {A = ℕ} 0 1 = cc in absurd (omega arith)
+claims-came to source dgn es c reply frame e (claimed d) = (d, cc)
+claims-came to source dgn es c reply frame e (reported address s) = let z : _≡_ {A = ℕ} 0 1 = cc in absurd (omega arith)
+claims-came to source dgn es c reply frame e unanswered = let z : _≡_ {A = ℕ} 0 1 = cc in absurd (omega arith)
+claims-came to source dgn es c reply frame e (denied address s o n t q) = let z : _≡_ {A = ℕ} 0 1 = cc in absurd (omega arith)
+
+-- no other answer has a frame
+unsent : (a : Requesting) (ps : List ℕ) (frame : Frame) → (a ≡ Requesting.NakSent → ⊥) → (a ≡ Requesting.ClaimSent → ⊥) → sentIn (toldRequesting a ps frame) ≡ noFrame
+unsent Requesting.NothingToDo ps frame n m = refl
+unsent Requesting.ClaimSent ps frame n m = absurd (m refl)
+unsent Requesting.Supported ps frame n m = refl
+unsent Requesting.NakSent ps frame n m = absurd (n refl)
+unsent Requesting.Unsupported ps frame n m = refl
+unsent Requesting.StateBroken ps frame n m = refl
+unsent (Requesting.BadFrame why) ps frame n m = refl
+unsent Requesting.ListMalformed ps frame n m = refl
+unsent Requesting.DgnTooLarge ps frame n m = refl
+unsent Requesting.NoAddressHeld ps frame n m = refl
+
+pub request-sends-ours : the.RequestSendsOurs
+request-sends-ours id bytes h c r p =
+    let frame : Frame = record { id = r .id; bytes = r .bytes } in (
+      (λ a.
+          let t : requestedOf id bytes h c ≡ gives (nak frame) = sym (p .answer) ∙ ap (λ (x : Requesting). toldRequesting x (listed (r .positions)) frame) a in
+          let k = nak-is-sound id bytes h c frame t in
+          (k .address, k .holds, sym (ap (λ (x : Parts). x .source) (checked-given (r .id) _ _ (k .parts) .1)))),
+      (λ a.
+          let t : requestedOf id bytes h c ≡ gives (claims frame) = sym (p .answer) ∙ ap (λ (x : Requesting). toldRequesting x (listed (r .positions)) frame) a in
+          let k = answered id bytes h c (claims frame) t in
+          let m = claims-came _ _ (requestedDgn bytes) (hosted h) c (claims frame) frame refl (k .came-about) in
+          (m .0, ap (λ (x : Frame). sourceOf (x .id)) (m .1) ∙ claim-source c (k .sound))),
+      (λ n m.
+          let u : sentIn (requestedOf id bytes h c) ≡ noFrame = ap sentIn (sym (p .answer)) ∙ unsent (r .answer) _ frame n m in
+          (p .sent-id ∙ rw u, p .sent-bytes ∙ rw u)),
+    )
+
+-- an acknowledgment
+
+formed-by : {P : Type 0} (c : Claim) (requester code instance dgn : ℕ) (frame : Frame) → acknowledgedOf c requester code instance dgn ≡ gives frame
+    → ((address : ℕ) → standOf c ≡ held address → isSound c ≡ true → requester ≤ greatestAddress → frame ≡ acknowledgment address requester code instance dgn → P) → P
+unfolding acknowledgedOf
+formed-by c requester code instance dgn frame e k =
+    let r₂ = past-refusal (not (keepsRules c)) 2 _ e in
+    let r₆ = past-refusal (greatestAddress <? requester) 6 _ (r₂ .1) in
+    let r₁₆ = past-refusal (not (holdsList c)) 16 _ (r₆ .1) in
+    let r₁₇ = past-refusal (greatestDgn <? dgn) 17 _ (r₁₆ .1) in
+    given-past (addressHeld (standOf c)) _ (r₁₇ .1)
+    (λ address a m. k address (held-address (standOf c) address a) (sound-well c (not-flips _ (r₂ .0)) (not-flips _ (r₁₆ .0)) .1) (ltb-false _ _ (r₆ .0)) (sym (gives-same m)))
+
+pub acknowledge-sends-ours : the.AcknowledgeSendsOurs
+acknowledge-sends-ours c requester code instance dgn r p a =
+    let frame : Frame = record { id = r .id; bytes = r .bytes } in
+    let t : acknowledgedOf c requester code instance dgn ≡ gives frame = sym (p .answer) ∙ ap (λ (x : Acknowledging). toldAcknowledging x frame) a in
+    formed-by c requester code instance dgn frame t
+    (λ address s k q e.
+    let f = acknowledgment-checked address requester code instance dgn (held-low c address k s) (omega arith) in
+    (address, s, rw (ap (λ (x : Frame). x .id) e, ap (λ (x : Frame). x .bytes) e) f))
+
+pub example-eleven : the.ExampleEleven
+unfolding addressHeld acknowledgmentId acknowledgmentBytes identifierOf bytesOf
+example-eleven c s e =
+    let b = both-true (keepsRules c) (holdsList c) s in
+    acknowledged-held c 0x44 3 2 0x1FFE7 (held 0x9C) 0x9C e refl (b .0) (omega arith) (b .1) (omega arith)

@@ -1,0 +1,59 @@
+-- The acknowledgment, and the frames that this crate sends (document 01, "Commands, requests, replies"; 000 and 001, 3.2.4.4; 000, table 7.5).
+use mathlib.Core.Bool.{not}
+use mathlib.Core.List.{List, _∷_}
+use Prim.Native.Nat.{ℕ, _+_}
+use lib.ListN.{replicate}
+use Rattle.frame.specs.Words.{if_then_else_, _<?_, Told, refused, gives, given_then_}
+use Rattle.frame.specs.Bytes.{bytesOf}
+use Rattle.frame.specs.Identifier.{identifierOf, greatestDgn}
+use Rattle.frame.specs.Frame.{frameBytes}
+use Rattle.claim.specs.Candidates.{greatestAddress}
+use Rattle.claim.specs.Claim.{keepsRules, holdsList, claimId, claimBytes, standOf}
+use Rattle.claim.specs.declared.Claim.{Claim}
+use Rattle.command.specs.Handed.{addressHeld}
+
+-- a frame to send
+pub record Frame : Type 0 where
+  pub id : ℕ
+  pub bytes : List ℕ
+
+-- zeros, where nothing is sent
+abbrev pub noFrame : Frame
+noFrame = record { id = 0; bytes = replicate frameBytes 0 }
+
+-- the frame of our claim, from our address, or from 254 when silent
+abbrev pub claimFrame : Claim → Frame
+claimFrame c = record { id = claimId c; bytes = claimBytes c }
+
+-- E8xxh, xx the requester
+abbrev pub acknowledgmentDgn : ℕ
+acknowledgmentDgn = 0xE800
+
+abbrev pub acknowledgmentPriority : ℕ
+acknowledgmentPriority = 6
+
+-- a byte that says nothing; for an instance, that there is none
+abbrev pub unused : ℕ
+unused = 0xFF
+
+unfoldable pub acknowledgmentId : ℕ → ℕ → ℕ
+acknowledgmentId address requester = identifierOf acknowledgmentPriority (acknowledgmentDgn + requester) address
+
+-- byte 0 the code, 1 the instance, 2 and 3 FFh, 4 the requester, 5 to 7 the DGN, low byte first
+unfoldable pub acknowledgmentBytes : ℕ → ℕ → ℕ → ℕ → List ℕ
+acknowledgmentBytes requester code instance dgn = code ∷ instance ∷ unused ∷ unused ∷ requester ∷ bytesOf 3 dgn
+
+-- the acknowledgment from this address, with this code to that requester
+abbrev pub acknowledgment : ℕ → ℕ → ℕ → ℕ → ℕ → Frame
+acknowledgment address requester code instance dgn =
+    record { id = acknowledgmentId address requester; bytes = acknowledgmentBytes requester code instance dgn }
+
+-- an acknowledgment formed: 2, then 6, 16, 17, 18
+unfoldable pub acknowledgedOf : Claim → ℕ → ℕ → ℕ → ℕ → Told Frame
+acknowledgedOf c requester code instance dgn =
+    if not (keepsRules c) then refused 2 else
+    if greatestAddress <? requester then refused 6 else
+    if not (holdsList c) then refused 16 else
+    if greatestDgn <? dgn then refused 17 else
+    given addressHeld (standOf c) then λ address.
+    gives (acknowledgment address requester code instance dgn)

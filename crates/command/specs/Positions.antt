@@ -1,0 +1,28 @@
+-- Positions in the hosted list: which entries pass a test, in rising order (document 01, "A command answers the positions ..").
+-- Commands and requests both give them, each by a test of its own.
+use mathlib.Core.Bool.{Bool}
+use mathlib.Core.List.{List, [], _∷_, _++_}
+use Prim.Native.Nat.{ℕ, suc, _-_}
+use lib.ListN.{length, take, replicate}
+use Rattle.frame.specs.Words.{if_then_else_}
+use Rattle.command.specs.Hosted.{mostEntries}
+use Rattle.command.specs.declared.Entry.{Entry}
+use Rattle.command.specs.declared.Positions.{Positions}
+
+-- the positions, counted from i, of the entries that pass
+abbrev pub positionsFrom : ℕ → (Entry → Bool) → List Entry → List ℕ
+positionsFrom i passes [] = []
+positionsFrom i passes (e ∷ es) =
+    if passes e then i ∷ positionsFrom (suc i) passes es else
+    positionsFrom (suc i) passes es
+
+unfoldable pub positionsWhere : (Entry → Bool) → List Entry → List ℕ
+positionsWhere passes es = positionsFrom 0 passes es
+
+-- positions as they are handed out: filled up with zeros
+unfoldable pub filled : List ℕ → Positions
+filled ps = record { at = ps ++ replicate (mostEntries - length ps) 0; count = length ps }
+
+-- and read again
+abbrev pub listed : Positions → List ℕ
+listed p = take (p .count) (p .at)

@@ -1,0 +1,33 @@
+// The acknowledgment's frame.
+use crate::Acknowledged;
+use crate::Acknowledging;
+ghost use mathlib.Core.Path.{_≡_};
+ghost use Rattle.command.specs.Acknowledgment.{acknowledgmentId, acknowledgmentBytes};
+ghost use Rattle.command.specs.Private.{bareAcknowledged};
+
+// Priority 6, DGN E8xxh, xx the requester, from our address.
+pub fn id_of(address: u8, requester: u8) -> u32
+    ensures { λ r. ⌜ r ≡ acknowledgmentId address requester ⌝ }
+{
+    0x18E80000 + requester as u32 * 256 + address as u32
+}
+
+pub fn bytes_of(requester: u8, code: u8, instance: u8, dgn: u32) -> [u8; 8]
+    ensures { λ r. ⌜ r ≡ acknowledgmentBytes requester code instance dgn ⌝ }
+{
+    let low = (dgn % 256) as u8;
+    let middle = (dgn / 256 % 256) as u8;
+    let high = (dgn / 256 / 256 % 256) as u8;
+    [code, instance, 0xFF, 0xFF, requester, low, middle, high]
+}
+
+// An answer with no frame beside it.
+pub fn bare(answer: Acknowledging) -> Acknowledged
+    ensures { λ r. ⌜ r ≡ bareAcknowledged answer ⌝ }
+{
+    Acknowledged {
+        answer,
+        id: 0,
+        bytes: [0u8; 8],
+    }
+}

@@ -1,0 +1,186 @@
+// Commands by instance, requests for a DGN, and their replies (document 01, "Commands, requests, replies").
+use address::Address;
+use claim::Claim;
+use frame::BadFrame;
+use handed::Handing;
+ghost use Rattle.command.specs.Promises.{Start, Route, Request, Acknowledge};
+
+mod acknowledgment;
+mod address;
+mod commands;
+mod handed;
+mod hosted;
+mod picking;
+mod requests;
+
+// A device that a node answers for: the DGN that commands it, the DGN of its status, its instance, and whether a command to instance 0 is for it
+// too (zero-is-all).
+pub struct Entry {
+    pub command: u32,
+    pub status: u32,
+    pub instance: u8,
+    pub zero_is_all: bool,
+}
+
+// A host: the hosted list, `count` entries and then entries of zeros.
+pub struct Host {
+    pub entries: [Entry; 16],
+    pub count: usize,
+}
+
+// The list is hosted; or refusal 16.
+pub enum Starting {
+    Hosted,
+    ListMalformed,
+}
+
+// The new host; one with no entry where the start is refused.
+pub struct Started {
+    pub host: Host,
+    pub answer: Starting,
+}
+
+// Positions in the hosted list, rising: `count` of them, then zeros.
+pub struct Positions {
+    pub at: [u8; 16],
+    pub count: usize,
+}
+
+// What a frame comes to as a command; or refusal 2, 3 to 6, 16, 18.
+pub enum Routing {
+    // No command of ours.
+    NothingToDo,
+    // The command is for the positions beside, which may be none.
+    Picked,
+    StateBroken,
+    BadFrame(BadFrame),
+    ListMalformed,
+    NoAddressHeld,
+}
+
+pub struct Routed {
+    pub answer: Routing,
+    pub positions: Positions,
+}
+
+// What a frame comes to as a request; or refusal 2, 3 to 6, 16, 17, 18.
+pub enum Requesting {
+    // No request, or not for us.
+    NothingToDo,
+    // Our claim is sent.
+    ClaimSent,
+    // The positions beside support the DGN, and each answers with its status.
+    Supported,
+    // No entry supports the DGN: a NAK is sent.
+    NakSent,
+    // No entry supports the DGN, and nothing is sent: the request is global, or from a node without an address.
+    Unsupported,
+    StateBroken,
+    BadFrame(BadFrame),
+    ListMalformed,
+    DgnTooLarge,
+    NoAddressHeld,
+}
+
+// The positions, and the frame to send; zeros where nothing is sent.
+pub struct Requested {
+    pub answer: Requesting,
+    pub positions: Positions,
+    pub id: u32,
+    pub bytes: [u8; 8],
+}
+
+// An acknowledgment is formed; or refusal 2, 6, 16, 17, 18.
+pub enum Acknowledging {
+    Formed,
+    StateBroken,
+    RequesterNotAllowed,
+    ListMalformed,
+    DgnTooLarge,
+    NoAddressHeld,
+}
+
+// The frame to send; zeros where it is refused.
+pub struct Acknowledged {
+    pub answer: Acknowledging,
+    pub id: u32,
+    pub bytes: [u8; 8],
+}
+
+impl Host {
+    // Hosts the first `count` entries.
+    pub fn start(entries: [Entry; 16], count: usize) -> Started
+        ensures { λ r. ⌜ Start entries count r ⌝ }
+    {
+        let host = Host { entries, count };
+        if !hosted::well_formed(host) {
+            return Started {
+                host: hosted::empty(),
+                answer: Starting::ListMalformed,
+            };
+        }
+        Started {
+            host: hosted::begun(host),
+            answer: Starting::Hosted,
+        }
+    }
+
+    // Hears a frame: the entries that a command is for.
+    pub fn route(self, claim: Claim, id: u32, bytes: &[u8]) -> Routed
+        ensures { λ r. ⌜ Route id (now (bytes .entry)) self claim r ⌝ }
+    {
+        let handed = handed::hand_in(self, claim, id, bytes);
+        let answer = handed.answer;
+        let eight = handed.bytes;
+        match answer {
+            Handing::StateBroken => commands::bare(Routing::StateBroken),
+            Handing::BadFrame(why) => commands::bare(Routing::BadFrame(why)),
+            Handing::ListMalformed => commands::bare(Routing::ListMalformed),
+            Handing::Sound(parts) => {
+                commands::route(self, address::stand(claim), parts.dgn, eight[0])
+            }
+        }
+    }
+
+    // Hears a frame: the reply to a request.
+    pub fn request(self, claim: Claim, id: u32, bytes: &[u8]) -> Requested
+        ensures { λ r. ⌜ Request id (now (bytes .entry)) self claim r ⌝ }
+    {
+        let handed = handed::hand_in(self, claim, id, bytes);
+        let answer = handed.answer;
+        let eight = handed.bytes;
+        match answer {
+            Handing::StateBroken => requests::bare(Requesting::StateBroken),
+            Handing::BadFrame(why) => requests::bare(Requesting::BadFrame(why)),
+            Handing::ListMalformed => requests::bare(Requesting::ListMalformed),
+            Handing::Sound(parts) => requests::ask(self, claim, parts, eight),
+        }
+    }
+}
+
+// Forms the acknowledgment of a command or request, to the node that sent it; `instance` is FFh where there is none.
+pub fn acknowledge(claim: Claim, requester: u8, code: u8, instance: u8, dgn: u32) -> Acknowledged
+    ensures { λ r. ⌜ Acknowledge claim requester code instance dgn r ⌝ }
+{
+    if !claim.keeps_rules() {
+        return acknowledgment::bare(Acknowledging::StateBroken);
+    }
+    if 253 < requester {
+        return acknowledgment::bare(Acknowledging::RequesterNotAllowed);
+    }
+    if !claim.holds_list() {
+        return acknowledgment::bare(Acknowledging::ListMalformed);
+    }
+    if 0x1FFFF < dgn {
+        return acknowledgment::bare(Acknowledging::DgnTooLarge);
+    }
+    match address::stand(claim) {
+        Address::Held(from) => Acknowledged {
+            answer: Acknowledging::Formed,
+            id: acknowledgment::id_of(from, requester),
+            bytes: acknowledgment::bytes_of(requester, code, instance, dgn),
+        },
+        Address::Claimed(_) => acknowledgment::bare(Acknowledging::NoAddressHeld),
+        Address::Nowhere => acknowledgment::bare(Acknowledging::NoAddressHeld),
+    }
+}

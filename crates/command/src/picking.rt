@@ -1,0 +1,91 @@
+// The positions of the entries that a frame asks for, in one loop for commands and requests.
+use crate::Entry;
+use crate::Host;
+use crate::Positions;
+ghost use mathlib.Core.Path.{_≡_};
+ghost use mathlib.Core.List.{[]};
+ghost use Prim.Native.Nat.{_<_, _≤_};
+ghost use Rattle.frame.specs.Words.{if_then_else_};
+ghost use Rattle.command.specs.Hosted.{hosted};
+ghost use Rattle.command.specs.Positions.{positionsWhere, filled};
+ghost use Rattle.command.specs.Commands.{isMeant};
+ghost use Rattle.command.specs.Private.{isAsked, added};
+
+pub enum Asked {
+    // The entries with a command DGN.
+    Hosted(u32),
+    // Those that a command is for, by its DGN and its byte 0.
+    Command(u32, u8),
+    // Those that support a requested DGN.
+    Status(u32),
+}
+
+pub fn pick(host: Host, asked: Asked) -> Positions
+    requires { ⌜ host .count ≤ 16 ⌝ }
+    ensures { λ r. ⌜ r ≡ filled (positionsWhere (isAsked asked) (hosted host)) ⌝ }
+{
+    let mut p = none();
+    let mut i: usize = 0;
+    while i < host.count {
+        let e = host.entries[i];
+        p = passed(p, asked, e, i);
+        i += 1;
+    }
+    p
+}
+
+pub fn none() -> Positions
+    ensures { λ r. ⌜ r ≡ filled [] ⌝ }
+{
+    Positions {
+        at: [0u8; 16],
+        count: 0,
+    }
+}
+
+// The positions after the entry at i.
+fn passed(p: Positions, asked: Asked, e: Entry, i: usize) -> Positions
+    requires { ⌜ (p .count < 16) × (i < 16) ⌝ }
+    ensures { λ r. ⌜ r ≡ (if isAsked asked e then added i p else p) ⌝ }
+{
+    if !is_asked(asked, e) {
+        return p;
+    }
+    added(p, i as u8)
+}
+
+fn added(p: Positions, i: u8) -> Positions
+    requires { ⌜ p .count < 16 ⌝ }
+    ensures { λ r. ⌜ r ≡ added i p ⌝ }
+{
+    let mut at = p.at;
+    let count = p.count;
+    at[count] = i;
+    Positions {
+        at,
+        count: count + 1,
+    }
+}
+
+fn is_asked(asked: Asked, e: Entry) -> bool
+    ensures { λ r. ⌜ r ≡ isAsked asked e ⌝ }
+{
+    match asked {
+        Asked::Hosted(dgn) => e.command == dgn,
+        Asked::Command(dgn, instance) => is_meant(dgn, instance, e),
+        Asked::Status(dgn) => e.status == dgn,
+    }
+}
+
+// Whether a command is for an entry: zero is for the marked ones only.
+fn is_meant(dgn: u32, instance: u8, e: Entry) -> bool
+    ensures { λ r. ⌜ r ≡ isMeant dgn instance e ⌝ }
+{
+    if e.command != dgn {
+        return false;
+    }
+    if instance == 0 {
+        return e.zero_is_all;
+    }
+    e.instance == instance
+}
