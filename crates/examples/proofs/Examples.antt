@@ -1,6 +1,7 @@
 -- The proved examples: each line computes to what 01 prints.
 -- Assumes nothing.
 use mathlib.Core.Path.{_≡_, refl, ap, _∙_}
+use mathlib.Core.Bool.{true}
 use mathlib.Core.List.{List, [], _∷_, _++_}
 use Prim.Native.Nat.{ℕ, _≤_}
 use native.Mathlib.Nat.{le-refl}
@@ -19,7 +20,12 @@ use Rattle.places.specs.Places.{run, eightFree}
 use Rattle.places.specs.Places as Places
 use Rattle.demands.specs.BusyBus.{fresh, toldTo}
 use Rattle.demands.proofs.BusyBus.{told-places}
-use Rattle.examples.specs.Examples.{storage, answers, eightSenders, nineBytes, announcement54, first54, second54, _▸_, end, AllAsPrinted}
+use Rattle.claim.specs.Candidates.{isWellFormed, areAddresses, isAbsent, areDistinct}
+use Rattle.claim.specs.Claim.{keepsRules as keepsClaimRules, holdsList, held, standOf}
+use Rattle.claim.specs.Promises.{isSound}
+use Rattle.command.specs.Acknowledgment.{acknowledgedOf}
+use Rattle.command.proofs.ReplyLaws.{example-eleven}
+use Rattle.examples.specs.Examples.{sent, holding9C, storage, answers, eightSenders, nineBytes, announcement54, first54, second54, _▸_, end, AllAsPrinted}
 use Rattle.examples.specs.Examples as Examples
 
 -- the runs of examples (6) and (7), computed on the places
@@ -39,10 +45,23 @@ long : answers (Places.toldTo 0x54 (run longMessages (eightFree longMessages) (a
 unfolding priorityOf reservedOf dgnOf sourceOf identifierOf numberOf sourceAllowed checkedOf bytesTo announced meant meaningOf
 long = refl
 
+-- example (11)
+
+sound : isSound holding9C ≡ true
+unfolding keepsClaimRules holdsList isWellFormed areAddresses isAbsent areDistinct
+sound = refl
+
+holds : standOf holding9C ≡ held 0x9C
+unfolding standOf
+holds = refl
+
+eleven : sent (acknowledgedOf holding9C 0x44 3 2 0x1FFE7) ≡ 0 ∷ 0x18E8449C ∷ 0x03 ∷ 0x02 ∷ 0xFF ∷ 0xFF ∷ 0x44 ∷ 0xE7 ∷ 0xFF ∷ 0x01 ∷ []
+eleven = ap sent (example-eleven holding9C sound holds)
+
 pub all-as-printed : AllAsPrinted
 unfolding priorityOf reservedOf dgnOf sourceOf identifierOf numberOf bytesOf sourceAllowed checkedOf formedOf bytesTo announced meant meaningOf isZero placeKeepsRules keepsRules closes pausedAnswer splits announcementBytes announcementOf ofThree classAt scaledOf
 all-as-printed =
     refl ▸ refl ▸ refl ▸ refl ▸ refl ▸ refl ▸ refl ▸ refl ▸ refl ▸ refl ▸ refl ▸ refl ▸
     (told 9 (eightSenders ++ (Examples.announces 9 nineBytes ∷ [])) ∙ ninth) ▸
     (told 0x54 (announcement54 ∷ pause 50 ∷ first54 ∷ pause 50 ∷ second54 ∷ []) ∙ long) ▸
-    refl ▸ refl ▸ refl ▸ refl ▸ end
+    refl ▸ refl ▸ refl ▸ refl ▸ eleven ▸ end

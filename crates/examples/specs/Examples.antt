@@ -1,6 +1,7 @@
 -- Document 01's proved examples: one table, one statement. A line has the example's number, what the promise's own definition gives, and what 01
 -- prints, both as numbers: a refusal is its number alone, what is given begins with 0.
 use mathlib.Core.Path.{_≡_}
+use mathlib.Core.Bool.{false}
 use mathlib.Core.List.{List, [], _∷_, _++_}
 use Prim.Native.Nat.{ℕ, _+_}
 use lib.IntN.{ℤ, pos, negsuc}
@@ -19,6 +20,9 @@ use Rattle.demands.specs.BusyBus.{fresh, toldTo}
 use Rattle.catalogue.specs.Classes.{classAt, belowGreatest}
 use Rattle.catalogue.specs.Scale.{scaledOf}
 use Rattle.catalogue.specs.declared.Unit.the-variants.{Celsius, Ampere}
+use Rattle.claim.specs.declared.Claim.{Claim}
+use Rattle.command.specs.Acknowledgment as Acknowledgment
+use Rattle.command.specs.Acknowledgment.{acknowledgedOf}
 
 pub record Line : Type 0 where
   pub example : ℕ
@@ -62,6 +66,11 @@ abbrev pub signed : ℤ → List ℕ
 signed (pos n) = 0 ∷ n ∷ []
 signed (negsuc n) = 1 ∷ (n + 1) ∷ []
 
+-- a frame to send: its identifier and its bytes
+abbrev pub sent : Told Acknowledgment.Frame → List ℕ
+sent (refused n) = n ∷ []
+sent (gives f) = 0 ∷ f .id ∷ f .bytes
+
 -- the long message of 01, and a receiver over storage of zeros
 
 abbrev pub storage : List ℕ
@@ -95,6 +104,10 @@ eightSenders =
     announces 1 nineBytes ∷ announces 2 nineBytes ∷ announces 3 nineBytes ∷ announces 4 nineBytes ∷ announces 5 nineBytes ∷ announces 6 nineBytes
     ∷ announces 7 nineBytes ∷ announces 8 nineBytes ∷ []
 
+-- a node that holds 9Ch
+abbrev pub holding9C : Claim
+holding9C = record { name = 1; list = 0x9C ∷ replicate 15 0; count = 1; position = 0; wait = 250; silent = false }
+
 abbrev pub table : List Line
 table =
     -- (1) DM_RV, priority 6, source 54h
@@ -126,6 +139,8 @@ table =
     ∷ line 9 (signed (scaledOf Ampere 16 32000)) (0 ∷ 0 ∷ [])
     -- (10) 8-bit °C, 0
     ∷ line 10 (signed (scaledOf Celsius 8 0)) (1 ∷ 1280 ∷ [])
+    -- (11) holding 9Ch, code 3 to 44h for SLIDE_COMMAND instance 2
+    ∷ line 11 (sent (acknowledgedOf holding9C 0x44 3 2 0x1FFE7)) (0 ∷ 0x18E8449C ∷ 0x03 ∷ 0x02 ∷ 0xFF ∷ 0xFF ∷ 0x44 ∷ 0xE7 ∷ 0xFF ∷ 0x01 ∷ [])
     ∷ []
 
 -- Each line is as printed.
