@@ -6,7 +6,7 @@ use mathlib.Core.List.{List}
 use Prim.Native.Nat.{ℕ, _-_, _/_, _≤_}
 use native.Mathlib.Nat.{div-one}
 use native.Mathlib.Omega.{arith}
-use borrow.Author.Tests.{eqb-true}
+use borrow.Author.Tests.{ne-eqb, eqb-true}
 use lib.ListN.{length, getD, replicate}
 use lib.Seq.{take-at, length-take-le}
 use Rattle.frame.specs.Words.{if_then_else_, _≤?_, _=?_, _and_, Told, refused, gives, given_then_}
@@ -17,15 +17,15 @@ use Rattle.frame.specs.declared.Parts.{Parts}
 use Rattle.frame.specs.declared.BadFrame.the-variants.{IdentifierTooLarge, NotEightBytes, ReservedBitSet, SourceNotAllowed}
 use Rattle.frame.proofs.Words.{by-test, both-true, before-refusal, refused-gives}
 use Rattle.frame.proofs.Laws as frame-laws
-use Rattle.places.specs.Layout.{every}
+use Rattle.places.specs.Layout.{any, every}
 use Rattle.claim.specs.Claim.{keepsRules, holdsList, standOf}
 use Rattle.claim.specs.Promises.{Done, done}
 use Rattle.claim.specs.declared.Claim.{Claim}
 use Rattle.command.specs.Hosted.{mostEntries, blankEntry, isHostedDgn, isEntry, noPairRepeats, hosted, isWellFormed, begun}
 use Rattle.command.specs.Handed.{handedIn}
 use Rattle.command.specs.Commands as Commands
-use Rattle.command.specs.Commands.{Outcome, picks, routeOf, routedOf}
-use Rattle.command.specs.Acknowledgment.{Frame}
+use Rattle.command.specs.Commands.{hasCommand, isElsewhere, Outcome, picks, routeOf, routedOf}
+use Rattle.command.specs.Acknowledgment.{Frame, acknowledgedOf}
 use Rattle.command.specs.Requests as Requests
 use Rattle.command.specs.Requests.{requestedDgn, Reply, claims, supported, nak, unsupported, askedOf, requestedOf}
 use Rattle.command.specs.Promises.{toldStarting, startedOf, toldRouting, toldRequesting, toldAcknowledging}
@@ -39,8 +39,8 @@ use Rattle.command.specs.declared.Requesting.{Requesting}
 use Rattle.command.specs.declared.Requesting.the-variants as Requesting
 use Rattle.command.specs.declared.Acknowledging.{Acknowledging}
 use Rattle.command.specs.declared.Acknowledging.the-variants as Acknowledging
-use Rattle.command.proofs.Handing.{handed-broken, handed-lists}
-use Rattle.command.proofs.Answers.{acknowledged-broken, acknowledged-nobody, acknowledged-ill, acknowledged-large, acknowledged-unheld, routed-refused, requested-refused, route-other, route-unheld, asked-other, asked-large}
+use Rattle.command.proofs.Handing.{well-few, handed-broken, handed-lists}
+use Rattle.command.proofs.Answers.{acknowledged-broken, acknowledged-nobody, acknowledged-ill, acknowledged-large, acknowledged-unheld, routed-refused, requested-refused, route-other, route-held, route-unheld, asked-other, asked-large}
 
 -- an answer is read back from what it tells
 
@@ -172,13 +172,19 @@ start-refused-keeps entries count r n p e =
     (λ w. p .state ∙ rw w)
 
 pub route-refused-keeps : the.RouteRefusedKeeps
-route-refused-keeps id bytes h c r n p e = p .positions ∙ rw e
+route-refused-keeps id bytes h c r n p e =
+    let t : routedOf id bytes h c ≡ refused n = sym (p .answer) ∙ e in
+    p .positions ∙ rw t
 
 pub request-refused-keeps : the.RequestRefusedKeeps
-request-refused-keeps id bytes h c r n p e = (p .positions ∙ rw e, (p .sent-id ∙ rw e, p .sent-bytes ∙ rw e))
+request-refused-keeps id bytes h c r n p e =
+    let t : requestedOf id bytes h c ≡ refused n = sym (p .answer) ∙ e in
+    (p .positions ∙ rw t, (p .sent-id ∙ rw t, p .sent-bytes ∙ rw t))
 
 pub acknowledge-refused-keeps : the.AcknowledgeRefusedKeeps
-acknowledge-refused-keeps c requester code instance dgn r n p e = (p .sent-id ∙ rw e, p .sent-bytes ∙ rw e)
+acknowledge-refused-keeps c requester code instance dgn r n p e =
+    let t : acknowledgedOf c requester code instance dgn ≡ refused n = sym (p .answer) ∙ e in
+    (p .sent-id ∙ rw t, p .sent-bytes ∙ rw t)
 
 -- the lowest number wins
 
@@ -278,9 +284,11 @@ count-begun h = refl
 
 pub start-hosts : the.StartHosts
 unfolding startedOf
-start-hosts entries count r p e l =
+start-hosts entries count r p e n =
     let h : Host = record { entries = entries; count = count } in
     let w = before-refusal (isWellFormed h) 16 (gives done) (sym (p .answer) ∙ e) .0 in
+    let f = well-few h w in
+    let l : count ≤ length entries = omega arith in
     let b : r .host ≡ begun h = p .state ∙ rw w in (
       ap hosted b ∙ hosted-begun h l,
       ap isWellFormed b ∙ well-same (begun h) h (count-begun h) (hosted-begun h l) ∙ w,
@@ -303,6 +311,15 @@ not-hosted id bytes h c p e n = rw e (route-other (p .dgn) (getD bytes 0 0) (hos
 pub unheld-command : the.UnheldCommand
 unfolding routedOf
 unheld-command id bytes h c p e n a = rw e (route-unheld (p .dgn) (getD bytes 0 0) (hosted h) (standOf c) (catalogueForm (p .dgn)) refl n a)
+
+pub command-elsewhere : the.CommandElsewhere
+unfolding routedOf isElsewhere
+command-elsewhere id bytes h c p to address e s d n =
+    let form = catalogueForm (p .dgn) in
+    rw e
+    (by-test (any (hasCommand form) (hosted h))
+    (λ t. route-held (p .dgn) (getD bytes 0 0) (hosted h) (standOf c) form address refl t s ∙ rw (d, ne-eqb to address n))
+    (λ t. route-other (p .dgn) (getD bytes 0 0) (hosted h) (standOf c) form refl t))
 
 pub other-dgn : the.OtherDgn
 unfolding requestedOf

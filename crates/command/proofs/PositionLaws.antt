@@ -23,7 +23,7 @@ use Rattle.command.specs.Commands.{hasCommand, isNamed, isMeant, isElsew
 use Rattle.command.specs.Promises.{pickedIn}
 use Rattle.command.specs.Laws.{StandsIn, entryAt, PositionsExact, PositionsRise, ListedFilled, InstancePicks, InstancePicksOne, ZeroPicksMarked, SlideIgnoresZero}
 use Rattle.command.specs.declared.Entry.{Entry}
-use Rattle.command.proofs.Picks.{listed-filled}
+use Rattle.command.proofs.Picks as Picks
 use Rattle.command.proofs.Handing.{handed-fine}
 
 -- exactly the positions of those that pass
@@ -104,8 +104,8 @@ pub positions-rise : PositionsRise
 unfolding positionsWhere
 positions-rise f es = rise-from f 0 es
 
-pub listed-as-filled : ListedFilled
-listed-as-filled = listed-filled
+pub listed-filled : ListedFilled
+listed-filled = Picks.listed-filled
 
 -- an entry that a command is for
 

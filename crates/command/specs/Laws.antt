@@ -9,14 +9,16 @@ use lib.ListN.{length, take, getD}
 use Rattle.frame.specs.Words.{refused, gives}
 use Rattle.frame.specs.Identifier.{identifiers, greatestDgn, dgnOf, sourceOf, isAddressed, destinationOf, everyone, catalogueForm}
 use Rattle.frame.specs.Frame.{checkedOf}
+use Rattle.frame.specs.Promises.{destined}
 use Rattle.frame.specs.declared.Parts.{Parts}
+use Rattle.frame.specs.declared.Destination.the-variants.{One}
 use Rattle.places.specs.Layout.{any}
 use Rattle.claim.specs.Candidates.{greatestAddress}
 use Rattle.claim.specs.Claim.{keepsRules, holdsList, claimSource, held, claiming, silent, standOf}
 use Rattle.claim.specs.Promises.{done, isSound}
 use Rattle.claim.specs.Laws.{NoFrame}
 use Rattle.claim.specs.declared.Claim.{Claim}
-use Rattle.command.specs.Hosted.{blankEntry, isHostedDgn, hosted, isWellFormed, empty}
+use Rattle.command.specs.Hosted.{mostEntries, blankEntry, isHostedDgn, hosted, isWellFormed, empty}
 use Rattle.command.specs.Positions.{positionsWhere, filled, listed}
 use Rattle.command.specs.Handed.{handedIn, addressHeld}
 use Rattle.command.specs.Commands as Commands
@@ -76,18 +78,19 @@ StartRefusedKeeps =
 
 abbrev pub RouteRefusedKeeps : Type 0
 RouteRefusedKeeps =
-    (id : ℕ) (bytes : List ℕ) (h : Host) (c : Claim) (r : Routed) (n : ℕ) → Route id bytes h c r → routedOf id bytes h c ≡ refused n
-    → r .positions ≡ filled []
+    (id : ℕ) (bytes : List ℕ) (h : Host) (c : Claim) (r : Routed) (n : ℕ) → Route id bytes h c r
+    → toldRouting (r .answer) (listed (r .positions)) ≡ refused n → r .positions ≡ filled []
 
 abbrev pub RequestRefusedKeeps : Type 0
 RequestRefusedKeeps =
-    (id : ℕ) (bytes : List ℕ) (h : Host) (c : Claim) (r : Requested) (n : ℕ) → Request id bytes h c r → requestedOf id bytes h c ≡ refused n
+    (id : ℕ) (bytes : List ℕ) (h : Host) (c : Claim) (r : Requested) (n : ℕ) → Request id bytes h c r
+    → toldRequesting (r .answer) (listed (r .positions)) (record { id = r .id; bytes = r .bytes }) ≡ refused n
     → (r .positions ≡ filled []) × NoFrame (r .id) (r .bytes)
 
 abbrev pub AcknowledgeRefusedKeeps : Type 0
 AcknowledgeRefusedKeeps =
     (c : Claim) (requester code instance dgn : ℕ) (r : Acknowledged) (n : ℕ) → Acknowledge c requester code instance dgn r
-    → acknowledgedOf c requester code instance dgn ≡ refused n → NoFrame (r .id) (r .bytes)
+    → toldAcknowledging (r .answer) (record { id = r .id; bytes = r .bytes }) ≡ refused n → NoFrame (r .id) (r .bytes)
 
 -- The lowest number wins: what is handed in is refused with 2, then 3 to 6, then 16, before anything is asked of the frame.
 pub record LowestWins (id : ℕ) (bytes : List ℕ) (h : Host) (c : Claim) : Type 0 where
@@ -118,7 +121,7 @@ PriorityIgnored =
 abbrev pub StartHosts : Type 0
 StartHosts =
     (entries : List Entry) (count : ℕ) (r : Started) → Start entries count r → toldStarting (r .answer) ≡ gives done
-    → count ≤ length entries → (hosted (r .host) ≡ take count entries) × (isWellFormed (r .host) ≡ true)
+    → length entries ≡ mostEntries → (hosted (r .host) ≡ take count entries) × (isWellFormed (r .host) ≡ true)
 
 abbrev pub PastCountIgnored : Type 0
 PastCountIgnored =
@@ -175,7 +178,8 @@ SlideIgnoresZero =
     → ((k : ℕ) → k < length (hosted h) → entryAt (hosted h) k .command ≡ catalogueForm (dgnOf id) → entryAt (hosted h) k .«zero_is_all» ≡ false)
     → r .positions ≡ filled []
 
--- A frame of no hosted command DGN is nothing to do; without a held address every hosted command is 18.
+-- A frame of no hosted command DGN is nothing to do; without a held address every hosted command is 18; with one, a command to another address is
+-- nothing to do.
 
 abbrev pub NotHosted : Type 0
 NotHosted =
@@ -186,6 +190,11 @@ abbrev pub UnheldCommand : Type 0
 UnheldCommand =
     (id : ℕ) (bytes : List ℕ) (h : Host) (c : Claim) (p : Parts) → handedIn id bytes h c ≡ gives p
     → any (hasCommand (catalogueForm (p .dgn))) (hosted h) ≡ true → addressHeld (standOf c) ≡ refused 18 → routedOf id bytes h c ≡ refused 18
+
+abbrev pub CommandElsewhere : Type 0
+CommandElsewhere =
+    (id : ℕ) (bytes : List ℕ) (h : Host) (c : Claim) (p : Parts) (to address : ℕ) → handedIn id bytes h c ≡ gives p → standOf c ≡ held address
+    → destined (p .dgn) ≡ One to → (to ≡ address → ⊥) → routedOf id bytes h c ≡ gives Commands.nothingToDo
 
 -- A request: another DGN than EAxxh is nothing to do, 1EAxxh too; 17 comes before another destination; bytes 3 to 7 change nothing.
 

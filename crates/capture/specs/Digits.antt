@@ -1,0 +1,56 @@
+-- Numbers as digits, the most significant first, in bases up to sixteen (document 01, "The capture reader": decimal, and hex in capitals).
+-- A text is the list of its bytes' ASCII codes.
+use mathlib.Core.Bool.{Bool, true}
+use mathlib.Core.List.{List, [], _∷_, _++_}
+use Prim.Native.Nat.{ℕ, zero, suc, _+_, _*_, _-_, _/_, _%_}
+use Rattle.frame.specs.Words.{if_then_else_, _<?_, _≤?_, _and_, Told, refused, gives}
+
+-- the codes of `0`, `9`, `A` and `F`
+abbrev pub digit0 : ℕ
+digit0 = 48
+
+abbrev pub digit9 : ℕ
+digit9 = 57
+
+abbrev pub letterA : ℕ
+letterA = 65
+
+abbrev pub letterF : ℕ
+letterF = 70
+
+abbrev pub greatestBase : ℕ
+greatestBase = 16
+
+-- the code of a digit
+unfoldable pub glyph : ℕ → ℕ
+glyph d = if d <? 10 then digit0 + d else letterA + (d - 10)
+
+-- the last `count` digits of a number
+unfoldable pub digits : ℕ → ℕ → ℕ → List ℕ
+digits base zero n = []
+digits base (suc count) n = digits base count (n / base) ++ (glyph (n % base) ∷ [])
+
+-- the digit that a code spells; 16, which is a digit in no base, where it spells none
+unfoldable pub valueOf : ℕ → ℕ
+valueOf code =
+    if code <? digit0 then greatestBase else
+    if code ≤? digit9 then code - digit0 else
+    if code <? letterA then greatestBase else
+    if code ≤? letterF then code - letterA + 10 else
+    greatestBase
+
+unfoldable pub areDigits : ℕ → List ℕ → Bool
+areDigits base [] = true
+areDigits base (code ∷ codes) = (valueOf code <? base) and areDigits base codes
+
+-- the number that codes spell, read on from the number `n` that those before them spelled
+unfoldable pub numberFrom : ℕ → ℕ → List ℕ → ℕ
+numberFrom base n [] = n
+numberFrom base n (code ∷ codes) = numberFrom base (n * base + valueOf code) codes
+
+abbrev pub number : ℕ → List ℕ → ℕ
+number base codes = numberFrom base 0 codes
+
+-- a number read; 19 where a code is no digit
+unfoldable pub numberRead : ℕ → List ℕ → Told ℕ
+numberRead base codes = if areDigits base codes then gives (number base codes) else refused 19

@@ -1,0 +1,8 @@
+pub mod Digits
+pub mod Line
+pub mod Stream
+pub mod Cutter
+pub mod Promises
+pub mod Private
+pub mod Feeding
+pub mod Laws

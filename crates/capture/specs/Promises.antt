@@ -1,0 +1,63 @@
+-- What each public call of this crate promises: one proposition over all that it answers. The answers are read in document 01's terms.
+use mathlib.Core.Path.{_≡_}
+use mathlib.Core.List.{List, _++_}
+use Prim.Native.Nat.{ℕ, _-_}
+use lib.ListN.{length, drop, replicate}
+use Rattle.frame.specs.Words.{Told, refused, gives}
+use Rattle.frame.specs.Frame.{frameBytes}
+use Rattle.capture.specs.Line.{Frame, lineOf, lineRead, longestSound}
+use Rattle.capture.specs.Cutter.{fresh, cuttingOf, cutterAfter, nextAfter, endingOf}
+use Rattle.capture.specs.declared.Reading.{Reading}
+use Rattle.capture.specs.declared.Reading.the-variants as Reading
+use Rattle.capture.specs.declared.Line.{Line}
+use Rattle.capture.specs.declared.Text.{Text}
+use Rattle.capture.specs.declared.Cutter.{Cutter}
+use Rattle.capture.specs.declared.Cut.{Cut}
+use Rattle.capture.specs.declared.Ending.{Ending}
+
+-- take_apart: the answer in document 01's terms, and what stands beside it
+
+abbrev pub frameIn : Line → Frame
+frameIn r = record { gap = r .gap; id = r .id; bytes = r .bytes }
+
+abbrev pub toldReading : Reading → Frame → Told Frame
+toldReading Reading.Sound f = gives f
+toldReading Reading.Malformed f = refused 19
+
+-- a frame that is given, and zeros beside a refusal
+abbrev pub noFrame : Frame
+noFrame = record { gap = 0; id = 0; bytes = replicate frameBytes 0 }
+
+abbrev pub frameIf : Told Frame → Frame
+frameIf (gives f) = f
+frameIf (refused n) = noFrame
+
+pub record TakeApart (line : List ℕ) (r : Line) : Type 0 where
+  pub answer : toldReading (r .answer) (frameIn r) ≡ lineRead line
+  pub frame : frameIn r ≡ frameIf (lineRead line)
+
+-- write: the line, and zeros behind it
+
+abbrev pub padded : List ℕ → List ℕ
+padded line = line ++ replicate (longestSound - length line) 0
+
+pub record Write (gap id : ℕ) (bytes : List ℕ) (r : Text) : Type 0 where
+  pub text : r .bytes ≡ padded (lineOf (record { gap = gap; id = id; bytes = bytes }))
+  pub count : r .count ≡ length (lineOf (record { gap = gap; id = id; bytes = bytes }))
+
+-- Cutter::new
+
+pub record New (r : Cutter) : Type 0 where
+  pub cutter : r ≡ fresh
+
+-- Cutter::next
+
+pub record Next (block : List ℕ) (at : ℕ) (c : Cutter) (r : Cut) : Type 0 where
+  pub answer : r .answer ≡ cuttingOf c at (drop at block)
+  pub cutter : r .cutter ≡ cutterAfter c (drop at block)
+  pub next : r .next ≡ nextAfter c at (drop at block)
+
+-- Cutter::last
+
+pub record Last (c : Cutter) (r : Ending) : Type 0 where
+  pub answer : r ≡ endingOf c

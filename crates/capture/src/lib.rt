@@ -1,0 +1,190 @@
+// Captures of the bus as text, one frame a line: a line taken apart, the one line of a frame written, and a stream cut into lines.
+mod blocks;
+mod spelling;
+mod writing;
+
+ghost use mathlib.Core.Path.{_≡_};
+ghost use Rattle.capture.specs.Promises.{TakeApart, Write, New, Next, Last};
+ghost use Rattle.capture.specs.Private.{blank};
+use spelling::Spelled;
+
+// Whether a line is that of a frame; refusal 19 otherwise.
+pub enum Reading {
+    Sound,
+    Malformed,
+}
+
+// A line taken apart: the pause before its frame, the identifier and the bytes; zeros where it is malformed.
+pub struct Line {
+    pub answer: Reading,
+    pub gap: u16,
+    pub id: u32,
+    pub bytes: [u8; 8],
+}
+
+// The line of a frame, without its newline: the first `count` bytes. The rest are zeros.
+pub struct Text {
+    pub bytes: [u8; 43],
+    pub count: usize,
+}
+
+// Cuts a stream into lines: how many it has cut, and what the blocks so far hold of a line whose end has not come.
+// A length above 80 means a line that is too long, of which nothing is kept.
+pub struct Cutter {
+    pub carry: [u8; 80],
+    pub length: usize,
+    pub lines: u32,
+}
+
+// What comes next in a block.
+pub enum Cutting {
+    // a line that lies in the block, from `from` to before `to`
+    Within { from: usize, to: usize },
+    // a line that began in an earlier block: that many bytes at the start of the returned cutter's carry
+    Carried(usize),
+    // a line of more than 80 bytes
+    TooLong,
+    // no newline is left: the next block goes on
+    BlockUsed,
+    // 1,000,000 lines were cut
+    AllRead,
+}
+
+// The cutter afterwards, the answer, and the position in the block at which to go on.
+pub struct Cut {
+    pub cutter: Cutter,
+    pub answer: Cutting,
+    pub next: usize,
+}
+
+// What the end of the stream ends.
+pub enum Ending {
+    // a line that has no newline: that many bytes at the start of the cutter's carry
+    Carried(usize),
+    // a line of more than 80 bytes
+    TooLong,
+    // no line has begun, or 1,000,000 lines were cut
+    Nothing,
+}
+
+// Takes a line apart, given without its newline.
+pub fn take_apart(line: &[u8]) -> Line
+    ensures { λ r. ⌜ TakeApart (now (line .entry)) r ⌝ }
+{
+    if !spelling::has_shape(line) {
+        return malformed();
+    }
+    let width = line.len() - 38;
+    let gap_end = width + 4;
+    let id_start = width + 8;
+    let id_end = width + 16;
+    let data_start = width + 22;
+    let Spelled::Number(gap) = spelling::gap(&line[4..gap_end]) else {
+        return malformed();
+    };
+    let Spelled::Number(id) = spelling::number(16, &line[id_start..id_end]) else {
+        return malformed();
+    };
+    let data_read = spelling::eight_bytes(&line[data_start..]);
+    if !data_read.sound {
+        return malformed();
+    }
+    let bytes = data_read.bytes;
+    Line {
+        answer: Reading::Sound,
+        gap: gap as u16,
+        id,
+        bytes,
+    }
+}
+
+// Writes the line of a frame.
+pub fn write(gap: u16, id: u32, bytes: [u8; 8]) -> Text
+    ensures { λ r. ⌜ Write gap id bytes r ⌝ }
+{
+    let width = spelling::width_of(gap as u32);
+    let mut text = [0u8; 43];
+    writing::put(&mut text, 0, b"gap=");
+    writing::put_number(&mut text, 4, 10, gap as u32, width);
+    writing::put(&mut text, width + 4, b" id=");
+    writing::put_number(&mut text, width + 8, 16, id, 8);
+    writing::put(&mut text, width + 16, b" data=");
+    writing::put_bytes(&mut text, width + 22, bytes);
+    Text {
+        bytes: text,
+        count: width + 38,
+    }
+}
+
+impl Cutter {
+    // At the start of a stream.
+    pub fn new() -> Cutter
+        ensures { λ r. ⌜ New r ⌝ }
+    {
+        Cutter {
+            carry: [0u8; 80],
+            length: 0,
+            lines: 0,
+        }
+    }
+
+    // Looks for the next line in a block, from position `at` on.
+    pub fn next(self, block: &[u8], at: usize) -> Cut
+        ensures { λ r. ⌜ Next (now (block .entry)) at self r ⌝ }
+    {
+        if 1000000 <= self.lines {
+            return Cut {
+                cutter: self,
+                answer: Cutting::AllRead,
+                next: at,
+            };
+        }
+        if block.len() <= at {
+            return Cut {
+                cutter: self,
+                answer: Cutting::BlockUsed,
+                next: at,
+            };
+        }
+        let end = blocks::newline(block, at);
+        if end == block.len() {
+            return Cut {
+                cutter: blocks::carry_on(self, &block[at..]),
+                answer: Cutting::BlockUsed,
+                next: end,
+            };
+        }
+        Cut {
+            cutter: blocks::close(self, &block[at..end]),
+            answer: blocks::line(self.length, at, end),
+            next: end + 1,
+        }
+    }
+
+    // The line that the end of the stream ends.
+    pub fn last(self) -> Ending
+        ensures { λ r. ⌜ Last self r ⌝ }
+    {
+        if 1000000 <= self.lines {
+            return Ending::Nothing;
+        }
+        if self.length == 0 {
+            return Ending::Nothing;
+        }
+        if 80 < self.length {
+            return Ending::TooLong;
+        }
+        Ending::Carried(self.length)
+    }
+}
+
+fn malformed() -> Line
+    ensures { λ r. ⌜ r ≡ blank ⌝ }
+{
+    Line {
+        answer: Reading::Malformed,
+        gap: 0,
+        id: 0,
+        bytes: [0u8; 8],
+    }
+}
