@@ -1,0 +1,77 @@
+-- The fields of a frame, row by row.
+-- Assumes nothing.
+use mathlib.Core.Path.{_≡_, refl, sym, ap, _∙_}
+use mathlib.Core.Bool.{true}
+use mathlib.Core.List.{List, [], _∷_, _++_, append-assoc, append-nil}
+use Prim.Native.Nat.{ℕ, suc, _+_, _/_, _%_, _^_, _≤_, _<_}
+use native.Mathlib.Nat.{mod-lt}
+use native.Mathlib.Numerals.{add-one}
+use native.Mathlib.Omega.{arith}
+use lib.Pow.{pow-pos, pow-mono}
+use lib.ListN.{length, take, drop, getD, length-take, length-drop}
+use lib.Seq.{take-suc, take-all, getD-take, getD-drop}
+use Rattle.frame.proofs.Tests.{tests}
+use Rattle.frame.specs.Identifier.{catalogueForm}
+use Rattle.frame.specs.Words.{_<?_, gives}
+use Rattle.frame.proofs.Words.{refused-gives, gives-same}
+use Rattle.catalogue.specs.Rows.{rows}
+use Rattle.catalogue.specs.Table.{noRow, rowAt, rowOf, spanOf}
+use Rattle.catalogue.specs.Field.{fieldOf}
+use Rattle.catalogue.specs.Catalogue.{fieldIn}
+use Rattle.catalogue.specs.Promises.{RowAt, Classify, toldLooked}
+use Rattle.catalogue.specs.declared.Row.{Row}
+use Rattle.catalogue.specs.declared.Span.{Span}
+use Rattle.catalogue.specs.declared.Field.{Field}
+use Rattle.catalogue.specs.declared.Looked.{Looked}
+use Rattle.catalogue.specs.declared.Looked.the-variants as Looked
+use Rattle.catalogue.proofs.Laws.{row-count, ends}
+use Rattle.busread.specs.Report.{fieldText, fieldsText, rowsOf}
+
+-- a row that is there is found
+
+found : {n : ℕ} {r : Looked} → RowAt n r → n < 375 → toldLooked r ≡ gives (rowAt n)
+unfolding rowOf
+found {n} h k = let t : n <? 375 ≡ true = search tests in h .answer ∙ rw t
+
+pub row-there : {n : ℕ} {r : Looked} {row : Row} → RowAt n r → r ≡ Looked.Is row → n < 375 → row ≡ rowAt n
+row-there h e k = gives-same (sym (ap toldLooked e) ∙ found h k)
+
+pub row-missing : {n : ℕ} {r : Looked} {A : Type 0} → RowAt n r → r ≡ Looked.NoSuchRow → n < 375 → A
+row-missing h e k = refused-gives (sym (ap toldLooked e) ∙ found h k)
+
+-- and its codes have at most 32 bits
+pub code-fits : (n number : ℕ) → n < 375 → fieldIn (rowAt n) number .code < 2 ^ 32
+unfolding fieldIn fieldOf
+code-fits n number h =
+    let w = rowAt n .width in
+    let m : 2 ^ w ≤ 2 ^ 32 = pow-mono (ends n h .most) in
+    let l : number / 2 ^ (rowAt n .first) % 2 ^ w < 2 ^ w = mod-lt (number / 2 ^ (rowAt n .first)) (pow-pos w) in
+    omega arith
+
+pub field-fits : {n number : ℕ} {r : Looked} {row : Row} {field : Field}
+    → RowAt n r → r ≡ Looked.Is row → Classify row number field → n < 375 → field .code < 2 ^ 32
+field-fits {n} {number} h e c k = rw (c .answer, row-there h e k) (code-fits n number k)
+
+-- the rows of a span
+abbrev pub rowsIn : Span → List Row
+rowsIn span = take (span .count) (drop (span .start) rows)
+
+module _ (n source dgn number : ℕ) where
+  fields-snoc : (rs : List Row) (row : Row)
+      → fieldsText n source dgn number (rs ++ (row ∷ [])) ≡ fieldsText n source dgn number rs ++ fieldText n source dgn row (fieldIn row number)
+  unfolding fieldsText
+  fields-snoc [] row = append-nil (fieldText n source dgn row (fieldIn row number))
+  fields-snoc (r ∷ rs) row = rw (fields-snoc rs row) (sym (append-assoc (fieldText n source dgn r (fieldIn r number)) (fieldsText n source dgn number rs) (fieldText n source dgn row (fieldIn row number))))
+
+  pub fields-turn : (span : Span) (i : ℕ) → i < span .count → span .start + span .count ≤ 375
+      → fieldsText n source dgn number (take (i + 1) (rowsIn span))
+      ≡ fieldsText n source dgn number (take i (rowsIn span)) ++ fieldText n source dgn (rowAt (span .start + i)) (fieldIn (rowAt (span .start + i)) number)
+  unfolding rowAt
+  fields-turn span i h k =
+      let l : length rows ≡ 375 = row-count in
+      let m : i < length (rowsIn span) = simp (length-take, length-drop) (omega arith) in
+      let e : getD (rowsIn span) i noRow ≡ getD rows (span .start + i) noRow = rw (getD-take, getD-drop) in
+      rw (add-one, take-suc (rowsIn span) i noRow m, fields-snoc (take i (rowsIn span)) (getD (rowsIn span) i noRow), e)
+
+pub whole-span : (span : Span) (dgn i : ℕ) → span ≡ spanOf (catalogueForm dgn) → span .count ≤ i → take i (rowsIn span) ≡ rowsOf dgn
+whole-span span dgn i e h = take-all i (rowsIn span) (rw length-take (omega arith)) ∙ ap rowsIn e

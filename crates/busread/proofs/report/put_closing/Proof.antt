@@ -1,0 +1,52 @@
+-- `busread::report::put_closing` meets its contract. Assumes nothing.
+use Rattle.busread.specs.Report.{closingText}
+use Rattle.busread.proofs.Writing.{behind}
+use borrow.Author.Needs.{needs}
+use Rattle.busread.proofs.report.put_closing.Statement.{statement}
+use Rattle.busread.proofs.report.put_closing.Tie as tie
+
+slice-aggregate-put-decimal : tie.Need-slice-aggregate-put-decimal
+slice-aggregate-put-decimal c = search needs
+
+put-decimal-requires : tie.Need-put-decimal-requires
+put-decimal-requires c κs = search needs
+
+slice-aggregate-put-decimal-2 : tie.Need-slice-aggregate-put-decimal-2
+slice-aggregate-put-decimal-2 c = search needs
+
+put-decimal-requires-2 : tie.Need-put-decimal-requires-2
+put-decimal-requires-2 c κs = search needs
+
+slice-aggregate-put-decimal-3 : tie.Need-slice-aggregate-put-decimal-3
+slice-aggregate-put-decimal-3 c = search needs
+
+put-decimal-requires-3 : tie.Need-put-decimal-requires-3
+put-decimal-requires-3 c κs = search needs
+
+slice-aggregate-put : tie.Need-slice-aggregate-put
+slice-aggregate-put c = search needs
+
+put-requires : tie.Need-put-requires
+put-requires c κs = search needs
+
+same-length : tie.Need-same-length
+same-length c = search needs
+
+returns : tie.Need-returns
+unfolding closingText
+returns c = behind (behind (behind (c .before .before .before .before .before .before .before .before .before .before .before .before .before .before .before .before .before .put-decimal .ensures .0) (c .before .before .before .before .before .before .before .before .before .before .before .before .put-decimal2 .ensures .0)) (c .before .before .before .before .before .before .before .put-decimal3 .ensures .0)) (c .before .before .put .ensures)
+
+pub put-closing-spec : {M : Type 1} → statement M
+put-closing-spec =
+    tie.close
+    (tie.spec
+    slice-aggregate-put-decimal
+    put-decimal-requires
+    slice-aggregate-put-decimal-2
+    put-decimal-requires-2
+    slice-aggregate-put-decimal-3
+    put-decimal-requires-3
+    slice-aggregate-put
+    put-requires
+    same-length
+    returns)

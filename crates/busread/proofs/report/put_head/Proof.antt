@@ -1,0 +1,45 @@
+-- `busread::report::put_head` meets its contract. Assumes nothing.
+use Rattle.busread.specs.Report.{headText}
+use Rattle.busread.proofs.Writing.{behind}
+use native.Mathlib.Omega.{arith}
+use borrow.Author.Needs.{needs}
+use Rattle.busread.proofs.report.put_head.Statement.{statement}
+use Rattle.busread.proofs.report.put_head.Tie as tie
+
+slice-aggregate-put-decimal : tie.Need-slice-aggregate-put-decimal
+slice-aggregate-put-decimal c = search needs
+
+put-decimal-requires : tie.Need-put-decimal-requires
+put-decimal-requires c κs = search needs
+
+slice-aggregate-put-hex : tie.Need-slice-aggregate-put-hex
+slice-aggregate-put-hex c = search needs
+
+put-hex-requires : tie.Need-put-hex-requires
+put-hex-requires c κs = search needs
+
+slice-aggregate-put-hex-2 : tie.Need-slice-aggregate-put-hex-2
+slice-aggregate-put-hex-2 c = search needs
+
+put-hex-requires-2 : tie.Need-put-hex-requires-2
+put-hex-requires-2 c κs = search needs
+
+same-length : tie.Need-same-length
+same-length c = search needs
+
+returns : tie.Need-returns
+unfolding headText
+returns c = (behind (behind (c .before .before .before .before .before .before .before .before .before .before .before .before .put-decimal .ensures .0) (c .before .before .before .before .before .before .before .put-hex .ensures .0)) (c .before .before .put-hex2 .ensures .0), omega arith)
+
+pub put-head-spec : {M : Type 1} → statement M
+put-head-spec =
+    tie.close
+    (tie.spec
+    slice-aggregate-put-decimal
+    put-decimal-requires
+    slice-aggregate-put-hex
+    put-hex-requires
+    slice-aggregate-put-hex-2
+    put-hex-requires-2
+    same-length
+    returns)

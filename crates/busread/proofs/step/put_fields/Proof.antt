@@ -1,0 +1,111 @@
+-- `busread::step::put_fields` meets its contract. Assumes nothing.
+use mathlib.Core.Path.{_≡_, refl, sym, ap, _∙_}
+use Prim.Native.Nat.{_≤_, _<_, _-_, _*_, _+_, _/_, _%_}
+use native.Mathlib.Nat.{div-one}
+use lib.ListN.{length, take, drop}
+use lib.Seq.{take-all}
+use lib.ListN.{length-take}
+use Rattle.frame.specs.Identifier.{sourceOf, dgnOf, catalogueForm}
+use Rattle.catalogue.specs.Table.{rowAt}
+use Rattle.catalogue.specs.Catalogue.{fieldIn}
+use Rattle.catalogue.proofs.Laws.{within}
+use Rattle.busread.specs.Text.{Wrote}
+use Rattle.busread.specs.Report.{fieldsText}
+use Rattle.busread.proofs.Writing.{behind, nothing}
+use Rattle.busread.proofs.Fields.{row-there, row-missing, field-fits, rowsIn, fields-turn, whole-span}
+use borrow.Author.Needs.{needs}
+use native.Mathlib.Omega.{arith}
+use Rattle.busread.proofs.step.put_fields.Statement.{statement}
+use Rattle.busread.proofs.step.put_fields.Tie as tie
+
+abbrev Inv-loop : tie.InvT-loop
+Inv-loop out₀ at number id source dgn content span next₀ i₀ out next i = (i ≤ span .count) × (span .start + span .count ≤ 375) × (next ≤ at + 128 * i) × Wrote out₀ at (fieldsText number source dgn content (take i (rowsIn span))) out next
+
+abbrev μ-loop : tie.MeasureT-loop
+μ-loop out₀ at number id source dgn content span next₀ i₀ out next i = span .count - i
+
+cast-source : tie.Need-cast-source Inv-loop μ-loop
+cast-source c = search needs
+
+number-of-requires : tie.Need-number-of-requires Inv-loop μ-loop
+number-of-requires c κs = search needs
+
+rows-of-requires : tie.Need-rows-of-requires Inv-loop μ-loop
+rows-of-requires c κs = search needs
+
+loop-holds : tie.Need-loop-holds Inv-loop μ-loop
+unfolding fieldsText
+loop-holds c = (omega arith, rw (c .rows-of .ensures .answer) (within (catalogueForm (c .before .before .before .args .id / 256 % 131072))), omega arith, nothing (c .before .before .before .args .out .now) (c .before .before .before .args .at) (omega arith))
+
+add-row-at : tie.Need-add-row-at Inv-loop μ-loop
+add-row-at c = search needs
+
+row-at-requires : tie.Need-row-at-requires Inv-loop μ-loop
+row-at-requires c κs = search needs
+
+enum-known-looked : tie.Need-enum-known-looked Inv-loop μ-loop
+enum-known-looked c = search needs
+
+enum-told : tie.Need-enum-told Inv-loop μ-loop
+enum-told c = search needs
+
+same-length : tie.Need-same-length Inv-loop μ-loop
+same-length c = c .before .before .before .before .before .before .loop .inv .3 .room
+
+returns : tie.Need-returns Inv-loop μ-loop
+returns c = row-missing (c .before .before .row-at .ensures) (c .enum-told .given .1) (omega arith)
+
+classify-requires : tie.Need-classify-requires Inv-loop μ-loop
+classify-requires c κs = search needs
+
+put-field-requires : tie.Need-put-field-requires Inv-loop μ-loop
+put-field-requires c κs = (omega arith, field-fits (c .before .before .before .before .before .row-at .ensures) (c .before .before .before .looked .given .1) (c .before .classify .ensures) (omega arith))
+
+add-i : tie.Need-add-i Inv-loop μ-loop
+add-i c = search needs
+
+loop-less : tie.Need-loop-less Inv-loop μ-loop
+loop-less c = search needs
+
+loop-again : tie.Need-loop-again Inv-loop μ-loop
+loop-again c = 
+    let l = c .before .before .before .before .before .before .before .before .before .before .before .before .loop in
+    let a = c .before .before .before .before .before .before .before .before .before .before .before .before .before .before .before .before .args in
+    let span = c .before .before .before .before .before .before .before .before .before .before .before .before .before .rows-of .result in
+    let e = row-there (c .before .before .before .before .before .before .before .before .row-at .ensures) (c .before .before .before .before .before .before .looked .given .1) (omega arith) in
+    (omega arith, l .inv .1, omega arith, rw (fields-turn (a .number) (a .id % 256) (a .id / 256 % 131072) (c .before .before .before .before .before .before .before .before .before .before .before .before .before .before .number-of .result) span (l .i) (omega arith) (l .inv .1), ← e, ← c .before .before .before .before .classify .ensures .answer) (behind (l .inv .3) (c .before .before .put-field .ensures .0)))
+
+same-length-2 : tie.Need-same-length-2 Inv-loop μ-loop
+same-length-2 c = c .before .before .loop .inv .3 .room
+
+returns-2 : tie.Need-returns-2 Inv-loop μ-loop
+unfolding sourceOf dgnOf
+returns-2 c = 
+    let l = c .before .before .loop in
+    let a = c .before .before .before .before .before .before .args in
+    let e = whole-span (c .before .before .before .rows-of .result) (a .id / 256 % 131072) (l .i) (c .before .before .before .rows-of .ensures .answer) (omega arith) in
+    rw (div-one, ← c .before .before .before .before .number-of .ensures .answer, ← e) (l .inv .3)
+
+pub put-fields-spec : {M : Type 1} → statement M
+put-fields-spec =
+    tie.close
+    (tie.spec
+    Inv-loop
+    μ-loop
+    cast-source
+    number-of-requires
+    rows-of-requires
+    loop-holds
+    add-row-at
+    row-at-requires
+    enum-known-looked
+    enum-told
+    same-length
+    returns
+    classify-requires
+    put-field-requires
+    add-i
+    loop-less
+    loop-again
+    same-length-2
+    returns-2)

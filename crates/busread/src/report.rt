@@ -1,0 +1,94 @@
+// The lines of the report, put into lent bytes behind what stands there.
+ghost use mathlib.Core.Path.{_≡_};
+ghost use Prim.Native.Nat.{_+_, _≤_, _<_, _^_};
+ghost use lib.ListN.{length};
+ghost use Rattle.busread.specs.Text.{Wrote};
+ghost use Rattle.busread.specs.Report.{keyed, headText, refusalText, messageText, className, placeText, fieldText, closingText};
+use crate::text;
+use catalogue::Class;
+use catalogue::Field;
+use catalogue::Row;
+
+// How many lines there were, how many were refused, and how many long messages were finished.
+pub struct Counts {
+    pub frames: u32,
+    pub refused: u32,
+    pub messages: u32,
+}
+
+// What a frame's lines begin with.
+fn put_head(out: &mut [u8], at: usize, number: u32, source: u8, dgn: u32) -> usize
+    requires { ⌜ at + 32 ≤ length (now out) ⌝ }
+    ensures { λ r. ⌜ Wrote (now (out .entry)) at (headText number source dgn) (now (out .exit)) r × (r ≤ at + 32) ⌝ }
+{
+    let number_end = text::put_decimal(out, at, b"frame=", number);
+    let source_end = text::put_hex(out, number_end, b" sa=", source as u32, 2);
+    text::put_hex(out, source_end, b" dgn=", dgn, 5)
+}
+
+// A refused line.
+pub fn put_refusal(out: &mut [u8], at: usize, number: u32, refusal: u32) -> usize
+    requires { ⌜ at + 64 ≤ length (now out) ⌝ }
+    ensures { λ r. ⌜ Wrote (now (out .entry)) at (refusalText number refusal) (now (out .exit)) r ⌝ }
+{
+    let number_end = text::put_decimal(out, at, b"frame=", number);
+    let refusal_end = text::put_decimal(out, number_end, b" refusal=", refusal);
+    text::put(out, refusal_end, b"\n")
+}
+
+// A finished message.
+pub fn put_message(out: &mut [u8], at: usize, number: u32, source: u8, dgn: u32, bytes: &[u8]) -> usize
+    requires { ⌜ (at + 4096 ≤ length (now out)) × (length (now bytes) ≤ 1785) ⌝ }
+    ensures { λ r. ⌜ Wrote (now (out .entry)) at (messageText number source dgn (now (bytes .entry))) (now (out .exit)) r ⌝ }
+{
+    let head_end = put_head(out, at, number, source, dgn);
+    let length_end = text::put_decimal(out, head_end, b" length=", bytes.len() as u32);
+    let bytes_end = text::put_bytes(out, length_end, b" bytes=", bytes);
+    text::put(out, bytes_end, b"\n")
+}
+
+// The class of a field.
+fn put_class(out: &mut [u8], at: usize, class: Class) -> usize
+    requires { ⌜ at + 20 ≤ length (now out) ⌝ }
+    ensures { λ r. ⌜ Wrote (now (out .entry)) at (keyed " class=" (className class)) (now (out .exit)) r × (r ≤ at + 20) ⌝ }
+{
+    match class {
+        Class::Number => text::put(out, at, b" class=number"),
+        Class::NoData => text::put(out, at, b" class=no-data"),
+        Class::OutOfRange => text::put(out, at, b" class=out-of-range"),
+        Class::Reserved => text::put(out, at, b" class=reserved"),
+    }
+}
+
+// A field of a catalogued frame.
+pub fn put_field(out: &mut [u8], at: usize, number: u32, source: u8, dgn: u32, row: Row, field: Field) -> usize
+    requires { ⌜ (at + 128 ≤ length (now out)) × (field .code < 2 ^ 32) ⌝ }
+    ensures { λ r. ⌜ Wrote (now (out .entry)) at (fieldText number source dgn row field) (now (out .exit)) r × (r ≤ at + 128) ⌝ }
+{
+    let head_end = put_head(out, at, number, source, dgn);
+    let place_end = put_place(out, head_end, row);
+    let class = field.class;
+    let class_end = put_class(out, place_end, class);
+    let raw_end = text::put_decimal(out, class_end, b" raw=", field.code as u32);
+    text::put(out, raw_end, b"\n")
+}
+
+// Where a field lies.
+fn put_place(out: &mut [u8], at: usize, row: Row) -> usize
+    requires { ⌜ at + 32 ≤ length (now out) ⌝ }
+    ensures { λ r. ⌜ Wrote (now (out .entry)) at (placeText row) (now (out .exit)) r × (r ≤ at + 32) ⌝ }
+{
+    let bit_end = text::put_decimal(out, at, b" bit=", row.first as u32);
+    text::put_decimal(out, bit_end, b" width=", row.width as u32)
+}
+
+// The closing line.
+pub fn put_closing(out: &mut [u8], at: usize, counts: Counts) -> usize
+    requires { ⌜ at + 128 ≤ length (now out) ⌝ }
+    ensures { λ r. ⌜ Wrote (now (out .entry)) at (closingText counts) (now (out .exit)) r ⌝ }
+{
+    let frames_end = text::put_decimal(out, at, b"frames=", counts.frames);
+    let refused_end = text::put_decimal(out, frames_end, b" refused=", counts.refused);
+    let messages_end = text::put_decimal(out, refused_end, b" messages=", counts.messages);
+    text::put(out, messages_end, b"\n")
+}

@@ -1,0 +1,189 @@
+// One line of the capture: what it prints, and what is kept for the next.
+ghost use mathlib.Core.Path.{_≡_};
+ghost use Prim.Native.Nat.{_+_, _≤_, _<_};
+ghost use lib.ListN.{length};
+ghost use Rattle.frame.specs.Words.{gives};
+ghost use Rattle.frame.specs.Promises.{refusalOf};
+ghost use Rattle.frame.specs.Bytes.{numberOf};
+ghost use Rattle.frame.specs.Identifier.{sourceOf, dgnOf};
+ghost use Rattle.message.specs.Receiver.{room};
+ghost use Rattle.message.specs.Promises.{toldAnswer};
+ghost use Rattle.capture.specs.Line.{lineRead};
+ghost use Rattle.capture.specs.Promises.{frameIn};
+ghost use Rattle.capture.specs.Stream.{mostLines};
+ghost use Rattle.busread.specs.Text.{Wrote};
+ghost use Rattle.busread.specs.Report.{printOf, fieldsText, rowsOf, answerText, counted};
+ghost use Rattle.busread.specs.Step.{lineRoom, kept, Counting, Took, Passed};
+use crate::report;
+use crate::report::Counts;
+use capture::Line;
+use message::Answer;
+use message::Receiver;
+
+// What an answer of the receiver prints.
+pub enum Print {
+    Refused(u32),
+    Message { sender: u8, dgn: u32 },
+    Fields,
+    Nothing,
+}
+
+// What is kept after a line, and the place behind what it printed.
+pub struct Step {
+    pub receiver: Receiver,
+    pub counts: Counts,
+    pub next: usize,
+}
+
+// The number of a frame that is refused by itself.
+fn refusal_of(why: frame::BadFrame) -> u32
+    ensures { λ r. ⌜ r ≡ refusalOf why ⌝ }
+{
+    match why {
+        frame::BadFrame::IdentifierTooLarge => 3,
+        frame::BadFrame::NotEightBytes => 4,
+        frame::BadFrame::ReservedBitSet => 5,
+        frame::BadFrame::SourceNotAllowed => 6,
+    }
+}
+
+fn print_of(answer: Answer) -> Print
+    ensures { λ r. ⌜ r ≡ printOf (toldAnswer answer) ⌝ }
+{
+    match answer {
+        Answer::StorageTooShort => Print::Refused(1),
+        Answer::BrokenState => Print::Refused(2),
+        Answer::BadFrame(why) => Print::Refused(refusal_of(why)),
+        Answer::MalformedAnnouncement => Print::Refused(7),
+        Answer::NoPlaceFree => Print::Refused(8),
+        Answer::NoOpenMessage => Print::Refused(9),
+        Answer::UnexpectedPacket => Print::Refused(10),
+        Answer::NothingToDo => Print::Fields,
+        Answer::Opened => Print::Nothing,
+        Answer::Stored => Print::Nothing,
+        Answer::Finished {
+            place: _,
+            sender,
+            dgn,
+            length: _,
+        } => Print::Message { sender, dgn },
+    }
+}
+
+// The counts with one line more.
+fn count(counts: Counts, print: Print) -> Counts
+    requires { ⌜ (counts .frames < mostLines) × Counting counts ⌝ }
+    ensures { λ r. ⌜ (r ≡ counted counts print) × Counting r ⌝ }
+{
+    let frames = counts.frames + 1;
+    match print {
+        Print::Refused(_) => Counts {
+            frames,
+            refused: counts.refused + 1,
+            messages: counts.messages,
+        },
+        Print::Message { sender: _, dgn: _ } => Counts {
+            frames,
+            refused: counts.refused,
+            messages: counts.messages + 1,
+        },
+        Print::Fields => Counts {
+            frames,
+            refused: counts.refused,
+            messages: counts.messages,
+        },
+        Print::Nothing => Counts {
+            frames,
+            refused: counts.refused,
+            messages: counts.messages,
+        },
+    }
+}
+
+// The fields of a frame, in the catalogue's order.
+fn put_fields(out: &mut [u8], at: usize, number: u32, id: u32, bytes: [u8; 8]) -> usize
+    requires { ⌜ at + lineRoom ≤ length (now out) ⌝ }
+    ensures { λ r. ⌜ Wrote (now (out .entry)) at (fieldsText number (sourceOf id) (dgnOf id) (numberOf bytes) (rowsOf (dgnOf id))) (now (out .exit)) r ⌝ }
+{
+    let source = (id % 256) as u8;
+    let dgn = id / 256 % 131072;
+    let content = frame::number_of(bytes);
+    let span = catalogue::rows_of(dgn);
+    let mut next = at;
+    let mut i: usize = 0;
+    while i < span.count {
+        let looked = catalogue::row_at(span.start + i);
+        let catalogue::Looked::Is(row) = looked else {
+            return next;
+        };
+        let field = catalogue::classify(row, content);
+        next = report::put_field(out, next, number, source, dgn, row, field);
+        i += 1;
+    }
+    next
+}
+
+// What an answer prints; a finished message is read from the storage.
+fn put_answer(out: &mut [u8], at: usize, number: u32, line: Line, answer: Answer, storage: &[u8]) -> usize
+    requires { ⌜ (at + lineRoom ≤ length (now out)) × (room ≤ length (now storage)) ⌝ }
+    ensures { λ r. ⌜ Wrote (now (out .entry)) at (answerText number (frameIn line) (now (storage .entry)) (toldAnswer answer)) (now (out .exit)) r ⌝ }
+{
+    let print = print_of(answer);
+    match print {
+        Print::Refused(refusal) => report::put_refusal(out, at, number, refusal),
+        Print::Message { sender, dgn } => {
+            let bytes = message::message(storage, answer);
+            report::put_message(out, at, number, sender, dgn, bytes)
+        }
+        Print::Fields => {
+            let bytes = line.bytes;
+            put_fields(out, at, number, line.id, bytes)
+        }
+        Print::Nothing => at,
+    }
+}
+
+// A sound line: the pause, then its frame.
+fn hear(receiver: Receiver, counts: Counts, line: Line, storage: &mut [u8], out: &mut [u8], at: usize) -> Step
+    requires { ⌜ (at + lineRoom ≤ length (now out)) × (room ≤ length (now storage)) × (counts .frames < mostLines) × Counting counts ⌝ }
+    ensures { λ r. ⌜ Took (kept receiver (now (storage .entry)) counts) (gives (frameIn line)) (now (out .entry)) at r (now (storage .exit)) (now (out .exit)) ⌝ }
+{
+    let paused = receiver.pause(line.gap);
+    let quiet = paused.receiver;
+    let bytes = line.bytes;
+    let heard = quiet.hear(storage, line.id, &bytes);
+    let answer = heard.answer;
+    let next = put_answer(out, at, counts.frames + 1, line, answer, storage);
+    let after = heard.receiver;
+    Step {
+        receiver: after,
+        counts: count(counts, print_of(answer)),
+        next,
+    }
+}
+
+// A malformed line: refusal 19, and no time passes.
+pub fn malformed(receiver: Receiver, counts: Counts, out: &mut [u8], at: usize) -> Step
+    requires { ⌜ (at + lineRoom ≤ length (now out)) × (counts .frames < mostLines) × Counting counts ⌝ }
+    ensures { λ r. ⌜ Passed receiver counts (now (out .entry)) at r (now (out .exit)) ⌝ }
+{
+    let next = report::put_refusal(out, at, counts.frames + 1, 19);
+    Step {
+        receiver,
+        counts: count(counts, Print::Refused(19)),
+        next,
+    }
+}
+
+// A line, without its newline.
+pub fn take(receiver: Receiver, counts: Counts, text: &[u8], storage: &mut [u8], out: &mut [u8], at: usize) -> Step
+    requires { ⌜ (at + lineRoom ≤ length (now out)) × (room ≤ length (now storage)) × (counts .frames < mostLines) × Counting counts ⌝ }
+    ensures { λ r. ⌜ Took (kept receiver (now (storage .entry)) counts) (lineRead (now (text .entry))) (now (out .entry)) at r (now (storage .exit)) (now (out .exit)) ⌝ }
+{
+    let line = capture::take_apart(text);
+    let answer = line.answer;
+    match answer {
+        capture::Reading::Sound => hear(receiver, counts, line, storage, out, at),
+        capture::Reading::Malformed => malformed(receiver, counts, out, at),
+    }
+}
