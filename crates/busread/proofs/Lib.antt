@@ -1,3 +1,4 @@
 pub mod Writing
 pub mod Fields
 pub mod Printing
+pub mod Reading

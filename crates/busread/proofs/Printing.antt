@@ -24,7 +24,7 @@ use Rattle.capture.specs.declared.Reading.{Reading}
 use Rattle.capture.specs.declared.Reading.the-variants as Reading
 use Rattle.busread.specs.Text.{Wrote}
 use Rattle.busread.specs.Report.{refusalText, printOf, printed, answerText, counted, heardIn, lineText, keptAfter}
-use Rattle.busread.specs.Step.{kept, Counting, Took}
+use Rattle.busread.specs.Step.{lineRoom, kept, Counting, Took}
 use Rattle.busread.specs.declared.report.Counts.{Counts}
 use Rattle.busread.specs.declared.step.Print.{Print}
 use Rattle.busread.specs.declared.step.Print.the-variants as Print
@@ -66,23 +66,24 @@ counted-frames c Print.Nothing = refl
 pub took : {f : Frame} {receiver : Receiver} {storage storage′ out out′ : List ℕ} {counts counts′ : Counts} {at next : ℕ} {p : Paused} {h : Heard}
     → Pause (f .gap) (receiver .places) p → Hear (f .id) (f .bytes) (p .receiver .places) storage h storage′
     → Wrote out at (answerText (counts .frames + 1) f storage′ (toldAnswer (h .answer))) out′ next
-    → counts′ ≡ counted counts (printOf (toldAnswer (h .answer))) → Counting counts′
+    → next ≤ at + lineRoom → counts′ ≡ counted counts (printOf (toldAnswer (h .answer))) → Counting counts′
     → Took (kept receiver storage counts) (gives f) out at (record { receiver = h .receiver; counts = counts′; next = next }) storage′ out′
 unfolding lineText keptAfter heardIn
-took {f} {receiver} {storage} {storage′} {out} {out′} {counts} {counts′} {at} {next} {p} {h} e g w n k =
+took {f} {receiver} {storage} {storage′} {out} {out′} {counts} {counts′} {at} {next} {p} {h} e g w b n k =
     record {
       printed = rw (← e .places, ← g .storage-bytes, ← g .answer) w;
+      short = b;
       kept = rw (← e .places, ← g .places, ← g .storage-bytes, ← g .answer, n);
       counting = k;
       counted = ap (λ (c : Counts). c .frames) n ∙ counted-frames counts (printOf (toldAnswer (h .answer)));
     }
 
 pub passed : {receiver : Receiver} {out out′ : List ℕ} {counts counts′ : Counts} {at next : ℕ} (storage : List ℕ)
-    → Wrote out at (refusalText (counts .frames + 1) 19) out′ next → counts′ ≡ counted counts (Print.Refused 19) → Counting counts′
+    → Wrote out at (refusalText (counts .frames + 1) 19) out′ next → next ≤ at + lineRoom → counts′ ≡ counted counts (Print.Refused 19) → Counting counts′
     → Took (kept receiver storage counts) (refused 19) out at (record { receiver = receiver; counts = counts′; next = next }) storage out′
 unfolding lineText keptAfter
-passed {counts = counts} storage w n k =
-    record { printed = w; kept = rw n; counting = k; counted = ap (λ (c : Counts). c .frames) n }
+passed {counts = counts} storage w b n k =
+    record { printed = w; short = b; kept = rw n; counting = k; counted = ap (λ (c : Counts). c .frames) n }
 
 -- a line taken apart says what its answer says
 

@@ -1,3 +1,4 @@
 pub mod Text
 pub mod Report
 pub mod Step
+pub mod Reader

@@ -1,4 +1,4 @@
--- What the functions around the report promise: one line taken, the lines of a block, and the end.
+-- One line of a capture taken: what a step promises.
 use mathlib.Core.Path.{_≡_}
 use mathlib.Core.List.{List}
 use Prim.Native.Nat.{ℕ, _+_, _≤_}
@@ -25,6 +25,7 @@ pub record Counting (c : Counts) : Type 0 where
 -- one line: what it prints behind `at`, and all that is kept
 pub record Took (k : Kept) (line : Told Frame) (out : List ℕ) (at : ℕ) (r : Step) (storage after : List ℕ) : Type 0 where
   pub printed : Wrote out at (lineText k line) after (r .next)
+  pub short : r .next ≤ at + lineRoom
   pub kept : kept (r .receiver) storage (r .counts) ≡ keptAfter k line
   pub counting : Counting (r .counts)
   pub counted : r .counts .frames ≡ k .counts .frames + 1

@@ -1,4 +1,5 @@
 // Reads a capture of the bus from standard input and prints its report to standard output.
+mod reader;
 mod report;
 mod step;
 mod text;

@@ -29,7 +29,7 @@ fn put_head(out: &mut [u8], at: usize, number: u32, source: u8, dgn: u32) -> usi
 // A refused line.
 pub fn put_refusal(out: &mut [u8], at: usize, number: u32, refusal: u32) -> usize
     requires { ⌜ at + 64 ≤ length (now out) ⌝ }
-    ensures { λ r. ⌜ Wrote (now (out .entry)) at (refusalText number refusal) (now (out .exit)) r ⌝ }
+    ensures { λ r. ⌜ Wrote (now (out .entry)) at (refusalText number refusal) (now (out .exit)) r × (r ≤ at + 64) ⌝ }
 {
     let number_end = text::put_decimal(out, at, b"frame=", number);
     let refusal_end = text::put_decimal(out, number_end, b" refusal=", refusal);
@@ -39,7 +39,7 @@ pub fn put_refusal(out: &mut [u8], at: usize, number: u32, refusal: u32) -> usiz
 // A finished message.
 pub fn put_message(out: &mut [u8], at: usize, number: u32, source: u8, dgn: u32, bytes: &[u8]) -> usize
     requires { ⌜ (at + 4096 ≤ length (now out)) × (length (now bytes) ≤ 1785) ⌝ }
-    ensures { λ r. ⌜ Wrote (now (out .entry)) at (messageText number source dgn (now (bytes .entry))) (now (out .exit)) r ⌝ }
+    ensures { λ r. ⌜ Wrote (now (out .entry)) at (messageText number source dgn (now (bytes .entry))) (now (out .exit)) r × (r ≤ at + 4096) ⌝ }
 {
     let head_end = put_head(out, at, number, source, dgn);
     let length_end = text::put_decimal(out, head_end, b" length=", bytes.len() as u32);

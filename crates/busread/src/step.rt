@@ -103,7 +103,7 @@ fn count(counts: Counts, print: Print) -> Counts
 // The fields of a frame, in the catalogue's order.
 fn put_fields(out: &mut [u8], at: usize, number: u32, id: u32, bytes: [u8; 8]) -> usize
     requires { ⌜ at + lineRoom ≤ length (now out) ⌝ }
-    ensures { λ r. ⌜ Wrote (now (out .entry)) at (fieldsText number (sourceOf id) (dgnOf id) (numberOf bytes) (rowsOf (dgnOf id))) (now (out .exit)) r ⌝ }
+    ensures { λ r. ⌜ Wrote (now (out .entry)) at (fieldsText number (sourceOf id) (dgnOf id) (numberOf bytes) (rowsOf (dgnOf id))) (now (out .exit)) r × (r ≤ at + lineRoom) ⌝ }
 {
     let source = (id % 256) as u8;
     let dgn = id / 256 % 131072;
@@ -126,7 +126,7 @@ fn put_fields(out: &mut [u8], at: usize, number: u32, id: u32, bytes: [u8; 8]) -
 // What an answer prints; a finished message is read from the storage.
 fn put_answer(out: &mut [u8], at: usize, number: u32, line: Line, answer: Answer, storage: &[u8]) -> usize
     requires { ⌜ (at + lineRoom ≤ length (now out)) × (room ≤ length (now storage)) ⌝ }
-    ensures { λ r. ⌜ Wrote (now (out .entry)) at (answerText number (frameIn line) (now (storage .entry)) (toldAnswer answer)) (now (out .exit)) r ⌝ }
+    ensures { λ r. ⌜ Wrote (now (out .entry)) at (answerText number (frameIn line) (now (storage .entry)) (toldAnswer answer)) (now (out .exit)) r × (r ≤ at + lineRoom) ⌝ }
 {
     let print = print_of(answer);
     match print {

@@ -1,6 +1,7 @@
 -- `busread::report::put_message` meets its contract. Assumes nothing.
 use Rattle.busread.proofs.Writing.{behind}
 use Rattle.busread.specs.Report.{messageText}
+use native.Mathlib.Omega.{arith}
 use borrow.Author.Needs.{needs}
 use Rattle.busread.proofs.report.put_message.Statement.{statement}
 use Rattle.busread.proofs.report.put_message.Tie as tie
@@ -34,7 +35,7 @@ same-length c = search needs
 
 returns : tie.Need-returns
 unfolding messageText
-returns c = behind (behind (behind (c .before .before .before .before .before .before .before .before .before .before .before .before .before .before .before .before .before .put-head .ensures .0) (c .before .before .before .before .before .before .before .before .before .before .before .before .put-decimal .ensures .0)) (c .before .before .before .before .before .before .before .put-bytes .ensures .0)) (c .before .before .put .ensures)
+returns c = (behind (behind (behind (c .before .before .before .before .before .before .before .before .before .before .before .before .before .before .before .before .before .put-head .ensures .0) (c .before .before .before .before .before .before .before .before .before .before .before .before .put-decimal .ensures .0)) (c .before .before .before .before .before .before .before .put-bytes .ensures .0)) (c .before .before .put .ensures), omega arith)
 
 pub put-message-spec : {M : Type 1} → statement M
 put-message-spec =

@@ -1,6 +1,7 @@
 -- `busread::report::put_refusal` meets its contract. Assumes nothing.
 use Rattle.busread.specs.Report.{refusalText}
 use Rattle.busread.proofs.Writing.{behind}
+use native.Mathlib.Omega.{arith}
 use borrow.Author.Needs.{needs}
 use Rattle.busread.proofs.report.put_refusal.Statement.{statement}
 use Rattle.busread.proofs.report.put_refusal.Tie as tie
@@ -28,7 +29,7 @@ same-length c = search needs
 
 returns : tie.Need-returns
 unfolding refusalText
-returns c = behind (behind (c .before .before .before .before .before .before .before .before .before .before .before .before .put-decimal .ensures .0) (c .before .before .before .before .before .before .before .put-decimal2 .ensures .0)) (c .before .before .put .ensures)
+returns c = (behind (behind (c .before .before .before .before .before .before .before .before .before .before .before .before .put-decimal .ensures .0) (c .before .before .before .before .before .before .before .put-decimal2 .ensures .0)) (c .before .before .put .ensures), omega arith)
 
 pub put-refusal-spec : {M : Type 1} → statement M
 put-refusal-spec =

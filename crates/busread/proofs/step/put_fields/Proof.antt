@@ -84,7 +84,7 @@ returns-2 c =
     let l = c .before .before .loop in
     let a = c .before .before .before .before .before .before .args in
     let e = whole-span (c .before .before .before .rows-of .result) (a .id / 256 % 131072) (l .i) (c .before .before .before .rows-of .ensures .answer) (omega arith) in
-    rw (div-one, ← c .before .before .before .before .number-of .ensures .answer, ← e) (l .inv .3)
+    (rw (div-one, ← c .before .before .before .before .number-of .ensures .answer, ← e) (l .inv .3), omega arith)
 
 pub put-fields-spec : {M : Type 1} → statement M
 put-fields-spec =

@@ -1,0 +1,79 @@
+-- The lines of a block taken one after the other, and the end of the capture: what the reader promises.
+use mathlib.Core.Path.{_≡_}
+use mathlib.Core.List.{List, [], _++_}
+use Prim.Native.Nat.{ℕ, _+_, _≤_, _<_}
+use lib.ListN.{length, take}
+use Rattle.message.specs.declared.Receiver.{Receiver}
+use Rattle.capture.specs.Stream.{Piece, pieceRead}
+use Rattle.capture.specs.Cutter.{fresh, endingOf}
+use Rattle.capture.specs.Promises.{Next}
+use Rattle.capture.specs.Feeding.{yieldOf, brings, used, over, lastPieces}
+use Rattle.capture.specs.declared.Cutter.{Cutter}
+use Rattle.capture.specs.declared.Cut.{Cut}
+use Rattle.busread.specs.Text.{Wrote}
+use Rattle.busread.specs.Report.{Kept, lineText, keptAfter, linesText}
+use Rattle.busread.specs.Step.{kept, Counting}
+use Rattle.busread.specs.declared.step.Step.{Step}
+use Rattle.busread.specs.declared.reader.Reader.{Reader}
+use Rattle.busread.specs.declared.reader.Run.{Run}
+use Rattle.busread.specs.declared.reader.Going.{Going}
+use Rattle.busread.specs.declared.reader.Going.the-variants.{On, Used, Over}
+
+-- The lent output has room for two lines: a run ends where the first half is full.
+
+abbrev pub half : ℕ
+half = 65536
+
+abbrev pub outRoom : ℕ
+outRoom = 131072
+
+-- what a reader and the storage keep
+abbrev pub keptBy : Reader → List ℕ → Kept
+keptBy reader storage = kept (reader .receiver) storage (reader .counts)
+
+-- a reader between two lines has counted what its cutter has cut
+pub record Ready (reader : Reader) : Type 0 where
+  pub lines : reader .cutter .lines ≡ reader .counts .frames
+  pub counting : Counting (reader .counts)
+
+-- From a position in a block, a cutter and what is kept: the text of the lines that a run takes, where it leaves all three, and whether it goes on.
+pub data Ran (block : List ℕ) (at : ℕ) (c : Cutter) (k : Kept) : List ℕ → ℕ → Cutter → Kept → Going → Type 0 where
+  begun : Ran block at c k [] at c k On
+  a-line : {words : List ℕ} {at′ : ℕ} {c′ : Cutter} {k′ : Kept} (r : Cut) (piece : Piece)
+      → Ran block at c k words at′ c′ k′ On → Next block at′ c′ r → yieldOf block r ≡ brings piece
+      → Ran block at c k (words ++ lineText k′ (pieceRead piece)) (r .next) (r .cutter) (keptAfter k′ (pieceRead piece)) On
+  all-used : {words : List ℕ} {at′ : ℕ} {c′ : Cutter} {k′ : Kept} (r : Cut)
+      → Ran block at c k words at′ c′ k′ On → Next block at′ c′ r → yieldOf block r ≡ used
+      → Ran block at c k words (r .next) (r .cutter) k′ Used
+  all-read : {words : List ℕ} {at′ : ℕ} {c′ : Cutter} {k′ : Kept} (r : Cut)
+      → Ran block at c k words at′ c′ k′ On → Next block at′ c′ r → yieldOf block r ≡ over
+      → Ran block at c k words (r .next) (r .cutter) k′ Over
+
+-- where a line leaves the run
+abbrev pub went : Cutter → ℕ → Step → Run
+went cutter at step =
+    record {
+      reader = record { cutter = cutter; receiver = step .receiver; counts = step .counts };
+      at = at;
+      next = step .next;
+      going = On;
+    }
+
+-- one turn carries on whatever was run before
+pub record Turned (block : List ℕ) (at : ℕ) (reader : Reader) (storage out : List ℕ) (next : ℕ) (r : Run) (storage′ out′ : List ℕ) : Type 0 where
+  pub runs : (from : ℕ) (c : Cutter) (k : Kept) → Ran block from c k (take next out) at (reader .cutter) (keptBy reader storage) On
+      → Ran block from c k (take (r .next) out′) (r .at) (r .reader .cutter) (keptBy (r .reader) storage′) (r .going)
+  pub ready : Ready (r .reader)
+  pub fits : r .next ≤ length out′
+  pub advances : r .going ≡ On → (at < r .at) × (r .at ≤ length block)
+
+-- a run, its text at the start of the output
+pub record Runs (block : List ℕ) (at : ℕ) (reader : Reader) (storage : List ℕ) (r : Run) (storage′ out′ : List ℕ) : Type 0 where
+  pub runs : Ran block at (reader .cutter) (keptBy reader storage) (take (r .next) out′) (r .at) (r .reader .cutter) (keptBy (r .reader) storage′) (r .going)
+  pub ready : Ready (r .reader)
+  pub fits : r .next ≤ length out′
+  pub advances : r .going ≡ On → (at < r .at) × (r .at ≤ length block)
+
+-- the end of the capture: the line that it ends, and the closing line
+abbrev pub endText : Cutter → Kept → List ℕ
+endText c k = linesText k (lastPieces c (endingOf c))
