@@ -1,7 +1,106 @@
-// Reads a capture of the bus from standard input and prints its report to standard output.
+// Reads a capture of the bus from standard input and prints its report to standard output, in blocks and with constant memory.
+ghost use mathlib.Core.Path.{_≡_};
+ghost use Prim.Native.Nat.{_≤_};
+ghost use lib.ListN.{length};
+ghost use Rattle.message.specs.Receiver.{room};
+ghost use Rattle.busread.specs.Reader.{outRoom, Ready};
+
 mod reader;
 mod report;
 mod step;
 mod text;
 
-fn main() {}
+use libc::STDIN_FILENO;
+use libc::STDOUT_FILENO;
+use reader::Going;
+use reader::Reader;
+
+// The reader after a block, and whether another is to be read.
+struct Fed {
+    reader: Reader,
+    more: bool,
+}
+
+fn main() {
+    let mut block = io::large_buffer();
+    let mut storage = storage();
+    let mut out = output();
+    io::write_all(STDOUT_FILENO, b"format=1\n");
+    let reader = read_all(reader::new(), &mut block, &mut storage, &mut out);
+    let next = reader::finish(reader, &mut storage, &mut out);
+    io::write_all(STDOUT_FILENO, &out[..next]);
+}
+
+// The receiver's storage.
+fn storage() -> [u8; 14280]
+    ensures { λ r. ⌜ length r ≡ 14280 ⌝ }
+{
+    [0; 14280]
+}
+
+// Room for what a run prints.
+fn output() -> [u8; 131072]
+    ensures { λ r. ⌜ length r ≡ 131072 ⌝ }
+{
+    [0; 131072]
+}
+
+// Block after block. Nothing says that an input ends, so the loop counts down from a number that no input uses up.
+fn read_all(reader: Reader, block: &mut [u8], storage: &mut [u8], out: &mut [u8]) -> Reader
+    requires { ⌜ (outRoom ≤ length (now out)) × (room ≤ length (now storage)) × Ready reader ⌝ }
+    ensures { λ r. ⌜ Ready r ⌝ }
+{
+    let mut reader = reader;
+    let mut turns = u64::MAX;
+    while turns > 0 {
+        let fed = read_block(reader, block, storage, out);
+        reader = fed.reader;
+        if !fed.more {
+            return reader;
+        }
+        turns -= 1;
+    }
+    reader
+}
+
+// Reads once; nothing read is the end.
+fn read_block(reader: Reader, block: &mut [u8], storage: &mut [u8], out: &mut [u8]) -> Fed
+    requires { ⌜ (outRoom ≤ length (now out)) × (room ≤ length (now storage)) × Ready reader ⌝ }
+    ensures { λ r. ⌜ Ready (r .reader) ⌝ }
+{
+    let got = libc::read(STDIN_FILENO, block);
+    let count = io::count(got, block);
+    if count == 0 {
+        return Fed {
+            reader,
+            more: false,
+        };
+    }
+    feed(reader, &block[..count], storage, out)
+}
+
+// Takes the lines of a block, and writes what they print.
+fn feed(reader: Reader, block: &[u8], storage: &mut [u8], out: &mut [u8]) -> Fed
+    requires { ⌜ (outRoom ≤ length (now out)) × (room ≤ length (now storage)) × Ready reader ⌝ }
+    ensures { λ r. ⌜ Ready (r .reader) ⌝ }
+{
+    let mut reader = reader;
+    let mut at: usize = 0;
+    loop {
+        let run = reader::lines(reader, block, at, storage, out);
+        let next = run.next;
+        io::write_all(STDOUT_FILENO, &out[..next]);
+        reader = run.reader;
+        let going = run.going;
+        match going {
+            Going::On => at = run.at,
+            Going::Used => return Fed { reader, more: true },
+            Going::Over => {
+                return Fed {
+                    reader,
+                    more: false,
+                };
+            }
+        }
+    }
+}
