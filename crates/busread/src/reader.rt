@@ -82,7 +82,14 @@ pub fn lines(reader: Reader, block: &[u8], from: usize, storage: &mut [u8], out:
 }
 
 // Takes the next line of a block, if it has one.
-fn turn(reader: Reader, block: &[u8], at: usize, storage: &mut [u8], out: &mut [u8], next: usize) -> Run
+fn turn(
+    reader: Reader,
+    block: &[u8],
+    at: usize,
+    storage: &mut [u8],
+    out: &mut [u8],
+    next: usize,
+) -> Run
     requires { ⌜ (outRoom ≤ length (now out)) × (next ≤ half) × (room ≤ length (now storage)) × Ready reader ⌝ }
     ensures { λ r. ⌜ Turned (now (block .entry)) at reader (now (storage .entry)) (now (out .entry)) next r (now (storage .exit)) (now (out .exit)) ⌝ }
 {

@@ -37,7 +37,14 @@ pub fn put_refusal(out: &mut [u8], at: usize, number: u32, refusal: u32) -> usiz
 }
 
 // A finished message.
-pub fn put_message(out: &mut [u8], at: usize, number: u32, source: u8, dgn: u32, bytes: &[u8]) -> usize
+pub fn put_message(
+    out: &mut [u8],
+    at: usize,
+    number: u32,
+    source: u8,
+    dgn: u32,
+    bytes: &[u8],
+) -> usize
     requires { ⌜ (at + 4096 ≤ length (now out)) × (length (now bytes) ≤ 1785) ⌝ }
     ensures { λ r. ⌜ Wrote (now (out .entry)) at (messageText number source dgn (now (bytes .entry))) (now (out .exit)) r × (r ≤ at + 4096) ⌝ }
 {
@@ -61,7 +68,15 @@ fn put_class(out: &mut [u8], at: usize, class: Class) -> usize
 }
 
 // A field of a catalogued frame.
-pub fn put_field(out: &mut [u8], at: usize, number: u32, source: u8, dgn: u32, row: Row, field: Field) -> usize
+pub fn put_field(
+    out: &mut [u8],
+    at: usize,
+    number: u32,
+    source: u8,
+    dgn: u32,
+    row: Row,
+    field: Field,
+) -> usize
     requires { ⌜ (at + 128 ≤ length (now out)) × (field .code < 2 ^ 32) ⌝ }
     ensures { λ r. ⌜ Wrote (now (out .entry)) at (fieldText number source dgn row field) (now (out .exit)) r × (r ≤ at + 128) ⌝ }
 {

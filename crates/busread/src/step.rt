@@ -124,7 +124,14 @@ fn put_fields(out: &mut [u8], at: usize, number: u32, id: u32, bytes: [u8; 8]) -
 }
 
 // What an answer prints; a finished message is read from the storage.
-fn put_answer(out: &mut [u8], at: usize, number: u32, line: Line, answer: Answer, storage: &[u8]) -> usize
+fn put_answer(
+    out: &mut [u8],
+    at: usize,
+    number: u32,
+    line: Line,
+    answer: Answer,
+    storage: &[u8],
+) -> usize
     requires { ⌜ (at + lineRoom ≤ length (now out)) × (room ≤ length (now storage)) ⌝ }
     ensures { λ r. ⌜ Wrote (now (out .entry)) at (answerText number (frameIn line) (now (storage .entry)) (toldAnswer answer)) (now (out .exit)) r × (r ≤ at + lineRoom) ⌝ }
 {
@@ -144,7 +151,14 @@ fn put_answer(out: &mut [u8], at: usize, number: u32, line: Line, answer: Answer
 }
 
 // A sound line: the pause, then its frame.
-fn hear(receiver: Receiver, counts: Counts, line: Line, storage: &mut [u8], out: &mut [u8], at: usize) -> Step
+fn hear(
+    receiver: Receiver,
+    counts: Counts,
+    line: Line,
+    storage: &mut [u8],
+    out: &mut [u8],
+    at: usize,
+) -> Step
     requires { ⌜ (at + lineRoom ≤ length (now out)) × (room ≤ length (now storage)) × (counts .frames < mostLines) × Counting counts ⌝ }
     ensures { λ r. ⌜ Took (kept receiver (now (storage .entry)) counts) (gives (frameIn line)) (now (out .entry)) at r (now (storage .exit)) (now (out .exit)) ⌝ }
 {
@@ -176,7 +190,14 @@ pub fn malformed(receiver: Receiver, counts: Counts, out: &mut [u8], at: usize) 
 }
 
 // A line, without its newline.
-pub fn take(receiver: Receiver, counts: Counts, text: &[u8], storage: &mut [u8], out: &mut [u8], at: usize) -> Step
+pub fn take(
+    receiver: Receiver,
+    counts: Counts,
+    text: &[u8],
+    storage: &mut [u8],
+    out: &mut [u8],
+    at: usize,
+) -> Step
     requires { ⌜ (at + lineRoom ≤ length (now out)) × (room ≤ length (now storage)) × (counts .frames < mostLines) × Counting counts ⌝ }
     ensures { λ r. ⌜ Took (kept receiver (now (storage .entry)) counts) (lineRead (now (text .entry))) (now (out .entry)) at r (now (storage .exit)) (now (out .exit)) ⌝ }
 {

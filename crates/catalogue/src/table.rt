@@ -7,7 +7,7 @@ ghost use Rattle.catalogue.specs.Packed.{unitOf, unpacked};
 use crate::Row;
 use crate::Span;
 use crate::Unit;
-use crate::packed::ROWS;
+use crate::packed;
 
 pub const COUNT: usize = 375;
 
@@ -48,14 +48,14 @@ pub fn nth(n: usize) -> Row
     requires { ⌜ n < rowCount ⌝ }
     ensures { λ r. ⌜ r ≡ rowAt n ⌝ }
 {
-    unpack(ROWS[n])
+    unpack(packed::row(n))
 }
 
 fn dgn_at(n: usize) -> u64
     requires { ⌜ n < rowCount ⌝ }
     ensures { λ r. ⌜ r ≡ (rowAt n) .dgn ⌝ }
 {
-    ROWS[n] / 0x1000000 % 0x100000
+    packed::row(n) / 0x1000000 % 0x100000
 }
 
 // How many rows have a DGN below the key: halving.

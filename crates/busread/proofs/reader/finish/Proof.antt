@@ -22,13 +22,13 @@ enum-known-ending : tie.Need-enum-known-ending
 enum-known-ending c = search needs
 
 array-share-prefix-carry : tie.Need-array-share-prefix-carry
-array-share-prefix-carry c = 
+array-share-prefix-carry c =
     let l : length (c .before .before .before .before .before .before .before .before .before .before .args .reader .cutter .carry) ≡ 80 = search needs in
     let w = last-fits (c .before .before .ending .given .0 .0) (c .before .before .before .before .before .before .before .before .before .before .args .reader .cutter) (c .before .before .before .before .last .result) (c .before .before .before .before .last .ensures) (c .before .before .ending .given .1) in
     omega arith
 
 slice-aggregate-take : tie.Need-slice-aggregate-take
-slice-aggregate-take c = 
+slice-aggregate-take c =
     let l : length (c .before .before .before .before .before .before .before .before .before .before .before .args .reader .cutter .carry) ≡ 80 = search needs in
     let w = last-fits (c .before .before .before .ending .given .0 .0) (c .before .before .before .before .before .before .before .before .before .before .before .args .reader .cutter) (c .before .before .before .before .before .last .result) (c .before .before .before .before .before .last .ensures) (c .before .before .before .ending .given .1) in
     sym (length-take-le (c .before .before .before .ending .given .0 .0) (c .before .before .before .before .before .before .before .before .before .before .before .args .reader .cutter .carry) (omega arith))

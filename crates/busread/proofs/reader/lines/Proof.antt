@@ -12,7 +12,7 @@ use Rattle.busread.proofs.reader.lines.Statement.{statement}
 use Rattle.busread.proofs.reader.lines.Tie as tie
 
 abbrev Inv-loop : tie.InvT-loop
-Inv-loop block from storage₀ out₀ reader₀ at₀ next₀ storage out reader at next = 
+Inv-loop block from storage₀ out₀ reader₀ at₀ next₀ storage out reader at next =
     Ran block from (reader₀ .cutter) (keptBy reader₀ storage₀) (take next out) at (reader .cutter) (keptBy reader storage) On
     × Ready reader × (next ≤ length out) × (length out ≡ length out₀) × (length storage ≡ length storage₀) × (from ≤ at)
     × ((next ≡ 0) ⊎ ((from < at) × (at ≤ length block)))
@@ -33,7 +33,7 @@ loop-less : tie.Need-loop-less Inv-loop μ-loop
 loop-less c = let h = c .before .before .before .before .before .before .before .turn .ensures .advances (c .before .enum-told .given .1) in omega arith
 
 loop-again : tie.Need-loop-again Inv-loop μ-loop
-loop-again c = 
+loop-again c =
     let l = c .before .before .before .before .before .before .before .before .before .before .before .loop in
     let a = c .before .before .before .before .before .before .before .before .before .before .before .before .before .before .before .args in
     let t = c .before .before .before .before .before .before .before .turn in
@@ -72,7 +72,7 @@ same-length-6 : tie.Need-same-length-6 Inv-loop μ-loop
 same-length-6 c = search needs
 
 returns-3 : tie.Need-returns-3 Inv-loop μ-loop
-returns-3 c = 
+returns-3 c =
     let l = c .before .loop in
     record {
       runs = l .inv .0;

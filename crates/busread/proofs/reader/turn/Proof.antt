@@ -36,13 +36,13 @@ enum-known-answer-2 : tie.Need-enum-known-answer-2
 enum-known-answer-2 c = search needs
 
 array-share-prefix-carry : tie.Need-array-share-prefix-carry
-array-share-prefix-carry c = 
+array-share-prefix-carry c =
     let l : length (c .before .before .before .before .before .next .result .cutter .carry) ≡ 80 = search needs in
     let w = carried (c .before .before .before .before .before .next .ensures) (c .before .before .answer2 .given .1) in
     omega arith
 
 slice-aggregate-take : tie.Need-slice-aggregate-take
-slice-aggregate-take c = 
+slice-aggregate-take c =
     let l : length (c .before .before .before .before .before .before .next .result .cutter .carry) ≡ 80 = search needs in
     let w = carried (c .before .before .before .before .before .before .next .ensures) (c .before .before .before .answer2 .given .1) in
     sym (length-take-le (c .before .before .before .answer2 .given .0 .0) (c .before .before .before .before .before .before .next .result .cutter .carry) (omega arith))

@@ -68,7 +68,7 @@ loop-less : tie.Need-loop-less Inv-loop μ-loop
 loop-less c = search needs
 
 loop-again : tie.Need-loop-again Inv-loop μ-loop
-loop-again c = 
+loop-again c =
     let l = c .before .before .before .before .before .before .before .before .before .before .before .before .loop in
     let a = c .before .before .before .before .before .before .before .before .before .before .before .before .before .before .before .before .args in
     let span = c .before .before .before .before .before .before .before .before .before .before .before .before .before .rows-of .result in
@@ -80,7 +80,7 @@ same-length-2 c = c .before .before .loop .inv .3 .room
 
 returns-2 : tie.Need-returns-2 Inv-loop μ-loop
 unfolding sourceOf dgnOf
-returns-2 c = 
+returns-2 c =
     let l = c .before .before .loop in
     let a = c .before .before .before .before .before .before .args in
     let e = whole-span (c .before .before .before .rows-of .result) (a .id / 256 % 131072) (l .i) (c .before .before .before .rows-of .ensures .answer) (omega arith) in

@@ -28,7 +28,7 @@ rem-glyph-of : tie.Need-rem-glyph-of Inv-loop μ-loop
 rem-glyph-of c = search needs
 
 glyph-of-requires : tie.Need-glyph-of-requires Inv-loop μ-loop
-glyph-of-requires c κs = 
+glyph-of-requires c κs =
     let a = c .before .before .before .args in
     let h : 0 < a .base = omega arith in
     omega (arith, mod-lt (c .before .loop .rest) h)
@@ -46,7 +46,7 @@ loop-less : tie.Need-loop-less Inv-loop μ-loop
 loop-less c = search needs
 
 loop-again : tie.Need-loop-again Inv-loop μ-loop
-loop-again c = 
+loop-again c =
     let l = c .before .before .loop in
     let a = c .before .before .before .before .args in
     let h : 0 < l .i = omega arith in
@@ -59,7 +59,7 @@ same-length : tie.Need-same-length Inv-loop μ-loop
 same-length c = c .before .loop .inv .1
 
 returns : tie.Need-returns Inv-loop μ-loop
-returns c = 
+returns c =
     let l = c .before .loop in
     let a = c .before .before .before .args in
     let h : l .i ≤ 0 = omega arith in
