@@ -2,3 +2,4 @@ pub mod Writing
 pub mod Fields
 pub mod Printing
 pub mod Reading
+pub mod Laws
