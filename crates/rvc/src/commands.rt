@@ -1,0 +1,13 @@
+// "Commands, requests, replies": `Host::start`, `route` and `request`, and the acknowledgment.
+pub use command::Acknowledged;
+pub use command::Acknowledging;
+pub use command::Entry;
+pub use command::Host;
+pub use command::Positions;
+pub use command::Requested;
+pub use command::Requesting;
+pub use command::Routed;
+pub use command::Routing;
+pub use command::Started;
+pub use command::Starting;
+pub use command::acknowledge;

@@ -1,0 +1,19 @@
+// "Field catalogue": rows, classes, fields read and written; `dgns` has the names of the DGNs.
+pub use catalogue::Class;
+pub use catalogue::Field;
+pub use catalogue::Looked;
+pub use catalogue::Reading;
+pub use catalogue::Row;
+pub use catalogue::ScaledReading;
+pub use catalogue::Span;
+pub use catalogue::Unit;
+pub use catalogue::Value;
+pub use catalogue::Writing;
+pub use catalogue::classify;
+pub use catalogue::dgns;
+pub use catalogue::read;
+pub use catalogue::read_scaled;
+pub use catalogue::row_at;
+pub use catalogue::rows;
+pub use catalogue::rows_of;
+pub use catalogue::write;

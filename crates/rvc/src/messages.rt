@@ -1,0 +1,15 @@
+// "Long messages, one sender" and "Eight senders at once": the receiver with `Receiver::new`, `hear` and `pause`, the finished message, and the splitter.
+pub use message::Announced;
+pub use message::Announcing;
+pub use message::Answer;
+pub use message::Cut;
+pub use message::Cutting;
+pub use message::Heard;
+pub use message::Paused;
+pub use message::Pausing;
+pub use message::Place;
+pub use message::Receiver;
+pub use message::Unsplittable;
+pub use message::announcement;
+pub use message::message;
+pub use message::packet;
