@@ -1,3 +1,6 @@
 pub mod LongReceiver
 pub mod BusyBus
 pub mod SplitAndJoin
+pub mod EveryCall
+pub mod EveryLaw
+pub mod Demands

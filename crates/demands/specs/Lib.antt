@@ -1,2 +1,5 @@
 pub mod BusyBus
 pub mod SplitAndJoin
+pub mod EveryCall
+pub mod EveryLaw
+pub mod Demands

@@ -1,0 +1,267 @@
+-- Every law of the parts, by its name.
+-- Assumes nothing.
+use Rattle.frame.proofs.Laws as Frame
+use Rattle.places.proofs.NineKeys as PlacesNineKeys
+use Rattle.places.proofs.Stretch as PlacesStretch
+use Rattle.places.proofs.Tiny as PlacesTiny
+use Rattle.message.proofs.Laws as Message
+use Rattle.catalogue.proofs.Laws as Catalogue
+use Rattle.claim.proofs.Laws as Claim
+use Rattle.claim.proofs.Machine as ClaimMachine
+use Rattle.nodes.proofs.Kept as NodesKept
+use Rattle.nodes.proofs.Laws as Nodes
+use Rattle.command.proofs.Laws as Command
+use Rattle.command.proofs.PositionLaws as CommandPositionLaws
+use Rattle.command.proofs.ReplyLaws as CommandReplyLaws
+use Rattle.capture.proofs.Feeding as CaptureFeeding
+use Rattle.capture.proofs.Laws as Capture
+use Rattle.demands.specs.EveryLaw.{EveryLaw, FrameLaws, PlacesLaws, MessageLaws, CatalogueLaws, ClaimLaws, NodesLaws, CommandLaws, CaptureLaws}
+
+frame-laws : FrameLaws
+frame-laws =
+    record {
+      told-apart-same = Frame.told-apart-same;
+      told-formed-same = Frame.told-formed-same;
+      told-verdict-same = Frame.told-verdict-same;
+      take-apart-only = Frame.take-apart-only;
+      form-only = Frame.form-only;
+      check-only = Frame.check-only;
+      destination-of-only = Frame.destination-of-only;
+      catalogue-form-only = Frame.catalogue-form-only;
+      number-of-only = Frame.number-of-only;
+      bytes-of-only = Frame.bytes-of-only;
+      refused-keeps = Frame.refused-keeps;
+      parts-back = Frame.parts-back;
+      identifier-back = Frame.identifier-back;
+      priority-ignored = Frame.priority-ignored;
+      number-back = Frame.number-back;
+      bytes-back = Frame.bytes-back;
+      example-one = Frame.example-one;
+      lowest-wins = Frame.lowest-wins;
+    }
+
+places-laws : PlacesLaws
+places-laws =
+    record {
+      stretch-same = PlacesStretch.stretch-same;
+      stretch-other = PlacesStretch.stretch-other;
+      nine-keys-told = PlacesNineKeys.nine-keys-told;
+      nine-keys-after = PlacesNineKeys.nine-keys-after;
+      nine-keys-paused = PlacesNineKeys.nine-keys-paused;
+      tiny-busy-as-quiet = PlacesTiny.tiny-busy-as-quiet;
+      tiny-full-exactly-when = PlacesTiny.tiny-full-exactly-when;
+      tiny-sums-of-pauses = PlacesTiny.tiny-sums-of-pauses;
+    }
+
+message-laws : MessageLaws
+message-laws =
+    record {
+      told-answer-same = Message.told-answer-same;
+      told-pausing-same = Message.told-pausing-same;
+      announcing-number-same = Message.announcing-number-same;
+      cutting-number-same = Message.cutting-number-same;
+      new-only = Message.new-only;
+      hear-only = Message.hear-only;
+      pause-only = Message.pause-only;
+      message-only = Message.message-only;
+      announcement-only = Message.announcement-only;
+      packet-only = Message.packet-only;
+      refused-keeps = Message.refused-keeps;
+      ten-closes = Message.ten-closes;
+      pause-refused-keeps = Message.pause-refused-keeps;
+      writes-its-own = Message.writes-its-own;
+      not-beyond = Message.not-beyond;
+    }
+
+catalogue-laws : CatalogueLaws
+catalogue-laws =
+    record {
+      told-looked-same = Catalogue.told-looked-same;
+      told-reading-same = Catalogue.told-reading-same;
+      told-scaled-same = Catalogue.told-scaled-same;
+      told-writing-same = Catalogue.told-writing-same;
+      rows-only = Catalogue.rows-only;
+      row-at-only = Catalogue.row-at-only;
+      rows-of-only = Catalogue.rows-of-only;
+      classify-only = Catalogue.classify-only;
+      read-only = Catalogue.read-only;
+      read-scaled-only = Catalogue.read-scaled-only;
+      write-only = Catalogue.write-only;
+      refused-keeps = Catalogue.refused-keeps;
+      row-count = Catalogue.row-count;
+      rising = Catalogue.rising;
+      ends = Catalogue.ends;
+      apart = Catalogue.apart;
+      exactly = Catalogue.exactly;
+      within = Catalogue.within;
+      three-rows = Catalogue.three-rows;
+      three-classes = Catalogue.three-classes;
+      one-class = Catalogue.one-class;
+      always-numbers = Catalogue.always-numbers;
+      bit-of-byte = Catalogue.bit-of-byte;
+      code-back = Catalogue.code-back;
+      value-back = Catalogue.value-back;
+      reads-back = Catalogue.reads-back;
+      reads-code = Catalogue.reads-code;
+      reads-others = Catalogue.reads-others;
+      bits-kept = Catalogue.bits-kept;
+      eight-bytes = Catalogue.eight-bytes;
+      example-eight = Catalogue.example-eight;
+      example-nine = Catalogue.example-nine;
+      example-ten = Catalogue.example-ten;
+      lowest-wins = Catalogue.lowest-wins;
+    }
+
+claim-laws : ClaimLaws
+claim-laws =
+    record {
+      told-starting-same = Claim.told-starting-same;
+      told-hearing-same = Claim.told-hearing-same;
+      told-pausing-same = Claim.told-pausing-same;
+      told-standing-same = Claim.told-standing-same;
+      told-sending-same = Claim.told-sending-same;
+      start-only = Claim.start-only;
+      hear-only = Claim.hear-only;
+      pause-only = Claim.pause-only;
+      stands-only = Claim.stands-only;
+      our-claim-only = Claim.our-claim-only;
+      keeps-rules-only = Claim.keeps-rules-only;
+      holds-list-only = Claim.holds-list-only;
+      start-refused-keeps = Claim.start-refused-keeps;
+      hear-refused-keeps = Claim.hear-refused-keeps;
+      pause-refused-keeps = Claim.pause-refused-keeps;
+      our-claim-refused-keeps = Claim.our-claim-refused-keeps;
+      priority-ignored = Claim.priority-ignored;
+      other-dgn = Claim.other-dgn;
+      nobodys-claim = ClaimMachine.nobodys-claim;
+      start-sound = Claim.start-sound;
+      hear-sound = Claim.hear-sound;
+      pause-sound = Claim.pause-sound;
+      run-sound = ClaimMachine.run-sound;
+      node-stays = ClaimMachine.node-stays;
+      position-rises = ClaimMachine.position-rises;
+      silent-ignores = ClaimMachine.silent-ignores;
+      silent-for-good = ClaimMachine.silent-for-good;
+      only-lower-moves = ClaimMachine.only-lower-moves;
+      held-exactly = ClaimMachine.held-exactly;
+      claim-is-ours = Claim.claim-is-ours;
+      start-sends-ours = Claim.start-sends-ours;
+      hear-sends-ours = Claim.hear-sends-ours;
+      hear-sends-nothing = Claim.hear-sends-nothing;
+      frame-is-heard = Claim.frame-is-heard;
+      calls-are-events = Claim.calls-are-events;
+      lowest-wins = Claim.lowest-wins;
+    }
+
+nodes-laws : NodesLaws
+nodes-laws =
+    record {
+      told-heard-same = Nodes.told-heard-same;
+      told-looked-up-same = Nodes.told-looked-up-same;
+      hear-only = Nodes.hear-only;
+      look-up-only = Nodes.look-up-only;
+      hear-refused-keeps = Nodes.hear-refused-keeps;
+      hear-nothing-keeps = Nodes.hear-nothing-keeps;
+      priority-ignored = Nodes.priority-ignored;
+      past-untouched = Nodes.past-untouched;
+      past-unread = Nodes.past-unread;
+      length-kept = Nodes.length-kept;
+      rules-read = Nodes.rules-read;
+      rules-kept = Nodes.rules-kept;
+      name-once = NodesKept.name-once;
+      taken-by-lower = NodesKept.taken-by-lower;
+      taken-shown = Nodes.taken-shown;
+      held-shown = Nodes.held-shown;
+      lowest-wins = Nodes.lowest-wins;
+    }
+
+command-laws : CommandLaws
+command-laws =
+    record {
+      told-starting-same = Command.told-starting-same;
+      told-routing-same = Command.told-routing-same;
+      told-requesting-same = Command.told-requesting-same;
+      told-acknowledging-same = Command.told-acknowledging-same;
+      start-only = Command.start-only;
+      route-only = Command.route-only;
+      request-only = Command.request-only;
+      acknowledge-only = Command.acknowledge-only;
+      start-refused-keeps = Command.start-refused-keeps;
+      route-refused-keeps = Command.route-refused-keeps;
+      request-refused-keeps = Command.request-refused-keeps;
+      acknowledge-refused-keeps = Command.acknowledge-refused-keeps;
+      priority-ignored = Command.priority-ignored;
+      start-hosts = Command.start-hosts;
+      past-count-ignored = Command.past-count-ignored;
+      hosted-dgn-low = Command.hosted-dgn-low;
+      positions-exact = CommandPositionLaws.positions-exact;
+      positions-rise = CommandPositionLaws.positions-rise;
+      listed-filled = CommandPositionLaws.listed-filled;
+      instance-picks = CommandPositionLaws.instance-picks;
+      instance-picks-one = CommandPositionLaws.instance-picks-one;
+      zero-picks-marked = CommandPositionLaws.zero-picks-marked;
+      slide-ignores-zero = CommandPositionLaws.slide-ignores-zero;
+      not-hosted = Command.not-hosted;
+      unheld-command = Command.unheld-command;
+      command-elsewhere = Command.command-elsewhere;
+      other-dgn = Command.other-dgn;
+      request-too-large = Command.request-too-large;
+      later-bytes-ignored = Command.later-bytes-ignored;
+      claiming-for-claim-only = CommandReplyLaws.claiming-for-claim-only;
+      silent-only-global = CommandReplyLaws.silent-only-global;
+      picked-held = CommandReplyLaws.picked-held;
+      supported-held = CommandReplyLaws.supported-held;
+      nak-is-sound = CommandReplyLaws.nak-is-sound;
+      request-sends-ours = CommandReplyLaws.request-sends-ours;
+      acknowledge-sends-ours = CommandReplyLaws.acknowledge-sends-ours;
+      example-eleven = CommandReplyLaws.example-eleven;
+      lowest-wins = Command.lowest-wins;
+      acknowledge-lowest-wins = Command.acknowledge-lowest-wins;
+    }
+
+capture-laws : CaptureLaws
+capture-laws =
+    record {
+      told-reading-same = Capture.told-reading-same;
+      take-apart-only = Capture.take-apart-only;
+      write-only = Capture.write-only;
+      new-only = Capture.new-only;
+      next-only = Capture.next-only;
+      last-only = Capture.last-only;
+      malformed-keeps = Capture.malformed-keeps;
+      number-back = Capture.number-back;
+      digits-back = Capture.digits-back;
+      no-leading-zeros = Capture.no-leading-zeros;
+      sound-exactly = Capture.sound-exactly;
+      malformed-exactly = Capture.malformed-exactly;
+      only-nineteen = Capture.only-nineteen;
+      one-line = Capture.one-line;
+      one-frame = Capture.one-frame;
+      sound-length = Capture.sound-length;
+      written-length = Capture.written-length;
+      written-taken-apart = Capture.written-taken-apart;
+      taken-apart-written = Capture.taken-apart-written;
+      no-bytes-no-lines = Capture.no-bytes-no-lines;
+      final-newline = Capture.final-newline;
+      no-more-lines = Capture.no-more-lines;
+      piece-says = Capture.piece-says;
+      blocks-do-not-matter = CaptureFeeding.blocks-do-not-matter;
+      next-advances = CaptureFeeding.next-advances;
+      within-block = CaptureFeeding.within-block;
+      carried-fits = CaptureFeeding.carried-fits;
+      last-fits = CaptureFeeding.last-fits;
+      every-stream-is-fed = CaptureFeeding.every-stream-is-fed;
+    }
+
+pub every-law : EveryLaw
+every-law =
+    record {
+      frame = frame-laws;
+      places = places-laws;
+      message = message-laws;
+      catalogue = catalogue-laws;
+      claim = claim-laws;
+      nodes = nodes-laws;
+      command = command-laws;
+      capture = capture-laws;
+    }

@@ -1,0 +1,71 @@
+-- The three demands on the library, each a statement over the definitions of its parts.
+use mathlib.Core.List.{List}
+use Prim.Native.Nat.{ℕ}
+use Rattle.frame.specs.Laws as Frame
+use Rattle.message.specs.Laws as Message
+use Rattle.catalogue.specs.Laws as Catalogue
+use Rattle.claim.specs.Laws as Claim
+use Rattle.nodes.specs.Laws as Nodes
+use Rattle.command.specs.Laws as Command
+use Rattle.capture.specs.Laws as Capture
+use Rattle.demands.specs.EveryCall.{EveryCall}
+use Rattle.demands.specs.BusyBus.{BusyBus, NoPlaceFree, SumsOfPauses, PauseAsRules, RulesKept, FreshKeeps, HandedBack}
+use Rattle.demands.specs.SplitAndJoin.{SplitAndJoin, SplitAndJoinBusy}
+
+-- 1. Every public call ends with an answer for every input. No call relies on an earlier check. Each refusal carries document 01's number and changes
+-- nothing lent or held, but 10 closes that sender's message.
+pub record DemandOne : Type 2 where
+  pub calls : EveryCall
+  -- zeros, the state that was handed in, and the lent bytes stand beside a refusal
+  pub frame : Frame.RefusedKeeps
+  pub hear : Message.RefusedKeeps
+  pub ten-closes : Message.TenCloses
+  pub pause : Message.PauseRefusedKeeps
+  pub write : Catalogue.RefusedKeeps
+  pub claim-start : Claim.StartRefusedKeeps
+  pub claim-hear : Claim.HearRefusedKeeps
+  pub claim-pause : Claim.PauseRefusedKeeps
+  pub our-claim : Claim.OurClaimRefusedKeeps
+  pub nodes : Nodes.HearRefusedKeeps
+  pub host-start : Command.StartRefusedKeeps
+  pub route : Command.RouteRefusedKeeps
+  pub request : Command.RequestRefusedKeeps
+  pub acknowledge : Command.AcknowledgeRefusedKeeps
+  pub line : Capture.MalformedKeeps
+
+-- 2. Frames, fields and long messages are read and written as RV-C and J1939 define them; what the splitter splits, the receiver joins to the same bytes.
+-- The promises of demand 1 say that the calls read and write what the definitions say; these laws say that reading and writing undo each other.
+pub record DemandTwo : Type 0 where
+  -- identifiers, and bytes as one number
+  pub parts-back : Frame.PartsBack
+  pub identifier-back : Frame.IdentifierBack
+  pub number-back : Frame.NumberBack
+  pub bytes-back : Frame.BytesBack
+  -- fields: every row lies in the frame and shares no bit, bit 8b+k is bit k of byte b, and what is written is read back and alters nothing else
+  pub rising : Catalogue.Rising
+  pub ends : Catalogue.Ends
+  pub apart : Catalogue.Apart
+  pub bit-of-byte : Catalogue.BitOfByte
+  pub code-back : Catalogue.CodeBack
+  pub value-back : Catalogue.ValueBack
+  pub reads-back : Catalogue.ReadsBack
+  pub reads-others : Catalogue.ReadsOthers
+  pub bits-kept : Catalogue.BitsKept
+  -- long messages
+  pub split-and-join : SplitAndJoin
+  pub split-and-join-busy : SplitAndJoinBusy
+  -- captures
+  pub written-taken-apart : Capture.WrittenTakenApart
+  pub taken-apart-written : Capture.TakenApartWritten
+  pub blocks-do-not-matter : Capture.BlocksDoNotMatter
+
+-- 3. A busy bus reads like a quiet one: for a sender that never met "no place free", every answer, bytes included, is the one that the single-sender
+-- rules give.
+pub record DemandThree : Type 0 where
+  pub busy-bus : BusyBus
+  pub no-place-free : NoPlaceFree
+  pub sums-of-pauses : SumsOfPauses
+  pub pause-as-rules : PauseAsRules
+  pub fresh-keeps : FreshKeeps
+  pub rules-kept : RulesKept
+  pub handed-back : HandedBack

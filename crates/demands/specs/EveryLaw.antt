@@ -1,0 +1,238 @@
+-- Every law of the parts, by its name, a record for each crate: one that is lost is missed here.
+use mathlib.Core.List.{List}
+use Prim.Native.Nat.{ℕ}
+use Rattle.frame.specs.Laws as Frame
+use Rattle.places.specs.Laws as Places
+use Rattle.places.specs.Tiny as PlacesTiny
+use Rattle.message.specs.Laws as Message
+use Rattle.catalogue.specs.Laws as Catalogue
+use Rattle.claim.specs.Laws as Claims
+use Rattle.nodes.specs.Laws as Nodes
+use Rattle.command.specs.Laws as Command
+use Rattle.capture.specs.Laws as Capture
+use Rattle.catalogue.specs.declared.Value.{Value}
+use Rattle.claim.specs.declared.Claim.{Claim}
+use Rattle.nodes.specs.declared.Node.{Node}
+use Rattle.command.specs.declared.Host.{Host}
+
+pub record FrameLaws : Type 0 where
+  pub told-apart-same : Frame.ToldApartSame
+  pub told-formed-same : Frame.ToldFormedSame
+  pub told-verdict-same : Frame.ToldVerdictSame
+  pub take-apart-only : Frame.TakeApartOnly
+  pub form-only : Frame.FormOnly
+  pub check-only : Frame.CheckOnly
+  pub destination-of-only : Frame.DestinationOfOnly
+  pub catalogue-form-only : Frame.CatalogueFormOnly
+  pub number-of-only : Frame.NumberOfOnly
+  pub bytes-of-only : Frame.BytesOfOnly
+  pub refused-keeps : Frame.RefusedKeeps
+  pub parts-back : Frame.PartsBack
+  pub identifier-back : Frame.IdentifierBack
+  pub priority-ignored : Frame.PriorityIgnored
+  pub number-back : Frame.NumberBack
+  pub bytes-back : Frame.BytesBack
+  pub example-one : Frame.ExampleOne
+  pub lowest-wins : (id size : ℕ) → Frame.LowestWins id size
+
+pub record PlacesLaws : Type 0 where
+  pub stretch-same : Places.StretchSame
+  pub stretch-other : Places.StretchOther
+  pub nine-keys-told : PlacesTiny.NineKeysTold
+  pub nine-keys-after : PlacesTiny.NineKeysAfter
+  pub nine-keys-paused : PlacesTiny.NineKeysPaused
+  pub tiny-busy-as-quiet : PlacesTiny.TinyBusyAsQuiet
+  pub tiny-full-exactly-when : PlacesTiny.TinyFullExactlyWhen
+  pub tiny-sums-of-pauses : PlacesTiny.TinySumsOfPauses
+
+pub record MessageLaws : Type 0 where
+  pub told-answer-same : Message.ToldAnswerSame
+  pub told-pausing-same : Message.ToldPausingSame
+  pub announcing-number-same : Message.AnnouncingNumberSame
+  pub cutting-number-same : Message.CuttingNumberSame
+  pub new-only : Message.NewOnly
+  pub hear-only : Message.HearOnly
+  pub pause-only : Message.PauseOnly
+  pub message-only : Message.MessageOnly
+  pub announcement-only : Message.AnnouncementOnly
+  pub packet-only : Message.PacketOnly
+  pub refused-keeps : Message.RefusedKeeps
+  pub ten-closes : Message.TenCloses
+  pub pause-refused-keeps : Message.PauseRefusedKeeps
+  pub writes-its-own : Message.WritesItsOwn
+  pub not-beyond : Message.NotBeyond
+
+pub record CatalogueLaws : Type 0 where
+  pub told-looked-same : Catalogue.ToldLookedSame
+  pub told-reading-same : Catalogue.ToldReadingSame
+  pub told-scaled-same : Catalogue.ToldScaledSame
+  pub told-writing-same : Catalogue.ToldWritingSame
+  pub rows-only : Catalogue.RowsOnly
+  pub row-at-only : Catalogue.RowAtOnly
+  pub rows-of-only : Catalogue.RowsOfOnly
+  pub classify-only : Catalogue.ClassifyOnly
+  pub read-only : Catalogue.ReadOnly
+  pub read-scaled-only : Catalogue.ReadScaledOnly
+  pub write-only : Catalogue.WriteOnly
+  pub refused-keeps : Catalogue.RefusedKeeps
+  pub row-count : Catalogue.RowCount
+  pub rising : Catalogue.Rising
+  pub ends : Catalogue.Ends
+  pub apart : Catalogue.Apart
+  pub exactly : Catalogue.Exactly
+  pub within : Catalogue.Within
+  pub three-rows : Catalogue.ThreeRows
+  pub three-classes : Catalogue.ThreeClasses
+  pub one-class : Catalogue.OneClass
+  pub always-numbers : Catalogue.AlwaysNumbers
+  pub bit-of-byte : Catalogue.BitOfByte
+  pub code-back : Catalogue.CodeBack
+  pub value-back : Catalogue.ValueBack
+  pub reads-back : Catalogue.ReadsBack
+  pub reads-code : Catalogue.ReadsCode
+  pub reads-others : Catalogue.ReadsOthers
+  pub bits-kept : Catalogue.BitsKept
+  pub eight-bytes : Catalogue.EightBytes
+  pub example-eight : Catalogue.ExampleEight
+  pub example-nine : Catalogue.ExampleNine
+  pub example-ten : Catalogue.ExampleTen
+  pub lowest-wins : (n id : ℕ) (bytes : List ℕ) (value : Value) → Catalogue.LowestWins n id bytes value
+
+pub record ClaimLaws : Type 0 where
+  pub told-starting-same : Claims.ToldStartingSame
+  pub told-hearing-same : Claims.ToldHearingSame
+  pub told-pausing-same : Claims.ToldPausingSame
+  pub told-standing-same : Claims.ToldStandingSame
+  pub told-sending-same : Claims.ToldSendingSame
+  pub start-only : Claims.StartOnly
+  pub hear-only : Claims.HearOnly
+  pub pause-only : Claims.PauseOnly
+  pub stands-only : Claims.StandsOnly
+  pub our-claim-only : Claims.OurClaimOnly
+  pub keeps-rules-only : Claims.KeepsRulesOnly
+  pub holds-list-only : Claims.HoldsListOnly
+  pub start-refused-keeps : Claims.StartRefusedKeeps
+  pub hear-refused-keeps : Claims.HearRefusedKeeps
+  pub pause-refused-keeps : Claims.PauseRefusedKeeps
+  pub our-claim-refused-keeps : Claims.OurClaimRefusedKeeps
+  pub priority-ignored : Claims.PriorityIgnored
+  pub other-dgn : Claims.OtherDgn
+  pub nobodys-claim : Claims.NobodysClaim
+  pub start-sound : Claims.StartSound
+  pub hear-sound : Claims.HearSound
+  pub pause-sound : Claims.PauseSound
+  pub run-sound : Claims.RunSound
+  pub node-stays : Claims.NodeStays
+  pub position-rises : Claims.PositionRises
+  pub silent-ignores : Claims.SilentIgnores
+  pub silent-for-good : Claims.SilentForGood
+  pub only-lower-moves : Claims.OnlyLowerMoves
+  pub held-exactly : Claims.HeldExactly
+  pub claim-is-ours : Claims.ClaimIsOurs
+  pub start-sends-ours : Claims.StartSendsOurs
+  pub hear-sends-ours : Claims.HearSendsOurs
+  pub hear-sends-nothing : Claims.HearSendsNothing
+  pub frame-is-heard : Claims.FrameIsHeard
+  pub calls-are-events : Claims.CallsAreEvents
+  pub lowest-wins : (id : ℕ) (bytes : List ℕ) (c : Claim) → Claims.LowestWins id bytes c
+
+pub record NodesLaws : Type 0 where
+  pub told-heard-same : Nodes.ToldHeardSame
+  pub told-looked-up-same : Nodes.ToldLookedUpSame
+  pub hear-only : Nodes.HearOnly
+  pub look-up-only : Nodes.LookUpOnly
+  pub hear-refused-keeps : Nodes.HearRefusedKeeps
+  pub hear-nothing-keeps : Nodes.HearNothingKeeps
+  pub priority-ignored : Nodes.PriorityIgnored
+  pub past-untouched : Nodes.PastUntouched
+  pub past-unread : Nodes.PastUnread
+  pub length-kept : Nodes.LengthKept
+  pub rules-read : Nodes.RulesRead
+  pub rules-kept : Nodes.RulesKept
+  pub name-once : Nodes.NameOnce
+  pub taken-by-lower : Nodes.TakenByLower
+  pub taken-shown : Nodes.TakenShown
+  pub held-shown : Nodes.HeldShown
+  pub lowest-wins : (table : List Node) (id : ℕ) (bytes : List ℕ) → Nodes.LowestWins table id bytes
+
+pub record CommandLaws : Type 0 where
+  pub told-starting-same : Command.ToldStartingSame
+  pub told-routing-same : Command.ToldRoutingSame
+  pub told-requesting-same : Command.ToldRequestingSame
+  pub told-acknowledging-same : Command.ToldAcknowledgingSame
+  pub start-only : Command.StartOnly
+  pub route-only : Command.RouteOnly
+  pub request-only : Command.RequestOnly
+  pub acknowledge-only : Command.AcknowledgeOnly
+  pub start-refused-keeps : Command.StartRefusedKeeps
+  pub route-refused-keeps : Command.RouteRefusedKeeps
+  pub request-refused-keeps : Command.RequestRefusedKeeps
+  pub acknowledge-refused-keeps : Command.AcknowledgeRefusedKeeps
+  pub priority-ignored : Command.PriorityIgnored
+  pub start-hosts : Command.StartHosts
+  pub past-count-ignored : Command.PastCountIgnored
+  pub hosted-dgn-low : Command.HostedDgnLow
+  pub positions-exact : Command.PositionsExact
+  pub positions-rise : Command.PositionsRise
+  pub listed-filled : Command.ListedFilled
+  pub instance-picks : Command.InstancePicks
+  pub instance-picks-one : Command.InstancePicksOne
+  pub zero-picks-marked : Command.ZeroPicksMarked
+  pub slide-ignores-zero : Command.SlideIgnoresZero
+  pub not-hosted : Command.NotHosted
+  pub unheld-command : Command.UnheldCommand
+  pub command-elsewhere : Command.CommandElsewhere
+  pub other-dgn : Command.OtherDgn
+  pub request-too-large : Command.RequestTooLarge
+  pub later-bytes-ignored : Command.LaterBytesIgnored
+  pub claiming-for-claim-only : Command.ClaimingForClaimOnly
+  pub silent-only-global : Command.SilentOnlyGlobal
+  pub picked-held : Command.PickedHeld
+  pub supported-held : Command.SupportedHeld
+  pub nak-is-sound : Command.NakIsSound
+  pub request-sends-ours : Command.RequestSendsOurs
+  pub acknowledge-sends-ours : Command.AcknowledgeSendsOurs
+  pub example-eleven : Command.ExampleEleven
+  pub lowest-wins : (id : ℕ) (bytes : List ℕ) (h : Host) (c : Claim) → Command.LowestWins id bytes h c
+  pub acknowledge-lowest-wins : (c : Claim) (requester code instance dgn : ℕ) → Command.AcknowledgeLowestWins c requester code instance dgn
+
+pub record CaptureLaws : Type 0 where
+  pub told-reading-same : Capture.ToldReadingSame
+  pub take-apart-only : Capture.TakeApartOnly
+  pub write-only : Capture.WriteOnly
+  pub new-only : Capture.NewOnly
+  pub next-only : Capture.NextOnly
+  pub last-only : Capture.LastOnly
+  pub malformed-keeps : Capture.MalformedKeeps
+  pub number-back : Capture.NumberBack
+  pub digits-back : Capture.DigitsBack
+  pub no-leading-zeros : Capture.NoLeadingZeros
+  pub sound-exactly : Capture.SoundExactly
+  pub malformed-exactly : Capture.MalformedExactly
+  pub only-nineteen : Capture.OnlyNineteen
+  pub one-line : Capture.OneLine
+  pub one-frame : Capture.OneFrame
+  pub sound-length : Capture.SoundLength
+  pub written-length : Capture.WrittenLength
+  pub written-taken-apart : Capture.WrittenTakenApart
+  pub taken-apart-written : Capture.TakenApartWritten
+  pub no-bytes-no-lines : Capture.NoBytesNoLines
+  pub final-newline : Capture.FinalNewline
+  pub no-more-lines : Capture.NoMoreLines
+  pub piece-says : Capture.PieceSays
+  pub blocks-do-not-matter : Capture.BlocksDoNotMatter
+  pub next-advances : Capture.NextAdvances
+  pub within-block : Capture.WithinBlock
+  pub carried-fits : Capture.CarriedFits
+  pub last-fits : Capture.LastFits
+  pub every-stream-is-fed : Capture.EveryStreamIsFed
+
+pub record EveryLaw : Type 0 where
+  pub frame : FrameLaws
+  pub places : PlacesLaws
+  pub message : MessageLaws
+  pub catalogue : CatalogueLaws
+  pub claim : ClaimLaws
+  pub nodes : NodesLaws
+  pub command : CommandLaws
+  pub capture : CaptureLaws
