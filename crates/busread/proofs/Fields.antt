@@ -1,9 +1,9 @@
 -- The fields of a frame, row by row.
 -- Assumes nothing.
-use mathlib.Core.Path.{_≡_, refl, sym, ap, _∙_}
+use mathlib.Core.Path.{_≡_, sym, ap, _∙_}
 use mathlib.Core.Bool.{true}
 use mathlib.Core.List.{List, [], _∷_, _++_, append-assoc, append-nil}
-use Prim.Native.Nat.{ℕ, suc, _+_, _/_, _%_, _^_, _≤_, _<_}
+use Prim.Native.Nat.{ℕ, _+_, _/_, _%_, _^_, _≤_, _<_}
 use native.Mathlib.Nat.{mod-lt}
 use native.Mathlib.Numerals.{add-one}
 use native.Mathlib.Omega.{arith}
@@ -56,16 +56,16 @@ field-fits {n} {number} h e c k = rw (c .answer, row-there h e k) (code-fits n n
 abbrev pub rowsIn : Span → List Row
 rowsIn span = take (span .count) (drop (span .start) rows)
 
-module _ (n source dgn number : ℕ) where
+module _ (head : List ℕ) (number : ℕ) where
   fields-snoc : (rs : List Row) (row : Row)
-      → fieldsText n source dgn number (rs ++ (row ∷ [])) ≡ fieldsText n source dgn number rs ++ fieldText n source dgn row (fieldIn row number)
+      → fieldsText head number (rs ++ (row ∷ [])) ≡ fieldsText head number rs ++ fieldText head row (fieldIn row number)
   unfolding fieldsText
-  fields-snoc [] row = append-nil (fieldText n source dgn row (fieldIn row number))
-  fields-snoc (r ∷ rs) row = rw (fields-snoc rs row) (sym (append-assoc (fieldText n source dgn r (fieldIn r number)) (fieldsText n source dgn number rs) (fieldText n source dgn row (fieldIn row number))))
+  fields-snoc [] row = append-nil (fieldText head row (fieldIn row number))
+  fields-snoc (r ∷ rs) row = rw (fields-snoc rs row) (sym (append-assoc (fieldText head r (fieldIn r number)) (fieldsText head number rs) (fieldText head row (fieldIn row number))))
 
   pub fields-turn : (span : Span) (i : ℕ) → i < span .count → span .start + span .count ≤ 375
-      → fieldsText n source dgn number (take (i + 1) (rowsIn span))
-      ≡ fieldsText n source dgn number (take i (rowsIn span)) ++ fieldText n source dgn (rowAt (span .start + i)) (fieldIn (rowAt (span .start + i)) number)
+      → fieldsText head number (take (i + 1) (rowsIn span))
+      ≡ fieldsText head number (take i (rowsIn span)) ++ fieldText head (rowAt (span .start + i)) (fieldIn (rowAt (span .start + i)) number)
   unfolding rowAt
   fields-turn span i h k =
       let l : length rows ≡ 375 = row-count in

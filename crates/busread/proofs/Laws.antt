@@ -1,17 +1,17 @@
 -- The laws of this program.
 -- Assumes nothing.
-use mathlib.Core.Path.{_≡_, refl, sym, ap, _∙_}
+use mathlib.Core.Path.{_≡_, refl, ap, _∙_}
 use mathlib.Core.Bool.{true}
 use mathlib.Core.List.{List, [], _∷_, _++_, append-assoc}
-use Prim.Native.Nat.{ℕ, _+_, _-_, _^_, _≤_, _<_}
+use Prim.Native.Nat.{ℕ, _-_, _^_, _≤_, _<_}
 use native.Mathlib.Omega.{arith}
 use borrow.Author.Tests.{ltb-true, ltb-false}
-use Rattle.frame.specs.Words.{_<?_, _≤?_, gives}
+use Rattle.frame.specs.Words.{_<?_, _≤?_}
 use Rattle.frame.proofs.Words.{by-test}
 use Rattle.frame.proofs.Tests.{tests}
 use Rattle.capture.specs.Stream.{Piece, pieceRead, mostLines, linesOf}
-use Rattle.capture.specs.Cutter.{fresh, endingOf}
-use Rattle.capture.specs.Promises.{Next, Last}
+use Rattle.capture.specs.Cutter.{endingOf}
+use Rattle.capture.specs.Promises.{Next}
 use Rattle.capture.specs.Feeding.{joined, Place, between, inside, lastPieces, Fed, yieldOf, brings}
 use Rattle.capture.specs.Feeding as Feeding
 use Rattle.capture.specs.declared.Cutter.{Cutter}
@@ -24,7 +24,6 @@ use Rattle.busread.specs.Text.{text, decimalWidth, decimal}
 use Rattle.busread.specs.Report.{Kept, lineText, keptAfter, linesText, atStart, report}
 use Rattle.busread.specs.Reader.{Ran, begun, a-line, all-used, all-read, endText}
 use Rattle.busread.specs.Laws as Laws
-use Rattle.busread.specs.declared.reader.Going.{Going}
 use Rattle.busread.specs.declared.reader.Going.the-variants.{On, Used, Over}
 use Rattle.busread.proofs.Reading.{over-same}
 

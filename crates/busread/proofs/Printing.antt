@@ -8,10 +8,9 @@ use native.Mathlib.Omega.{arith}
 use borrow.Author.Tests.{ltb-false}
 use lib.ListN.{length, take, drop, length-take}
 use Rattle.frame.specs.Words.{if_then_else_, _<?_, _≤?_, _or_, Told, refused, gives}
-use Rattle.frame.proofs.Words.{by-test}
 use Rattle.frame.proofs.Tests.{tests}
 use Rattle.message.specs.LongMessage.{longest}
-use Rattle.message.specs.Receiver.{placeCount, room, Outcome, nothingToDo, opened, stored, finished, heard, pausedPlaces}
+use Rattle.message.specs.Receiver.{placeCount, room, Outcome, nothingToDo, opened, stored, finished}
 use Rattle.message.specs.Promises.{toldAnswer, messageIn, Message, Hear, Pause}
 use Rattle.message.specs.declared.Answer.{Answer}
 use Rattle.message.specs.declared.Receiver.{Receiver}
@@ -28,7 +27,6 @@ use Rattle.busread.specs.Step.{lineRoom, kept, Counting, Took}
 use Rattle.busread.specs.declared.report.Counts.{Counts}
 use Rattle.busread.specs.declared.step.Print.{Print}
 use Rattle.busread.specs.declared.step.Print.the-variants as Print
-use Rattle.busread.specs.declared.step.Step.{Step}
 
 pub prints : (n : ℕ) (f : Frame) (storage : List ℕ) (answer : Told Outcome) {print : Print}
     → printOf answer ≡ print → answerText n f storage answer ≡ printed n f (messageIn storage answer) print

@@ -1,20 +1,17 @@
 -- The lines of a block and the end of the capture: the turns of the reader.
 -- Assumes nothing.
-use mathlib.Core.Path.{_≡_, refl, sym, ap, _∙_}
-use mathlib.Core.Bool.{Bool, true, false}
-use mathlib.Core.List.{List, [], _∷_, _++_}
+use mathlib.Core.Path.{_≡_, sym, ap, _∙_}
+use mathlib.Core.List.{List, [], _∷_}
 use Prim.Native.Nat.{ℕ, _+_, _-_, _≤_, _<_}
 use native.Mathlib.Omega.{arith}
 use lib.ListN.{length, take, drop}
 use borrow.Author.Tests.{leb-true, leb-false}
-use Rattle.frame.specs.Words.{if_then_else_, _≤?_, _=?_, Told, refused, gives}
+use Rattle.frame.specs.Words.{_≤?_, _=?_}
 use Rattle.frame.proofs.Words.{by-test}
-use Rattle.message.specs.declared.Receiver.{Receiver}
-use Rattle.capture.specs.Line.{Frame}
 use Rattle.capture.specs.Stream.{mostLines, lineIn, Piece, whole, tooLong, pieceRead}
 use Rattle.capture.specs.Cutter.{hasNewline, isTooLong, cuttingOf, cutterAfter, carriedOn, closed, lineAt, endingOf}
 use Rattle.capture.specs.Promises.{Next, Last}
-use Rattle.capture.specs.Feeding.{Yield, brings, used, over, yieldIn, yieldOf, lastPieces}
+use Rattle.capture.specs.Feeding.{brings, used, over, yieldIn, yieldOf}
 use Rattle.capture.specs.declared.Cutter.{Cutter}
 use Rattle.capture.specs.declared.Cut.{Cut}
 use Rattle.capture.specs.declared.Cutting.{Cutting}
@@ -23,10 +20,9 @@ use Rattle.capture.specs.declared.Ending.{Ending}
 use Rattle.capture.specs.declared.Ending.the-variants as Ending
 use Rattle.capture.proofs.Feeding.{next-advances, within-block, carried-fits}
 use Rattle.busread.specs.Text.{Wrote}
-use Rattle.busread.specs.Report.{Kept, lineText, keptAfter, closingText, linesText}
-use Rattle.busread.specs.Step.{kept, Counting, Took}
+use Rattle.busread.specs.Report.{Kept, closingText, linesText}
+use Rattle.busread.specs.Step.{kept, Took}
 use Rattle.busread.specs.Reader.{keptBy, Ready, Ran, a-line, all-used, all-read, went, Turned, Runs}
-use Rattle.busread.specs.declared.report.Counts.{Counts}
 use Rattle.busread.specs.declared.step.Step.{Step}
 use Rattle.busread.specs.declared.reader.Reader.{Reader}
 use Rattle.busread.specs.declared.reader.Run.{Run}

@@ -1,12 +1,12 @@
 -- Text put behind text.
 -- Assumes nothing.
-use mathlib.Core.Path.{_≡_, refl, sym, _∙_, ap, subst}
+use mathlib.Core.Path.{_≡_, refl, sym, _∙_, subst}
 use mathlib.Core.List.{List, [], _∷_, _++_, append-assoc, append-nil}
-use Prim.Native.Nat.{ℕ, suc, _+_, _*_, _≤_, _<_}
+use Prim.Native.Nat.{ℕ, _+_, _≤_, _<_}
 use native.Mathlib.Numerals.{add-one}
 use native.Mathlib.Omega.{arith}
-use lib.ListN.{length, take, drop, getD, length-append}
-use lib.Seq.{paste, length-paste, take-paste, take-length, take-suc, length-take-le}
+use lib.ListN.{length, take, getD, length-append}
+use lib.Seq.{paste, length-paste, take-paste, take-length, take-suc}
 use Rattle.capture.specs.Digits.{digits}
 use Rattle.capture.specs.Line.{bytePairs}
 use Rattle.capture.proofs.Digits.{length-digits}

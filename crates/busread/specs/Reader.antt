@@ -1,16 +1,14 @@
 -- The lines of a block taken one after the other, and the end of the capture: what the reader promises.
 use mathlib.Core.Path.{_≡_}
 use mathlib.Core.List.{List, [], _++_}
-use Prim.Native.Nat.{ℕ, _+_, _≤_, _<_}
+use Prim.Native.Nat.{ℕ, _≤_, _<_}
 use lib.ListN.{length, take}
-use Rattle.message.specs.declared.Receiver.{Receiver}
 use Rattle.capture.specs.Stream.{Piece, pieceRead}
-use Rattle.capture.specs.Cutter.{fresh, endingOf}
+use Rattle.capture.specs.Cutter.{endingOf}
 use Rattle.capture.specs.Promises.{Next}
 use Rattle.capture.specs.Feeding.{yieldOf, brings, used, over, lastPieces}
 use Rattle.capture.specs.declared.Cutter.{Cutter}
 use Rattle.capture.specs.declared.Cut.{Cut}
-use Rattle.busread.specs.Text.{Wrote}
 use Rattle.busread.specs.Report.{Kept, lineText, keptAfter, linesText}
 use Rattle.busread.specs.Step.{kept, Counting}
 use Rattle.busread.specs.declared.step.Step.{Step}

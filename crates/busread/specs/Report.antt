@@ -60,14 +60,15 @@ className Reserved = text "reserved"
 unfoldable pub placeText : Row → List ℕ
 placeText row = keyed " bit=" (decimal (row .first)) ++ keyed " width=" (decimal (row .width))
 
-unfoldable pub fieldText : ℕ → ℕ → ℕ → Row → Field → List ℕ
-fieldText n source dgn row field =
-    headText n source dgn ++ placeText row ++ keyed " class=" (className (field .class)) ++ keyed " raw=" (decimal (field .code)) ++ newline
+-- a field's line, behind the head of its frame
+unfoldable pub fieldText : List ℕ → Row → Field → List ℕ
+fieldText head row field =
+    head ++ placeText row ++ keyed " class=" (className (field .class)) ++ keyed " raw=" (decimal (field .code)) ++ newline
 
 -- a line for each of some rows, of a frame whose eight bytes are this number
-unfoldable pub fieldsText : ℕ → ℕ → ℕ → ℕ → List Row → List ℕ
-fieldsText n source dgn number [] = []
-fieldsText n source dgn number (row ∷ rest) = fieldText n source dgn row (fieldIn row number) ++ fieldsText n source dgn number rest
+unfoldable pub fieldsText : List ℕ → ℕ → List Row → List ℕ
+fieldsText head number [] = []
+fieldsText head number (row ∷ rest) = fieldText head row (fieldIn row number) ++ fieldsText head number rest
 
 unfoldable pub closingText : Counts → List ℕ
 closingText counts =
@@ -90,7 +91,7 @@ rowsOf dgn = take (spanOf (catalogueForm dgn) .count) (drop (spanOf (catalogueFo
 abbrev pub printed : ℕ → Frame → List ℕ → Print → List ℕ
 printed n f message (Refused refusal) = refusalText n refusal
 printed n f message (Message sender dgn) = messageText n sender dgn message
-printed n f message Fields = fieldsText n (sourceOf (f .id)) (dgnOf (f .id)) (numberOf (f .bytes)) (rowsOf (dgnOf (f .id)))
+printed n f message Fields = fieldsText (headText n (sourceOf (f .id)) (dgnOf (f .id))) (numberOf (f .bytes)) (rowsOf (dgnOf (f .id)))
 printed n f message Nothing = []
 
 -- a finished message is that part of the storage

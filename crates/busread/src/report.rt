@@ -17,7 +17,7 @@ pub struct Counts {
 }
 
 // What a frame's lines begin with.
-fn put_head(out: &mut [u8], at: usize, number: u32, source: u8, dgn: u32) -> usize
+pub fn put_head(out: &mut [u8], at: usize, number: u32, source: u8, dgn: u32) -> usize
     requires { ⌜ at + 32 ≤ length (now out) ⌝ }
     ensures { λ r. ⌜ Wrote (now (out .entry)) at (headText number source dgn) (now (out .exit)) r × (r ≤ at + 32) ⌝ }
 {
@@ -67,20 +67,12 @@ fn put_class(out: &mut [u8], at: usize, class: Class) -> usize
     }
 }
 
-// A field of a catalogued frame.
-pub fn put_field(
-    out: &mut [u8],
-    at: usize,
-    number: u32,
-    source: u8,
-    dgn: u32,
-    row: Row,
-    field: Field,
-) -> usize
-    requires { ⌜ (at + 128 ≤ length (now out)) × (field .code < 2 ^ 32) ⌝ }
-    ensures { λ r. ⌜ Wrote (now (out .entry)) at (fieldText number source dgn row field) (now (out .exit)) r × (r ≤ at + 128) ⌝ }
+// A field of a catalogued frame, behind the head of its frame.
+pub fn put_field(out: &mut [u8], at: usize, head: &[u8], row: Row, field: Field) -> usize
+    requires { ⌜ (at + 128 ≤ length (now out)) × (length (now head) ≤ 32) × (field .code < 2 ^ 32) ⌝ }
+    ensures { λ r. ⌜ Wrote (now (out .entry)) at (fieldText (now (head .entry)) row field) (now (out .exit)) r × (r ≤ at + 128) ⌝ }
 {
-    let head_end = put_head(out, at, number, source, dgn);
+    let head_end = text::put(out, at, head);
     let place_end = put_place(out, head_end, row);
     let class = field.class;
     let class_end = put_class(out, place_end, class);

@@ -12,7 +12,7 @@ ghost use Rattle.capture.specs.Line.{lineRead};
 ghost use Rattle.capture.specs.Promises.{frameIn};
 ghost use Rattle.capture.specs.Stream.{mostLines};
 ghost use Rattle.busread.specs.Text.{Wrote};
-ghost use Rattle.busread.specs.Report.{printOf, fieldsText, rowsOf, answerText, counted};
+ghost use Rattle.busread.specs.Report.{headText, printOf, fieldsText, rowsOf, answerText, counted};
 ghost use Rattle.busread.specs.Step.{lineRoom, kept, Counting, Took, Passed};
 use crate::report;
 use crate::report::Counts;
@@ -103,12 +103,14 @@ fn count(counts: Counts, print: Print) -> Counts
 // The fields of a frame, in the catalogue's order.
 fn put_fields(out: &mut [u8], at: usize, number: u32, id: u32, bytes: [u8; 8]) -> usize
     requires { ⌜ at + lineRoom ≤ length (now out) ⌝ }
-    ensures { λ r. ⌜ Wrote (now (out .entry)) at (fieldsText number (sourceOf id) (dgnOf id) (numberOf bytes) (rowsOf (dgnOf id))) (now (out .exit)) r × (r ≤ at + lineRoom) ⌝ }
+    ensures { λ r. ⌜ Wrote (now (out .entry)) at (fieldsText (headText number (sourceOf id) (dgnOf id)) (numberOf bytes) (rowsOf (dgnOf id))) (now (out .exit)) r × (r ≤ at + lineRoom) ⌝ }
 {
     let source = (id % 256) as u8;
     let dgn = id / 256 % 131072;
     let content = frame::number_of(bytes);
     let span = catalogue::rows_of(dgn);
+    let mut head = [0u8; 32];
+    let size = report::put_head(&mut head, 0, number, source, dgn);
     let mut next = at;
     let mut i: usize = 0;
     while i < span.count {
@@ -117,7 +119,7 @@ fn put_fields(out: &mut [u8], at: usize, number: u32, id: u32, bytes: [u8; 8]) -
             return next;
         };
         let field = catalogue::classify(row, content);
-        next = report::put_field(out, next, number, source, dgn, row, field);
+        next = report::put_field(out, next, &head[..size], row, field);
         i += 1;
     }
     next

@@ -1,7 +1,7 @@
 -- `busread::feed` meets its contract. Assumes nothing.
 use mathlib.Core.Path.{_≡_, refl, sym, _∙_}
-use Prim.Native.Nat.{_≤_, _-_}
-use lib.ListN.{length, take}
+use Prim.Native.Nat.{_-_}
+use lib.ListN.{length}
 use lib.Seq.{length-take-le}
 use Rattle.busread.specs.Reader.{Ready}
 use borrow.Author.Needs.{needs}

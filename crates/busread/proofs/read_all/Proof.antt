@@ -1,5 +1,5 @@
 -- `busread::read_all` meets its contract. Assumes nothing.
-use mathlib.Core.Path.{_≡_, refl, _∙_}
+use mathlib.Core.Path.{_≡_, refl}
 use lib.ListN.{length}
 use Rattle.busread.specs.Reader.{Ready}
 use borrow.Author.Needs.{needs}

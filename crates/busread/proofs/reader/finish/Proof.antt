@@ -1,6 +1,6 @@
 -- `busread::reader::finish` meets its contract. Assumes nothing.
 use mathlib.Core.Path.{_≡_, ap, sym, _∙_}
-use Prim.Native.Nat.{ℕ, _≤_}
+use Prim.Native.Nat.{ℕ}
 use lib.ListN.{length, take}
 use lib.Seq.{length-take-le}
 use Rattle.capture.specs.Stream.{whole, tooLong, pieceRead}

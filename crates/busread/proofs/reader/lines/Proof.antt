@@ -1,7 +1,7 @@
 -- `busread::reader::lines` meets its contract. Assumes nothing.
-use mathlib.Core.Path.{_≡_, refl, ap, sym, _∙_}
+use mathlib.Core.Path.{_≡_, refl, _∙_}
 use mathlib.Core.Logic.{_⊎_, inl, inr, ⊎-elim}
-use Prim.Native.Nat.{ℕ, _≤_, _<_, _-_}
+use Prim.Native.Nat.{_≤_, _<_, _-_}
 use lib.ListN.{length, take}
 use Rattle.busread.specs.Reader.{keptBy, Ready, Ran, begun}
 use Rattle.busread.specs.declared.reader.Going.the-variants.{On}

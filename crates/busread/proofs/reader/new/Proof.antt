@@ -1,5 +1,5 @@
 -- `busread::reader::new` meets its contract. Assumes nothing.
-use mathlib.Core.Path.{refl, ap}
+use mathlib.Core.Path.{ap}
 use native.Mathlib.Omega.{arith}
 use borrow.Author.Needs.{needs}
 use Rattle.capture.specs.declared.Cutter.{Cutter}

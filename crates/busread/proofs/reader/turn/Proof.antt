@@ -1,6 +1,5 @@
 -- `busread::reader::turn` meets its contract. Assumes nothing.
-use mathlib.Core.Path.{_≡_, ap, sym, _∙_}
-use Prim.Native.Nat.{_≤_}
+use mathlib.Core.Path.{_≡_, ap, sym}
 use lib.ListN.{length}
 use lib.Seq.{length-take-le}
 use Rattle.capture.specs.Stream.{pieceRead}

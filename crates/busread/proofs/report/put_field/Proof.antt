@@ -6,8 +6,8 @@ use borrow.Author.Needs.{needs}
 use Rattle.busread.proofs.report.put_field.Statement.{statement}
 use Rattle.busread.proofs.report.put_field.Tie as tie
 
-put-head-requires : tie.Need-put-head-requires
-put-head-requires c κs = search needs
+put-requires : tie.Need-put-requires
+put-requires c κs = search needs
 
 put-place-requires : tie.Need-put-place-requires
 put-place-requires c κs = search needs
@@ -27,27 +27,27 @@ put-decimal-requires c κs = search needs
 slice-aggregate-put : tie.Need-slice-aggregate-put
 slice-aggregate-put c = search needs
 
-put-requires : tie.Need-put-requires
-put-requires c κs = search needs
+put-requires-2 : tie.Need-put-requires-2
+put-requires-2 c κs = search needs
 
 same-length : tie.Need-same-length
 same-length c = search needs
 
 returns : tie.Need-returns
 unfolding fieldText
-returns c = (behind (behind (behind (behind (c .before .before .before .before .before .before .before .before .before .before .before .before .before .before .before .before .before .before .before .before .before .put-head .ensures .0) (c .before .before .before .before .before .before .before .before .before .before .before .before .before .before .before .before .before .put-place .ensures .0)) (c .before .before .before .before .before .before .before .before .before .before .before .before .before .put-class .ensures .0)) (c .before .before .before .before .before .before .before .put-decimal .ensures .0)) (c .before .before .put .ensures), omega arith)
+returns c = (behind (behind (behind (behind (c .before .before .before .before .before .before .before .before .before .before .before .before .before .before .before .before .before .before .before .before .before .put .ensures) (c .before .before .before .before .before .before .before .before .before .before .before .before .before .before .before .before .before .put-place .ensures .0)) (c .before .before .before .before .before .before .before .before .before .before .before .before .before .put-class .ensures .0)) (c .before .before .before .before .before .before .before .put-decimal .ensures .0)) (c .before .before .put2 .ensures), omega arith)
 
 pub put-field-spec : {M : Type 1} → statement M
 put-field-spec =
     tie.close
     (tie.spec
-    put-head-requires
+    put-requires
     put-place-requires
     put-class-requires
     slice-aggregate-put-decimal
     cast-put-decimal
     put-decimal-requires
     slice-aggregate-put
-    put-requires
+    put-requires-2
     same-length
     returns)

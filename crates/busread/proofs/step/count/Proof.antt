@@ -1,5 +1,4 @@
 -- `busread::step::count` meets its contract. Assumes nothing.
-use mathlib.Core.Path.{refl}
 use native.Mathlib.Omega.{arith}
 use borrow.Author.Needs.{needs}
 use Rattle.busread.proofs.step.count.Statement.{statement}

@@ -1,5 +1,4 @@
 -- `busread::step::print_of` meets its contract. Assumes nothing.
-use mathlib.Core.Path.{refl}
 use borrow.Author.Needs.{needs}
 use Rattle.busread.proofs.step.print_of.Statement.{statement}
 use Rattle.busread.proofs.step.print_of.Tie as tie

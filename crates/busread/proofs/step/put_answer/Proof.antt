@@ -1,5 +1,5 @@
 -- `busread::step::put_answer` meets its contract. Assumes nothing.
-use mathlib.Core.Path.{_≡_, sym, _∙_}
+use mathlib.Core.Path.{sym, _∙_}
 use Rattle.message.specs.Promises.{toldAnswer}
 use Rattle.capture.specs.Promises.{frameIn}
 use Rattle.busread.proofs.Writing.{nothing}

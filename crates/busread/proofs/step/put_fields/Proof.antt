@@ -1,16 +1,13 @@
 -- `busread::step::put_fields` meets its contract. Assumes nothing.
-use mathlib.Core.Path.{_≡_, refl, sym, ap, _∙_}
-use Prim.Native.Nat.{_≤_, _<_, _-_, _*_, _+_, _/_, _%_}
+use mathlib.Core.Path.{sym}
+use Prim.Native.Nat.{_≤_, _-_, _*_, _+_, _/_, _%_}
 use native.Mathlib.Nat.{div-one}
-use lib.ListN.{length, take, drop}
-use lib.Seq.{take-all}
-use lib.ListN.{length-take}
+use lib.ListN.{take}
+use lib.Seq.{length-take-le}
 use Rattle.frame.specs.Identifier.{sourceOf, dgnOf, catalogueForm}
-use Rattle.catalogue.specs.Table.{rowAt}
-use Rattle.catalogue.specs.Catalogue.{fieldIn}
 use Rattle.catalogue.proofs.Laws.{within}
 use Rattle.busread.specs.Text.{Wrote}
-use Rattle.busread.specs.Report.{fieldsText}
+use Rattle.busread.specs.Report.{headText, fieldsText}
 use Rattle.busread.proofs.Writing.{behind, nothing}
 use Rattle.busread.proofs.Fields.{row-there, row-missing, field-fits, rowsIn, fields-turn, whole-span}
 use borrow.Author.Needs.{needs}
@@ -19,10 +16,10 @@ use Rattle.busread.proofs.step.put_fields.Statement.{statement}
 use Rattle.busread.proofs.step.put_fields.Tie as tie
 
 abbrev Inv-loop : tie.InvT-loop
-Inv-loop out₀ at number id source dgn content span next₀ i₀ out next i = (i ≤ span .count) × (span .start + span .count ≤ 375) × (next ≤ at + 128 * i) × Wrote out₀ at (fieldsText number source dgn content (take i (rowsIn span))) out next
+Inv-loop out₀ at number id source dgn content span head size next₀ i₀ out next i = (i ≤ span .count) × (span .start + span .count ≤ 375) × (next ≤ at + 128 * i) × Wrote out₀ at (fieldsText (headText number source dgn) content (take i (rowsIn span))) out next
 
 abbrev μ-loop : tie.MeasureT-loop
-μ-loop out₀ at number id source dgn content span next₀ i₀ out next i = span .count - i
+μ-loop out₀ at number id source dgn content span head size next₀ i₀ out next i = span .count - i
 
 cast-source : tie.Need-cast-source Inv-loop μ-loop
 cast-source c = search needs
@@ -33,9 +30,15 @@ number-of-requires c κs = search needs
 rows-of-requires : tie.Need-rows-of-requires Inv-loop μ-loop
 rows-of-requires c κs = search needs
 
+slice-aggregate-put-head : tie.Need-slice-aggregate-put-head Inv-loop μ-loop
+slice-aggregate-put-head c = search needs
+
+put-head-requires : tie.Need-put-head-requires Inv-loop μ-loop
+put-head-requires c κs = search needs
+
 loop-holds : tie.Need-loop-holds Inv-loop μ-loop
 unfolding fieldsText
-loop-holds c = (omega arith, rw (c .rows-of .ensures .answer) (within (catalogueForm (c .before .before .before .args .id / 256 % 131072))), omega arith, nothing (c .before .before .before .args .out .now) (c .before .before .before .args .at) (omega arith))
+loop-holds c = (omega arith, rw (c .before .before .before .rows-of .ensures .answer) (within (catalogueForm (c .before .before .before .before .before .before .args .id / 256 % 131072))), omega arith, nothing (c .before .before .before .before .before .before .args .out .now) (c .before .before .before .before .before .before .args .at) (omega arith))
 
 add-row-at : tie.Need-add-row-at Inv-loop μ-loop
 add-row-at c = search needs
@@ -58,8 +61,18 @@ returns c = row-missing (c .before .before .row-at .ensures) (c .enum-told .give
 classify-requires : tie.Need-classify-requires Inv-loop μ-loop
 classify-requires c κs = search needs
 
+array-share-prefix-head : tie.Need-array-share-prefix-head Inv-loop μ-loop
+array-share-prefix-head c = c .before .before .before .before .before .before .before .before .before .before .before .put-head .ensures .0 .fits
+
+slice-aggregate-put-field : tie.Need-slice-aggregate-put-field Inv-loop μ-loop
+slice-aggregate-put-field c = sym (length-take-le (c .before .before .before .before .before .before .before .before .before .before .before .before .put-head .result) (c .before .before .before .before .before .before .before .before .before .before .before .before .put-head .last .0) (c .before .before .before .before .before .before .before .before .before .before .before .before .put-head .ensures .0 .fits))
+
 put-field-requires : tie.Need-put-field-requires Inv-loop μ-loop
-put-field-requires c κs = (omega arith, field-fits (c .before .before .before .before .before .row-at .ensures) (c .before .before .before .looked .given .1) (c .before .classify .ensures) (omega arith))
+put-field-requires c κs = (
+  omega arith,
+  rw (length-take-le (c .before .before .before .before .before .before .before .before .before .before .before .before .put-head .result) (c .before .before .before .before .before .before .before .before .before .before .before .before .put-head .last .0) (c .before .before .before .before .before .before .before .before .before .before .before .before .put-head .ensures .0 .fits)) (c .before .before .before .before .before .before .before .before .before .before .before .before .put-head .ensures .1),
+  field-fits (c .before .before .before .before .before .before .row-at .ensures) (c .before .before .before .before .looked .given .1) (c .before .before .classify .ensures) (omega arith),
+)
 
 add-i : tie.Need-add-i Inv-loop μ-loop
 add-i c = search needs
@@ -69,11 +82,11 @@ loop-less c = search needs
 
 loop-again : tie.Need-loop-again Inv-loop μ-loop
 loop-again c =
-    let l = c .before .before .before .before .before .before .before .before .before .before .before .before .loop in
-    let a = c .before .before .before .before .before .before .before .before .before .before .before .before .before .before .before .before .args in
-    let span = c .before .before .before .before .before .before .before .before .before .before .before .before .before .rows-of .result in
-    let e = row-there (c .before .before .before .before .before .before .before .before .row-at .ensures) (c .before .before .before .before .before .before .looked .given .1) (omega arith) in
-    (omega arith, l .inv .1, omega arith, rw (fields-turn (a .number) (a .id % 256) (a .id / 256 % 131072) (c .before .before .before .before .before .before .before .before .before .before .before .before .before .before .number-of .result) span (l .i) (omega arith) (l .inv .1), ← e, ← c .before .before .before .before .classify .ensures .answer) (behind (l .inv .3) (c .before .before .put-field .ensures .0)))
+    let l = c .before .before .before .before .before .before .before .before .before .before .before .before .before .loop in
+    let a = c .before .before .before .before .before .before .before .before .before .before .before .before .before .before .before .before .before .before .before .before .args in
+    let span = c .before .before .before .before .before .before .before .before .before .before .before .before .before .before .before .before .before .rows-of .result in
+    let e = row-there (c .before .before .before .before .before .before .before .before .before .row-at .ensures) (c .before .before .before .before .before .before .before .looked .given .1) (omega arith) in
+    (omega arith, l .inv .1, omega arith, rw (fields-turn (headText (a .number) (a .id % 256) (a .id / 256 % 131072)) (c .before .before .before .before .before .before .before .before .before .before .before .before .before .before .before .before .before .before .number-of .result) span (l .i) (omega arith) (l .inv .1), ← e, ← c .before .before .before .before .before .classify .ensures .answer) (behind (l .inv .3) (rw (c .before .before .before .before .before .before .before .before .before .before .before .before .before .before .before .put-head .ensures .0 .written) at (c .before .before .put-field .ensures .0))))
 
 same-length-2 : tie.Need-same-length-2 Inv-loop μ-loop
 same-length-2 c = c .before .before .loop .inv .3 .room
@@ -82,9 +95,9 @@ returns-2 : tie.Need-returns-2 Inv-loop μ-loop
 unfolding sourceOf dgnOf
 returns-2 c =
     let l = c .before .before .loop in
-    let a = c .before .before .before .before .before .before .args in
-    let e = whole-span (c .before .before .before .rows-of .result) (a .id / 256 % 131072) (l .i) (c .before .before .before .rows-of .ensures .answer) (omega arith) in
-    (rw (div-one, ← c .before .before .before .before .number-of .ensures .answer, ← e) (l .inv .3), omega arith)
+    let a = c .before .before .before .before .before .before .before .before .before .args in
+    let e = whole-span (c .before .before .before .before .before .before .rows-of .result) (a .id / 256 % 131072) (l .i) (c .before .before .before .before .before .before .rows-of .ensures .answer) (omega arith) in
+    (rw (div-one, ← c .before .before .before .before .before .before .before .number-of .ensures .answer, ← e) (l .inv .3), omega arith)
 
 pub put-fields-spec : {M : Type 1} → statement M
 put-fields-spec =
@@ -95,6 +108,8 @@ put-fields-spec =
     cast-source
     number-of-requires
     rows-of-requires
+    slice-aggregate-put-head
+    put-head-requires
     loop-holds
     add-row-at
     row-at-requires
@@ -103,6 +118,8 @@ put-fields-spec =
     same-length
     returns
     classify-requires
+    array-share-prefix-head
+    slice-aggregate-put-field
     put-field-requires
     add-i
     loop-less

@@ -1,6 +1,6 @@
 -- `busread::text::put_digits` meets its contract. Assumes nothing.
 use mathlib.Core.Path.{_≡_, refl, sym, _∙_}
-use Prim.Native.Nat.{_≤_, _<_, _+_}
+use Prim.Native.Nat.{_≤_, _<_}
 use native.Mathlib.Nat.{mod-lt}
 use lib.ListN.{length, length-set}
 use lib.Seq.{paste}

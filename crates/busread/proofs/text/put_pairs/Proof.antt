@@ -1,5 +1,4 @@
 -- `busread::text::put_pairs` meets its contract. Assumes nothing.
-use mathlib.Core.Path.{refl}
 use Prim.Native.Nat.{_≤_, _-_, _*_, _+_, _<_}
 use mathlib.Core.Path.{_≡_}
 use lib.ListN.{length, take}
