@@ -1,0 +1,144 @@
+// The panel as a node of the network: its address, and the long messages that it joins.
+use crate::replies;
+use crate::show;
+use crate::state;
+use crate::state::Panel;
+use claim::Claim;
+use claim::Hearing;
+use claim::Standing;
+use message::Answer;
+use message::Receiver;
+
+// The panel's NAME (3.3): no other node of the coach has it.
+const NAME: u64 = 0x8000_1234_5678_9ABC;
+
+// 3.2.8.
+const PRODUCT_IDENTIFICATION: u32 = 0xFEEB;
+
+// Claims the first of two addresses.
+pub fn start() -> Panel {
+    let started = Claim::start(NAME, b"\x9C\x9D");
+    let answer = started.answer;
+    let bytes = started.bytes;
+    let claim = started.claim;
+    match answer {
+        claim::Starting::Sent => {
+            show::send(started.id, bytes);
+            show::show_standing(claim);
+        }
+        claim::Starting::ListMalformed => show::refused(16),
+    }
+    state::new(claim, replies::start())
+}
+
+// Time passes for the claim and for the open messages.
+pub fn pause(panel: Panel, gap: u16) -> Panel {
+    let claim = pause_claim(panel.claim, gap);
+    let receiver = pause_receiver(panel.receiver, gap);
+    let mut panel = panel;
+    panel.claim = claim;
+    panel.receiver = receiver;
+    panel
+}
+
+// An address is held after 250 ms, and is then told.
+fn pause_claim(claim: Claim, gap: u16) -> Claim {
+    let paused = claim.pause(gap);
+    let answer = paused.answer;
+    let after = paused.claim;
+    match answer {
+        claim::Pausing::Waited => {
+            if is_held(claim) != is_held(after) {
+                show::show_standing(after);
+            }
+        }
+        claim::Pausing::StateBroken => show::refused(2),
+        claim::Pausing::ListMalformed => show::refused(16),
+    }
+    after
+}
+
+fn is_held(claim: Claim) -> bool {
+    let standing = claim.stands();
+    match standing {
+        Standing::Held(_) => true,
+        Standing::Claiming(_) => false,
+        Standing::Silent => false,
+        Standing::StateBroken => {
+            show::refused(2);
+            false
+        }
+        Standing::ListMalformed => {
+            show::refused(16);
+            false
+        }
+    }
+}
+
+// A message whose sender pauses for too long is dropped without a word.
+fn pause_receiver(receiver: Receiver, gap: u16) -> Receiver {
+    let paused = receiver.pause(gap);
+    let answer = paused.answer;
+    match answer {
+        message::Pausing::Closed(_) => {}
+        message::Pausing::BrokenState => show::refused(2),
+    }
+    paused.receiver
+}
+
+// A rival's claim at our address: a lower NAME wins it, and we go on to the next (3.3).
+pub fn contest(claim: Claim, id: u32, bytes: [u8; 8]) -> Claim {
+    let heard = claim.hear(id, &bytes);
+    let answer = heard.answer;
+    let to_send = heard.bytes;
+    let after = heard.claim;
+    match answer {
+        Hearing::NothingToDo => {}
+        Hearing::OwnName => show::say(b"own name heard\n"),
+        Hearing::Repeated => show::send(heard.id, to_send),
+        Hearing::Moved => {
+            show::send(heard.id, to_send);
+            show::show_standing(after);
+        }
+        Hearing::FellSilent => {
+            show::send(heard.id, to_send);
+            show::show_standing(after);
+        }
+        Hearing::StateBroken => show::refused(2),
+        Hearing::BadFrame(why) => show::bad_frame(why),
+        Hearing::ListMalformed => show::refused(16),
+    }
+    after
+}
+
+// A frame of a long message; the storage is lent to the receiver.
+pub fn join(receiver: Receiver, id: u32, bytes: [u8; 8], storage: &mut [u8]) -> Receiver {
+    let heard = receiver.hear(storage, id, &bytes);
+    let answer = heard.answer;
+    match answer {
+        Answer::StorageTooShort => show::refused(1),
+        Answer::BrokenState => show::refused(2),
+        Answer::BadFrame(why) => show::bad_frame(why),
+        Answer::MalformedAnnouncement => show::refused(7),
+        Answer::NoPlaceFree => show::refused(8),
+        Answer::NoOpenMessage => show::refused(9),
+        Answer::UnexpectedPacket => show::refused(10),
+        Answer::NothingToDo => {}
+        Answer::Opened => {}
+        Answer::Stored => {}
+        Answer::Finished {
+            place: _,
+            sender,
+            dgn,
+            length: _,
+        } => finished(sender, dgn, message::message(storage, answer)),
+    }
+    heard.receiver
+}
+
+// The panel shows product identifications, and no other long message.
+fn finished(sender: u8, dgn: u32, text: &[u8]) {
+    if dgn == PRODUCT_IDENTIFICATION {
+        show::show_product(sender, text);
+    }
+}

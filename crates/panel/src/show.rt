@@ -1,0 +1,198 @@
+// What the panel prints: a line for each thing that changes, for each refusal, and for each frame that it would send.
+use crate::state::Charger;
+use crate::state::Missing;
+use crate::state::Panel;
+use crate::state::Shown;
+use crate::state::Tank;
+use claim::Claim;
+use claim::Standing;
+use frame::BadFrame;
+use libc::STDOUT_FILENO;
+
+// The whole panel.
+pub fn show_panel(panel: Panel) {
+    say(b"panel\n");
+    let claim = panel.claim;
+    show_standing(claim);
+    let tanks = panel.tanks;
+    show_tank(0, tanks[0]);
+    show_tank(1, tanks[1]);
+    show_tank(2, tanks[2]);
+    show_tank(3, tanks[3]);
+    let chargers = panel.chargers;
+    show_charger(1, chargers[0]);
+    show_charger(2, chargers[1]);
+}
+
+pub fn show_standing(claim: Claim) {
+    let standing = claim.stands();
+    match standing {
+        Standing::Held(address) => show_address(address, b" held\n"),
+        Standing::Claiming(address) => show_address(address, b" claimed\n"),
+        Standing::Silent => say(b"no address\n"),
+        Standing::StateBroken => refused(2),
+        Standing::ListMalformed => refused(16),
+    }
+}
+
+fn show_address(address: u8, standing: &[u8]) {
+    say(b"address ");
+    hex(address);
+    say(standing);
+}
+
+pub fn show_tank(instance: u64, tank: Tank) {
+    say(b"tank ");
+    decimal(instance);
+    if !tank.heard {
+        say(b": not heard\n");
+        return;
+    }
+    let level = tank.level;
+    let resolution = tank.resolution;
+    say(b": ");
+    show_count(level);
+    say(b" of ");
+    show_count(resolution);
+    say(b"\n");
+}
+
+pub fn show_charger(instance: u64, charger: Charger) {
+    say(b"charger ");
+    decimal(instance);
+    if !charger.heard {
+        say(b": not heard\n");
+        return;
+    }
+    let voltage = charger.voltage;
+    let current = charger.current;
+    let state = charger.state;
+    say(b": voltage ");
+    show_twentieths(voltage, b" V");
+    say(b", current ");
+    show_twentieths(current, b" A");
+    say(b", state ");
+    show_count(state);
+    say(b"\n");
+}
+
+// The text of a product identification, its bytes as they are (3.2.8).
+pub fn show_product(sender: u8, text: &[u8]) {
+    say(b"product of ");
+    hex(sender);
+    say(b": ");
+    say(text);
+    say(b"\n");
+}
+
+// A frame that the panel would send, as a line of a recording.
+pub fn send(id: u32, bytes: [u8; 8]) {
+    let line = capture::write(0, id, bytes);
+    let text = line.bytes;
+    let count = line.count;
+    say(b"send ");
+    say(&text[..count]);
+    say(b"\n");
+}
+
+pub fn refused(number: u32) {
+    say(b"refused ");
+    decimal(number as u64);
+    say(b"\n");
+}
+
+pub fn bad_frame(why: BadFrame) {
+    refused(refusal_of(why));
+}
+
+// The number of a frame that is refused by itself.
+pub fn refusal_of(why: BadFrame) -> u32 {
+    match why {
+        BadFrame::IdentifierTooLarge => 3,
+        BadFrame::NotEightBytes => 4,
+        BadFrame::ReservedBitSet => 5,
+        BadFrame::SourceNotAllowed => 6,
+    }
+}
+
+// A whole number.
+fn show_count(shown: Shown) {
+    match shown {
+        Shown::Is(number) => {
+            sign(number);
+            decimal(magnitude(number));
+        }
+        Shown::Not(missing) => show_missing(missing),
+    }
+}
+
+// A number of twentieths, exactly: two decimals.
+fn show_twentieths(shown: Shown, unit: &[u8]) {
+    match shown {
+        Shown::Is(number) => {
+            sign(number);
+            let twentieths = magnitude(number);
+            decimal(twentieths / 20);
+            say(b".");
+            two_digits(twentieths % 20 * 5);
+            say(unit);
+        }
+        Shown::Not(missing) => show_missing(missing),
+    }
+}
+
+fn show_missing(missing: Missing) {
+    match missing {
+        Missing::NoData => say(b"no data"),
+        Missing::OutOfRange => say(b"out of range"),
+        Missing::Reserved => say(b"reserved"),
+        Missing::Refused(number) => {
+            say(b"refused ");
+            decimal(number as u64);
+        }
+    }
+}
+
+fn sign(number: i64) {
+    if number < 0 {
+        say(b"-");
+    }
+}
+
+fn magnitude(number: i64) -> u64 {
+    if number < 0 {
+        return (-1 - number) as u64 + 1;
+    }
+    number as u64
+}
+
+fn two_digits(number: u64) {
+    decimal(number / 10);
+    decimal(number % 10);
+}
+
+fn decimal(number: u64) {
+    io::print_decimal(STDOUT_FILENO, number);
+}
+
+fn hex(byte: u8) {
+    hex_digit(byte / 16);
+    hex_digit(byte % 16);
+}
+
+// In capitals, as in a recording.
+fn hex_digit(digit: u8) {
+    match digit {
+        10 => say(b"A"),
+        11 => say(b"B"),
+        12 => say(b"C"),
+        13 => say(b"D"),
+        14 => say(b"E"),
+        15 => say(b"F"),
+        _ => decimal(digit as u64),
+    }
+}
+
+pub fn say(text: &[u8]) {
+    io::write_all(STDOUT_FILENO, text);
+}
