@@ -71,6 +71,7 @@ message-laws =
       pause-refused-keeps = Message.pause-refused-keeps;
       writes-its-own = Message.writes-its-own;
       not-beyond = Message.not-beyond;
+      lowest-wins = Message.lowest-wins;
     }
 
 catalogue-laws : CatalogueLaws

@@ -10,6 +10,7 @@ use Rattle.claim.specs.Laws as Claims
 use Rattle.nodes.specs.Laws as Nodes
 use Rattle.command.specs.Laws as Command
 use Rattle.capture.specs.Laws as Capture
+use Rattle.message.specs.declared.Place.{Place}
 use Rattle.catalogue.specs.declared.Value.{Value}
 use Rattle.claim.specs.declared.Claim.{Claim}
 use Rattle.nodes.specs.declared.Node.{Node}
@@ -61,6 +62,7 @@ pub record MessageLaws : Type 0 where
   pub pause-refused-keeps : Message.PauseRefusedKeeps
   pub writes-its-own : Message.WritesItsOwn
   pub not-beyond : Message.NotBeyond
+  pub lowest-wins : (id : ℕ) (bytes : List ℕ) (places : List Place) (storage : List ℕ) → Message.LowestWins id bytes places storage
 
 pub record CatalogueLaws : Type 0 where
   pub told-looked-same : Catalogue.ToldLookedSame

@@ -15,6 +15,7 @@ use Rattle.frame.specs.Promises.{refusalOf}
 use Rattle.frame.specs.declared.BadFrame as Frames
 use Rattle.frame.specs.declared.BadFrame.the-variants.{IdentifierTooLarge, NotEightBytes, ReservedBitSet, SourceNotAllowed}
 use Rattle.frame.proofs.Words.{by-test}
+use Rattle.frame.proofs.Tests.{tests}
 use Rattle.frame.proofs.Laws.{badBack, bad-back}
 use Rattle.places.specs.Places.{count}
 use Rattle.places.specs.Layout.{first}
@@ -24,7 +25,7 @@ use Rattle.message.specs.LongMessage.{longest, packetBytes, packetsOf, n
 use Rattle.message.specs.Receiver.{room, freePlace, isOpenBy, keepsRules, Outcome, nothingToDo, opened, stored, finished, After, leaves, placeFor, announces, keptAt, advanced, packetAt, carries, byMeaning, heard, pausedPlaces, pausedAnswer}
 use Rattle.message.specs.Receiver as Receiver
 use Rattle.message.specs.Promises.{toldAnswer, toldPausing, announcingNumber, cuttingNumber, refusalWhy}
-use Rattle.message.specs.Laws.{ToldAnswerSame, ToldPausingSame, AnnouncingNumberSame, CuttingNumberSame, NewOnly, HearOnly, PauseOnly, MessageOnly, AnnouncementOnly, PacketOnly, RefusedKeeps, ClosedAt, TenCloses, PauseRefusedKeeps, ItsOwn, WritesItsOwn, NotBeyond}
+use Rattle.message.specs.Laws.{ToldAnswerSame, ToldPausingSame, AnnouncingNumberSame, CuttingNumberSame, NewOnly, HearOnly, PauseOnly, MessageOnly, AnnouncementOnly, PacketOnly, RefusedKeeps, ClosedAt, TenCloses, LowestWins, PauseRefusedKeeps, ItsOwn, WritesItsOwn, NotBeyond}
 use Rattle.message.specs.declared.Place.{Place}
 use Rattle.message.specs.declared.Receiver.{Receiver}
 use Rattle.message.specs.declared.Answer.{Answer}
@@ -233,6 +234,16 @@ ten-closes id bytes ps s e = go (heard id bytes ps s) (heard-left id bytes ps s)
     go a opens x = given-refused x
     go a (closes {sender = sender} {number = number} {i = i} m f) x = (sender, number, i, m, record { held = f; closed = refl; kept = refl })
     go a (stores m f o l b) x = given-refused x
+
+pub lowest-wins : (id : ℕ) (bytes : List ℕ) (ps : List Place) (s : List ℕ) → LowestWins id bytes ps s
+unfolding heard meaningOf
+lowest-wins id bytes ps s =
+    record {
+      storage-first = λ h. let t : length s <? room ≡ true = search tests in rw t;
+      state-next = λ h e. let t : length s <? room ≡ false = search tests in rw (t, e);
+      frame-next = λ n h e f. let t : length s <? room ≡ false = search tests in rw (t, e, f);
+      announcement-next = λ n h e f. let t : length s <? room ≡ false = search tests in rw (t, e, f);
+    }
 
 pub pause-refused-keeps : PauseRefusedKeeps
 unfolding pausedPlaces pausedAnswer

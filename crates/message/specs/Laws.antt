@@ -1,15 +1,17 @@
 -- The laws of this crate, each a named statement. proofs/Laws.antt has a proof of each, under the same name written small. The larger theorems,
 -- that a busy bus reads like a quiet one and that what is split is joined, stand in the crate `demands`.
 use mathlib.Core.Path.{_≡_}
+use mathlib.Core.Bool.{true, false}
 use mathlib.Core.List.{List}
 use mathlib.Core.Logic.{_≢_}
 use Prim.Native.Nat.{ℕ, _+_, _-_, _*_, _≤_, _<_}
 use lib.ListN.{length, getD, set}
 use Rattle.frame.specs.Words.{Told, refused, gives}
+use Rattle.frame.specs.Frame.{checkedOf}
 use Rattle.places.specs.Layout.{first}
 use Rattle.places.specs.declared.Found.the-variants.{At}
 use Rattle.message.specs.LongMessage.{longest, packetBytes, packetsOf, needed, packet, meaningOf}
-use Rattle.message.specs.Receiver.{placeCount, freePlace, isOpenBy, heard, pausedPlaces, pausedAnswer}
+use Rattle.message.specs.Receiver.{placeCount, room, freePlace, isOpenBy, keepsRules, heard, pausedPlaces, pausedAnswer}
 use Rattle.message.specs.Promises.{toldAnswer, toldPausing, announcingNumber, cuttingNumber, New, Hear, Pause, Message, Announcement, Packet}
 use Rattle.message.specs.declared.Place.{Place}
 use Rattle.message.specs.declared.Receiver.{Receiver}
@@ -79,6 +81,15 @@ TenCloses =
 
 abbrev pub PauseRefusedKeeps : Type 0
 PauseRefusedKeeps = (ms : ℕ) (places : List Place) (n : ℕ) → pausedAnswer ms places ≡ refused n → pausedPlaces ms places ≡ places
+
+-- The lowest number wins: the storage, then the state, then what the frame alone earns, then a malformed announcement; 8, 9 and 10 come after.
+pub record LowestWins (id : ℕ) (bytes : List ℕ) (places : List Place) (storage : List ℕ) : Type 0 where
+  pub storage-first : length storage < room → heard id bytes places storage .answer ≡ refused 1
+  pub state-next : room ≤ length storage → keepsRules places ≡ false → heard id bytes places storage .answer ≡ refused 2
+  pub frame-next :
+      (n : ℕ) → room ≤ length storage → keepsRules places ≡ true → checkedOf id (length bytes) ≡ refused n → heard id bytes places storage .answer ≡ refused n
+  pub announcement-next :
+      (n : ℕ) → room ≤ length storage → keepsRules places ≡ true → meaningOf id bytes ≡ refused n → heard id bytes places storage .answer ≡ refused n
 
 -- A stored packet writes its own bytes and no others: byte k of the storage is the expected packet's own where it is among the bytes that place i,
 -- holding p, still needs from it. Any other byte stays as it was, whatever the frame.
