@@ -22,7 +22,7 @@ use Rattle.capture.proofs.Feeding.{next-advances, within-block, carried-fits}
 use Rattle.busread.specs.Text.{Wrote}
 use Rattle.busread.specs.Report.{Kept, closingText, linesText}
 use Rattle.busread.specs.Step.{kept, Took}
-use Rattle.busread.specs.Reader.{keptBy, Ready, Ran, a-line, all-used, all-read, went, Turned, Runs}
+use Rattle.busread.specs.Reader.{keptBy, Ready, Ran, a-line, all-used, all-read, OneMore, stayed, Went, Turned, Runs}
 use Rattle.busread.specs.declared.step.Step.{Step}
 use Rattle.busread.specs.declared.reader.Reader.{Reader}
 use Rattle.busread.specs.declared.reader.Run.{Run}
@@ -96,22 +96,23 @@ not-ended c f = by-test (mostLines ≤? c .lines) (λ e. absurd (f (rw e))) (λ 
 
 -- A turn that takes a line, and one that takes none.
 
-pub turned : {block storage storage′ out out′ : List ℕ} {at next : ℕ} {reader : Reader} {r : Cut} {piece : Piece} {step : Step}
+pub turned : {block storage storage′ out out′ : List ℕ} {at next : ℕ} {reader : Reader} {r : Cut} {piece : Piece} {run : Run}
     → Ready reader → Next block at (reader .cutter) r → yieldOf block r ≡ brings piece
-    → Took (keptBy reader storage) (pieceRead piece) out next step storage′ out′
-    → Turned block at reader storage out next (went (r .cutter) (r .next) step) storage′ out′
-turned {block} {at = at} {reader = reader} {r = r} {piece = piece} ok n y t =
-    record {
+    → Went reader (r .cutter) (r .next) (pieceRead piece) storage out next run storage′ out′
+    → Turned block at reader storage out next run storage′ out′
+turned {block} {at = at} {reader = reader} {r = r} {piece = piece} ok n y w =
+    let t = w .took in
+    rw (w .left)
+    (record {
       runs = λ from c k ran. rw (t .printed .written, t .kept) (a-line r piece ran n y);
       ready = record { lines = brought n y .1 ∙ ap (λ (l : ℕ). l + 1) (ok .lines) ∙ sym (t .counted); counting = t .counting };
       fits = t .printed .fits;
       advances = λ e. next-advances block at (reader .cutter) r piece n y;
-    }
+    })
 
 pub used-up : {block storage out : List ℕ} {at next : ℕ} {reader : Reader} {r : Cut}
     → Ready reader → Next block at (reader .cutter) r → yieldOf block r ≡ used → next ≤ length out
-    → Turned block at reader storage out next
-    (record { reader = record { cutter = r .cutter; receiver = reader .receiver; counts = reader .counts }; at = r .next; next = next; going = Used }) storage out
+    → Turned block at reader storage out next (stayed reader (r .cutter) (r .next) next Used) storage out
 used-up {r = r} ok n y h =
     record {
       runs = λ from c k ran. all-used r ran n y;
@@ -122,8 +123,7 @@ used-up {r = r} ok n y h =
 
 pub read-up : {block storage out : List ℕ} {at next : ℕ} {reader : Reader} {r : Cut}
     → Ready reader → Next block at (reader .cutter) r → yieldOf block r ≡ over → next ≤ length out
-    → Turned block at reader storage out next
-    (record { reader = record { cutter = r .cutter; receiver = reader .receiver; counts = reader .counts }; at = r .next; next = next; going = Over }) storage out
+    → Turned block at reader storage out next (stayed reader (r .cutter) (r .next) next Over) storage out
 read-up {r = r} ok n y h =
     record {
       runs = λ from c k ran. all-read r ran n y;
@@ -142,8 +142,8 @@ pub carried : {block : List ℕ} {at count : ℕ} {c : Cutter} {r : Cut} → Nex
 carried {block} {at} {count} {c} {r} n e = carried-fits block at count c r n e
 
 pub one-more : {block : List ℕ} {at : ℕ} {reader : Reader} {r : Cut} {piece : Piece} → Ready reader → Next block at (reader .cutter) r → yieldOf block r ≡ brings piece
-    → reader .counts .frames < mostLines
-one-more ok n y = rw (← ok .lines) (brought n y .0)
+    → OneMore (reader .counts)
+one-more ok n y = record { fewer = rw (← ok .lines) (brought n y .0); counting = ok .counting }
 
 pub one-more-last : {reader : Reader} {e : Ending} → Ready reader → Last (reader .cutter) e → (e ≡ Ending.Nothing → ⊥) → reader .counts .frames < mostLines
 one-more-last {reader} ok l f = rw (← ok .lines) (not-ended (reader .cutter) (λ n. f (l .answer ∙ n)))

@@ -3,14 +3,17 @@ use mathlib.Core.Path.{_≡_}
 use mathlib.Core.List.{List, [], _++_}
 use Prim.Native.Nat.{ℕ, _≤_, _<_}
 use lib.ListN.{length, take}
-use Rattle.capture.specs.Stream.{Piece, pieceRead}
+use Rattle.frame.specs.Words.{Told, refused}
+use Rattle.capture.specs.Line.{Frame}
+use Rattle.capture.specs.Stream.{mostLines, Piece, pieceRead}
 use Rattle.capture.specs.Cutter.{endingOf}
 use Rattle.capture.specs.Promises.{Next}
 use Rattle.capture.specs.Feeding.{yieldOf, brings, used, over, lastPieces}
 use Rattle.capture.specs.declared.Cutter.{Cutter}
 use Rattle.capture.specs.declared.Cut.{Cut}
 use Rattle.busread.specs.Report.{Kept, lineText, keptAfter, linesText}
-use Rattle.busread.specs.Step.{kept, Counting}
+use Rattle.busread.specs.Step.{kept, Counting, Took}
+use Rattle.busread.specs.declared.report.Counts.{Counts}
 use Rattle.busread.specs.declared.step.Step.{Step}
 use Rattle.busread.specs.declared.reader.Reader.{Reader}
 use Rattle.busread.specs.declared.reader.Run.{Run}
@@ -47,15 +50,35 @@ pub data Ran (block : List ℕ) (at : ℕ) (c : Cutter) (k : Kept) : List ℕ �
       → Ran block at c k words at′ c′ k′ On → Next block at′ c′ r → yieldOf block r ≡ over
       → Ran block at c k words (r .next) (r .cutter) k′ Over
 
--- where a line leaves the run
-abbrev pub went : Cutter → ℕ → Step → Run
-went cutter at step =
+-- where a line leaves the run, and where a turn without one does
+
+abbrev pub after : Cutter → ℕ → Step → Run
+after cutter at step =
     record {
       reader = record { cutter = cutter; receiver = step .receiver; counts = step .counts };
       at = at;
       next = step .next;
       going = On;
     }
+
+abbrev pub stayed : Reader → Cutter → ℕ → ℕ → Going → Run
+stayed reader cutter at next going =
+    record { reader = record { cutter = cutter; receiver = reader .receiver; counts = reader .counts }; at = at; next = next; going = going }
+
+-- one more line may be counted
+pub record OneMore (c : Counts) : Type 0 where
+  pub fewer : c .frames < mostLines
+  pub counting : Counting c
+
+-- a line taken, and the run that it leaves
+pub record Went (reader : Reader) (cutter : Cutter) (at : ℕ) (line : Told Frame) (storage out : List ℕ) (next : ℕ) (r : Run) (storage′ out′ : List ℕ) : Type 0 where
+  pub step : Step
+  pub took : Took (keptBy reader storage) line out next step storage′ out′
+  pub left : r ≡ after cutter at step
+
+-- a line of more than 80 bytes, whatever the storage is
+abbrev pub WentPast : Reader → Cutter → ℕ → List ℕ → ℕ → Run → List ℕ → Type 0
+WentPast reader cutter at out next r out′ = (storage : List ℕ) → Went reader cutter at (refused 19) storage out next r storage out′
 
 -- one turn carries on whatever was run before
 pub record Turned (block : List ℕ) (at : ℕ) (reader : Reader) (storage out : List ℕ) (next : ℕ) (r : Run) (storage′ out′ : List ℕ) : Type 0 where

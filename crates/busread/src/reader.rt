@@ -3,10 +3,11 @@ ghost use mathlib.Core.Path.{_≡_};
 ghost use Prim.Native.Nat.{_≤_};
 ghost use lib.ListN.{length, replicate};
 ghost use Rattle.message.specs.Receiver.{room};
+ghost use Rattle.capture.specs.Line.{lineRead};
 ghost use Rattle.capture.specs.Cutter.{fresh};
 ghost use Rattle.busread.specs.Text.{Wrote};
 ghost use Rattle.busread.specs.Report.{atStart};
-ghost use Rattle.busread.specs.Reader.{half, outRoom, keptBy, Ready, went, Turned, Runs, endText};
+ghost use Rattle.busread.specs.Reader.{half, outRoom, keptBy, Ready, OneMore, after, Went, WentPast, stayed, Turned, Runs, endText};
 use crate::report;
 use crate::report::Counts;
 use crate::step;
@@ -94,51 +95,70 @@ fn turn(
     ensures { λ r. ⌜ Turned (now (block .entry)) at reader (now (storage .entry)) (now (out .entry)) next r (now (storage .exit)) (now (out .exit)) ⌝ }
 {
     let old = reader.cutter;
-    let receiver = reader.receiver;
-    let counts = reader.counts;
     let cut = old.next(block, at);
     let cutter = cut.cutter;
     let answer = cut.answer;
     match answer {
-        Cutting::Within { from, to } => {
-            let step = step::take(receiver, counts, &block[from..to], storage, out, next);
-            taken(cutter, cut.next, step)
-        }
+        Cutting::Within { from, to } => line(
+            reader,
+            cutter,
+            cut.next,
+            &block[from..to],
+            storage,
+            out,
+            next,
+        ),
         Cutting::Carried(count) => {
             let carry = cutter.carry;
-            let step = step::take(receiver, counts, &carry[..count], storage, out, next);
-            taken(cutter, cut.next, step)
-        }
-        Cutting::TooLong => {
-            let step = step::malformed(receiver, counts, out, next);
-            taken(cutter, cut.next, step)
-        }
-        Cutting::BlockUsed => Run {
-            reader: Reader {
+            line(
+                reader,
                 cutter,
-                receiver,
-                counts,
-            },
-            at: cut.next,
-            next,
-            going: Going::Used,
-        },
-        Cutting::AllRead => Run {
-            reader: Reader {
-                cutter,
-                receiver,
-                counts,
-            },
-            at: cut.next,
-            next,
-            going: Going::Over,
-        },
+                cut.next,
+                &carry[..count],
+                storage,
+                out,
+                next,
+            )
+        }
+        Cutting::TooLong => long_line(reader, cutter, cut.next, out, next),
+        Cutting::BlockUsed => stays(reader, cutter, cut.next, next, Going::Used),
+        Cutting::AllRead => stays(reader, cutter, cut.next, next, Going::Over),
     }
+}
+
+// Takes a line; the cutter goes on behind it.
+fn line(
+    reader: Reader,
+    cutter: Cutter,
+    at: usize,
+    text: &[u8],
+    storage: &mut [u8],
+    out: &mut [u8],
+    next: usize,
+) -> Run
+    requires { ⌜ (outRoom ≤ length (now out)) × (next ≤ half) × (room ≤ length (now storage)) × OneMore (reader .counts) ⌝ }
+    ensures { λ r. ⌜ Went reader cutter at (lineRead (now (text .entry))) (now (storage .entry)) (now (out .entry)) next r (now (storage .exit)) (now (out .exit)) ⌝ }
+{
+    let receiver = reader.receiver;
+    let counts = reader.counts;
+    let step = step::take(receiver, counts, text, storage, out, next);
+    taken(cutter, at, step)
+}
+
+// Passes over a line of more than 80 bytes.
+fn long_line(reader: Reader, cutter: Cutter, at: usize, out: &mut [u8], next: usize) -> Run
+    requires { ⌜ (outRoom ≤ length (now out)) × (next ≤ half) × OneMore (reader .counts) ⌝ }
+    ensures { λ r. ⌜ WentPast reader cutter at (now (out .entry)) next r (now (out .exit)) ⌝ }
+{
+    let receiver = reader.receiver;
+    let counts = reader.counts;
+    let step = step::malformed(receiver, counts, out, next);
+    taken(cutter, at, step)
 }
 
 // After a line.
 fn taken(cutter: Cutter, at: usize, step: Step) -> Run
-    ensures { λ r. ⌜ r ≡ went cutter at step ⌝ }
+    ensures { λ r. ⌜ r ≡ after cutter at step ⌝ }
 {
     let receiver = step.receiver;
     let counts = step.counts;
@@ -151,6 +171,24 @@ fn taken(cutter: Cutter, at: usize, step: Step) -> Run
         at,
         next: step.next,
         going: Going::On,
+    }
+}
+
+// Without a line.
+fn stays(reader: Reader, cutter: Cutter, at: usize, next: usize, going: Going) -> Run
+    ensures { λ r. ⌜ r ≡ stayed reader cutter at next going ⌝ }
+{
+    let receiver = reader.receiver;
+    let counts = reader.counts;
+    Run {
+        reader: Reader {
+            cutter,
+            receiver,
+            counts,
+        },
+        at,
+        next,
+        going,
     }
 }
 

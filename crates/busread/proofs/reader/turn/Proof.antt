@@ -16,20 +16,17 @@ next-requires c κs = search needs
 enum-known-answer : tie.Need-enum-known-answer
 enum-known-answer c = search needs
 
-sub-take : tie.Need-sub-take
-sub-take c = let w = within (c .before .before .before .before .next .ensures) (c .before .answer .given .1) in search needs
+sub-line : tie.Need-sub-line
+sub-line c = let w = within (c .before .before .before .before .next .ensures) (c .before .answer .given .1) in search needs
 
-part-take-start : tie.Need-part-take-start
-part-take-start c = let w = within (c .before .before .before .before .next .ensures) (c .before .answer .given .1) in search needs
+part-line-start : tie.Need-part-line-start
+part-line-start c = let w = within (c .before .before .before .before .next .ensures) (c .before .answer .given .1) in search needs
 
-part-take-end : tie.Need-part-take-end
-part-take-end c = let w = within (c .before .before .before .before .next .ensures) (c .before .answer .given .1) in search needs
+part-line-end : tie.Need-part-line-end
+part-line-end c = let w = within (c .before .before .before .before .next .ensures) (c .before .answer .given .1) in search needs
 
-take-requires : tie.Need-take-requires
-take-requires c κs = (omega arith, omega arith, one-more (c .before .before .before .before .before .before .before .before .before .before .before .before .before .before .pre .3) (c .before .before .before .before .before .before .before .next .ensures) (ap (yieldIn (c .before .before .before .before .before .before .before .before .before .before .before .before .before .before .args .block .now) (c .before .before .before .before .before .before .before .next .result .cutter)) (c .before .before .before .before .answer .given .1)), c .before .before .before .before .before .before .before .before .before .before .before .before .before .before .pre .3 .counting)
-
-taken-requires : tie.Need-taken-requires
-taken-requires c κs = search needs
+line-requires : tie.Need-line-requires
+line-requires c κs = (omega arith, omega arith, omega arith, one-more (c .before .before .before .before .before .before .before .before .before .before .before .before .pre .3) (c .before .before .before .before .before .before .before .next .ensures) (ap (yieldIn (c .before .before .before .before .before .before .before .before .before .before .before .before .args .block .now) (c .before .before .before .before .before .before .before .next .result .cutter)) (c .before .before .before .before .answer .given .1)))
 
 enum-known-answer-2 : tie.Need-enum-known-answer-2
 enum-known-answer-2 c = search needs
@@ -40,32 +37,32 @@ array-share-prefix-carry c =
     let w = carried (c .before .before .before .before .before .next .ensures) (c .before .before .answer2 .given .1) in
     omega arith
 
-slice-aggregate-take : tie.Need-slice-aggregate-take
-slice-aggregate-take c =
+slice-aggregate-line : tie.Need-slice-aggregate-line
+slice-aggregate-line c =
     let l : length (c .before .before .before .before .before .before .next .result .cutter .carry) ≡ 80 = search needs in
     let w = carried (c .before .before .before .before .before .before .next .ensures) (c .before .before .before .answer2 .given .1) in
     sym (length-take-le (c .before .before .before .answer2 .given .0 .0) (c .before .before .before .before .before .before .next .result .cutter .carry) (omega arith))
 
-take-requires-2 : tie.Need-take-requires-2
-take-requires-2 c κs = (omega arith, omega arith, one-more (c .before .before .before .before .before .before .before .before .before .before .before .before .before .before .before .pre .3) (c .before .before .before .before .before .before .before .before .next .ensures) (ap (yieldIn (c .before .before .before .before .before .before .before .before .before .before .before .before .before .before .before .args .block .now) (c .before .before .before .before .before .before .before .before .next .result .cutter)) (c .before .before .before .before .before .answer2 .given .1)), c .before .before .before .before .before .before .before .before .before .before .before .before .before .before .before .pre .3 .counting)
-
-taken-requires-2 : tie.Need-taken-requires-2
-taken-requires-2 c κs = search needs
+line-requires-2 : tie.Need-line-requires-2
+line-requires-2 c κs = (omega arith, omega arith, omega arith, one-more (c .before .before .before .before .before .before .before .before .before .before .before .before .before .pre .3) (c .before .before .before .before .before .before .before .before .next .ensures) (ap (yieldIn (c .before .before .before .before .before .before .before .before .before .before .before .before .before .args .block .now) (c .before .before .before .before .before .before .before .before .next .result .cutter)) (c .before .before .before .before .before .answer2 .given .1)))
 
 enum-told : tie.Need-enum-told
 enum-told c = search needs
 
-malformed-requires : tie.Need-malformed-requires
-malformed-requires c κs = (omega arith, one-more (c .before .before .before .before .before .before .before .before .before .before .before .pre .3) (c .before .before .before .before .next .ensures) (ap (yieldIn (c .before .before .before .before .before .before .before .before .before .before .before .args .block .now) (c .before .before .before .before .next .result .cutter)) (c .before .enum-told .given .1)), c .before .before .before .before .before .before .before .before .before .before .before .pre .3 .counting)
-
-taken-requires-3 : tie.Need-taken-requires-3
-taken-requires-3 c κs = search needs
+long-line-requires : tie.Need-long-line-requires
+long-line-requires c κs = (omega arith, omega arith, one-more (c .before .before .before .before .before .before .before .before .before .pre .3) (c .before .before .before .before .next .ensures) (ap (yieldIn (c .before .before .before .before .before .before .before .before .before .args .block .now) (c .before .before .before .before .next .result .cutter)) (c .before .enum-told .given .1)))
 
 enum-told-2 : tie.Need-enum-told-2
 enum-told-2 c = search needs
 
+stays-requires : tie.Need-stays-requires
+stays-requires c κs = search needs
+
 enum-told-3 : tie.Need-enum-told-3
 enum-told-3 c = search needs
+
+stays-requires-2 : tie.Need-stays-requires-2
+stays-requires-2 c κs = search needs
 
 same-length : tie.Need-same-length
 same-length c = search needs
@@ -75,7 +72,7 @@ same-length-2 c = search needs
 
 returns : tie.Need-returns
 unfolding pieceRead
-returns c = rw (c .taken .ensures) (turned (c .before .before .before .before .before .before .before .before .before .before .before .before .before .before .before .before .before .before .before .before .pre .3) (c .before .before .before .before .before .before .before .before .before .before .before .before .before .next .ensures) (ap (yieldIn (c .before .before .before .before .before .before .before .before .before .before .before .before .before .before .before .before .before .before .before .before .args .block .now) (c .before .before .before .before .before .before .before .before .before .before .before .before .before .next .result .cutter)) (c .before .before .before .before .before .before .before .before .before .before .answer .given .1)) (c .before .before .before .before .before .take .ensures))
+returns c = turned (c .before .before .before .before .before .before .before .before .before .before .before .before .before .before .before .before .before .pre .3) (c .before .before .before .before .before .before .before .before .before .before .before .before .next .ensures) (ap (yieldIn (c .before .before .before .before .before .before .before .before .before .before .before .before .before .before .before .before .before .args .block .now) (c .before .before .before .before .before .before .before .before .before .before .before .before .next .result .cutter)) (c .before .before .before .before .before .before .before .before .before .answer .given .1)) (c .before .before .before .before .line .ensures)
 
 same-length-3 : tie.Need-same-length-3
 same-length-3 c = search needs
@@ -85,20 +82,20 @@ same-length-4 c = search needs
 
 returns-2 : tie.Need-returns-2
 unfolding pieceRead
-returns-2 c = rw (c .taken2 .ensures) (turned (c .before .before .before .before .before .before .before .before .before .before .before .before .before .before .before .before .before .before .before .before .before .pre .3) (c .before .before .before .before .before .before .before .before .before .before .before .before .before .before .next .ensures) (ap (yieldIn (c .before .before .before .before .before .before .before .before .before .before .before .before .before .before .before .before .before .before .before .before .before .args .block .now) (c .before .before .before .before .before .before .before .before .before .before .before .before .before .before .next .result .cutter)) (c .before .before .before .before .before .before .before .before .before .before .before .answer2 .given .1)) (c .before .before .before .before .before .take2 .ensures))
+returns-2 c = turned (c .before .before .before .before .before .before .before .before .before .before .before .before .before .before .before .before .before .before .pre .3) (c .before .before .before .before .before .before .before .before .before .before .before .before .before .next .ensures) (ap (yieldIn (c .before .before .before .before .before .before .before .before .before .before .before .before .before .before .before .before .before .before .args .block .now) (c .before .before .before .before .before .before .before .before .before .before .before .before .before .next .result .cutter)) (c .before .before .before .before .before .before .before .before .before .before .answer2 .given .1)) (c .before .before .before .before .line2 .ensures)
 
 same-length-5 : tie.Need-same-length-5
 same-length-5 c = search needs
 
 returns-3 : tie.Need-returns-3
 unfolding pieceRead
-returns-3 c = rw (c .taken3 .ensures) (turned (c .before .before .before .before .before .before .before .before .before .before .before .before .before .before .before .pre .3) (c .before .before .before .before .before .before .before .before .next .ensures) (ap (yieldIn (c .before .before .before .before .before .before .before .before .before .before .before .before .before .before .before .args .block .now) (c .before .before .before .before .before .before .before .before .next .result .cutter)) (c .before .before .before .before .before .enum-told .given .1)) (c .before .before .before .malformed .ensures (c .before .before .before .before .before .before .before .before .before .before .before .before .before .before .before .args .storage .now)))
+returns-3 c = turned (c .before .before .before .before .before .before .before .before .before .before .before .before .pre .3) (c .before .before .before .before .before .before .before .next .ensures) (ap (yieldIn (c .before .before .before .before .before .before .before .before .before .before .before .before .args .block .now) (c .before .before .before .before .before .before .before .next .result .cutter)) (c .before .before .before .before .enum-told .given .1)) (c .before .before .long-line .ensures (c .before .before .before .before .before .before .before .before .before .before .before .before .args .storage .now))
 
 returns-4 : tie.Need-returns-4
-returns-4 c = used-up (c .before .before .before .before .before .before .before .before .before .before .pre .3) (c .before .before .before .next .ensures) (ap (yieldIn (c .before .before .before .before .before .before .before .before .before .before .args .block .now) (c .before .before .before .next .result .cutter)) (c .enum-told2 .given .1)) (omega arith)
+returns-4 c = rw (c .stays .ensures) (used-up (c .before .before .before .before .before .before .before .before .before .pre .3) (c .before .before .before .before .next .ensures) (ap (yieldIn (c .before .before .before .before .before .before .before .before .before .args .block .now) (c .before .before .before .before .next .result .cutter)) (c .before .enum-told2 .given .1)) (omega arith))
 
 returns-5 : tie.Need-returns-5
-returns-5 c = read-up (c .before .before .before .before .before .before .before .before .before .before .pre .3) (c .before .before .before .next .ensures) (ap (yieldIn (c .before .before .before .before .before .before .before .before .before .before .args .block .now) (c .before .before .before .next .result .cutter)) (c .enum-told3 .given .1)) (omega arith)
+returns-5 c = rw (c .stays2 .ensures) (read-up (c .before .before .before .before .before .before .before .before .before .pre .3) (c .before .before .before .before .next .ensures) (ap (yieldIn (c .before .before .before .before .before .before .before .before .before .args .block .now) (c .before .before .before .before .next .result .cutter)) (c .before .enum-told3 .given .1)) (omega arith))
 
 pub turn-spec : {M : Type 1} → statement M
 turn-spec =
@@ -106,21 +103,20 @@ turn-spec =
     (tie.spec
     next-requires
     enum-known-answer
-    sub-take
-    part-take-start
-    part-take-end
-    take-requires
-    taken-requires
+    sub-line
+    part-line-start
+    part-line-end
+    line-requires
     enum-known-answer-2
     array-share-prefix-carry
-    slice-aggregate-take
-    take-requires-2
-    taken-requires-2
+    slice-aggregate-line
+    line-requires-2
     enum-told
-    malformed-requires
-    taken-requires-3
+    long-line-requires
     enum-told-2
+    stays-requires
     enum-told-3
+    stays-requires-2
     same-length
     same-length-2
     returns
