@@ -1,81 +1,53 @@
--- The statements of specs/BusyBus.antt, proved.
+-- The statements of specs/BusyBus.antt: those of `places` at the receiver's calls, and the law of its pauses.
 -- Assumes nothing.
-use mathlib.Core.Path.{_≡_, refl, sym, ap, ap₂, _∙_}
+use mathlib.Core.Path.{_≡_, refl, sym, ap, _∙_}
 use mathlib.Core.Bool.{Bool, true, false}
-use mathlib.Core.List.{List, [], _∷_}
+use mathlib.Core.List.{List}
 use Prim.Native.Nat.{ℕ, _+_, _≤_, _<_}
 use mathlib.Core.Option.{some, none}
 use native.Mathlib.Omega.{arith}
-use borrow.Author.Tests.{eqb-true, ltb-false, le-ltb, lt-ltb, ltb-true}
-use lib.ListN.{length}
+use borrow.Author.Tests.{ltb-false, le-ltb, lt-ltb, ltb-true}
 use Rattle.frame.specs.Words.{if_then_else_, _=?_, _<?_, Told, refused, gives}
-use Rattle.frame.specs.Identifier.{sourceOf}
 use Rattle.frame.proofs.Words.{by-test}
-use Rattle.places.specs.Format.{Event, frame, pause, opens, goes, ends}
+use Rattle.places.specs.Format.{opens, goes, ends}
 use Rattle.places.specs.OneKey.{pauseAlone}
-use Rattle.places.specs.Places.{Place, Out, full, said, NeverFull, run, eightFree}
-use Rattle.places.specs.Places as Places
-use Rattle.places.specs.Receiver.{stateAfter, received, toldBy}
-use Rattle.places.specs.Statements.{Pausing}
-use Rattle.places.proofs.Receiver.{received-run, received-as-quiet, received-full-exactly-when, received-sums, received-pause, after-kept}
+use Rattle.places.proofs.Calls as Calls
 use Rattle.message.specs.LongMessage.{idleLimit, packetsOf, Meaning, other, announcement, packet, meaningOf}
-use Rattle.message.specs.OneSender.{Open, Frame, Part, Tells, longMessages, announcedBy, waits, fedBy, asksBy}
+use Rattle.message.specs.OneSender.{Open, Part, Tells, longMessages, announcedBy, waits, fedBy, asksBy}
 use Rattle.message.specs.OneSender as OneSender
-use Rattle.message.specs.Receiver.{Outcome, room, heard}
-use Rattle.message.specs.Receiver as Eight
-use Rattle.message.specs.Promises.{toldAnswer, messageIn}
-use Rattle.demands.specs.BusyBus.{Held, fresh, tells, afterFrame, answerOf, toldOf, afterPause, heldAfter, toldTo, Keeps, BusyBus, NoPlaceFree, SumsOfPauses, PauseAsRules, RulesKept, FreshKeeps, HandedBack}
-use Rattle.demands.proofs.LongReceiver.{eightSenders, fresh-receiver, paused-count, agrees}
-use Rattle.demands.proofs.LongReceiver as LongReceiver
-
--- a run of the receiver is a run of the generic one
-
-told-run : (sender : ℕ) (h : Held) (events : List (Event Frame)) → toldBy eightSenders h sender events ≡ toldTo sender h events
-told-run sender h [] = refl
-told-run sender h (frame f ∷ es) =
-    by-test (sourceOf (f .id) =? sender)
-    (λ t. rw t (ap (λ (os : List (Out (Told Tells))). toldOf f h ∷ os) (told-run sender (afterFrame f h) es)))
-    (λ t. rw t (told-run sender (afterFrame f h) es))
-told-run sender h (pause ms ∷ es) = told-run sender (afterPause ms h) es
-
-state-run : (h : Held) (events : List (Event Frame)) → stateAfter eightSenders h events ≡ heldAfter h events
-state-run h [] = refl
-state-run h (frame f ∷ es) = state-run (afterFrame f h) es
-state-run h (pause ms ∷ es) = state-run (afterPause ms h) es
-
--- and a run of the places, which needs no storage to be computed
-pub told-places : (storage : List ℕ) → room ≤ length storage → (sender : ℕ) (events : List (Event Frame))
-    → toldTo sender (fresh storage) events ≡ Places.toldTo sender (run longMessages (eightFree longMessages) events)
-told-places storage enough sender events =
-    let r = fresh-receiver storage enough in
-    sym (told-run sender (fresh storage) events)
-    ∙ ap (Places.toldTo sender) (received-run eightSenders (fresh storage) events (r .kept) ∙ ap (λ (ps : List (Place Open)). run longMessages ps events) (r .all-free))
+use Rattle.message.specs.Calls.{receiverCalls}
+use Rattle.demands.specs.BusyBus.{BusyBus, OpenOnBus, ToldOnBus, NoPlaceFree, PauseCount, PausesOfMessages, SumsOfPauses, StartKept, RulesKept, EveryRunRuns, NoPlaceFreeAt, PauseCountAt}
+use Rattle.demands.proofs.LongReceiver.{receiver-keeps}
 
 pub busy-bus : BusyBus
-busy-bus storage enough sender events n =
-    let e = told-run sender (fresh storage) events in
-    sym e ∙ received-as-quiet eightSenders (fresh storage) (fresh-receiver storage enough) sender events (rw e n)
+busy-bus = Calls.busy-bus receiverCalls receiver-keeps
 
--- refusal 8 and no other is `full`
+pub open-on-bus : OpenOnBus
+open-on-bus = Calls.open-on-bus receiverCalls receiver-keeps
 
-full-eight : (s : List ℕ) (t : Told Outcome) → tells s t ≡ full → t ≡ refused 8
-full-eight s (refused n) e =
-    by-test (n =? 8)
-    (λ t. ap refused (eqb-true n 8 t))
-    (λ t. let z : said (refused n) ≡ full = rw t at e in let y : _≡_ {A = ℕ} 0 1 = cc in absurd (omega arith))
-full-eight s (gives Eight.nothingToDo) e = let y : _≡_ {A = ℕ} 0 1 = cc in absurd (omega arith)
-full-eight s (gives Eight.opened) e = let y : _≡_ {A = ℕ} 0 1 = cc in absurd (omega arith)
-full-eight s (gives Eight.stored) e = let y : _≡_ {A = ℕ} 0 1 = cc in absurd (omega arith)
-full-eight s (gives (Eight.finished a b c d)) e = let y : _≡_ {A = ℕ} 0 1 = cc in absurd (omega arith)
-
-eight-full : (s : List ℕ) (t : Told Outcome) → t ≡ refused 8 → tells s t ≡ full
-eight-full s t e = ap (tells s) e
+pub told-on-bus : ToldOnBus
+told-on-bus = Calls.told-on-bus receiverCalls receiver-keeps
 
 pub no-place-free : NoPlaceFree
-no-place-free h k events f =
-    let g = rw (state-run h events) at (received-full-exactly-when eightSenders h k events f) in
-    let x = heldAfter h events in
-    ((λ e. g .0 (eight-full (afterFrame f x .storage) (answerOf f x) e)), (λ e. full-eight (afterFrame f x .storage) (answerOf f x) (g .1 e)))
+no-place-free = Calls.no-place-free receiverCalls receiver-keeps
+
+pub pause-count : PauseCount
+pause-count = Calls.pause-count receiverCalls receiver-keeps
+
+pub start-kept : StartKept
+start-kept = Calls.start-kept receiverCalls receiver-keeps
+
+pub rules-kept : RulesKept
+rules-kept = Calls.rules-kept receiverCalls receiver-keeps
+
+pub every-run-runs : EveryRunRuns
+every-run-runs = Calls.every-run-runs receiverCalls receiver-keeps
+
+pub no-place-free-at : NoPlaceFreeAt
+no-place-free-at = Calls.full-at-any-state receiverCalls receiver-keeps
+
+pub pause-count-at : PauseCountAt
+pause-count-at = Calls.pause-at-any-state receiverCalls receiver-keeps
 
 -- pauses
 
@@ -136,8 +108,8 @@ wait-sum m a b =
     (λ t. rw t (let z : m .idle + a + b ≡ m .idle + (a + b) = omega arith in rw z))
 
 -- idle time adds up
-pub long-pauses : Pausing longMessages
-long-pauses = record {
+pub pauses-of-messages : PausesOfMessages
+pauses-of-messages = record {
   Kept = Within;
   opens-kept = λ f m a e. opens-within (meaningOf (f .id) (f .bytes)) (f .bytes) m a e;
   feed-kept = λ m n part a h e. feed-within m n part a e;
@@ -147,28 +119,4 @@ long-pauses = record {
 }
 
 pub sums-of-pauses : SumsOfPauses
-sums-of-pauses storage storage′ enough enough′ sender events events′ same n n′ =
-    let e = told-run sender (fresh storage) events in
-    let e′ = told-run sender (fresh storage′) events′ in
-    sym e
-    ∙ received-sums eightSenders long-pauses (fresh storage) (fresh storage′) (fresh-receiver storage enough) (fresh-receiver storage′ enough′) sender events events′ same (rw e n) (rw e′ n′)
-    ∙ e′
-
-pub pause-as-rules : PauseAsRules
-pause-as-rules ms h k =
-    let r = received-pause eightSenders ms h k in
-    record { answer = paused-count ms (h .places) (k .rules) ∙ ap gives (r .number); messages = r .session }
-
-pub rules-kept : RulesKept
-rules-kept h k events = rw (← state-run h events) (after-kept eightSenders h events k)
-
-pub fresh-keeps : FreshKeeps
-fresh-keeps = LongReceiver.fresh-keeps
-
-pub handed-back : HandedBack
-handed-back f h r exit message place sender dgn size k p e m =
-    let a = agrees f (h .places) (h .storage) (k .eight) (k .rules) (k .enough) in
-    let t : answerOf f h ≡ gives (Eight.finished place sender dgn size) = sym (p .answer) ∙ ap toldAnswer e in
-    let l : room ≤ length exit = rw (p .storage-bytes, a .long) (k .enough) in
-    let b : message ≡ messageIn exit (gives (Eight.finished place sender dgn size)) = m .bytes ∙ rw (le-ltb _ _ l, e) in
-    ap₂ tells (sym (p .storage-bytes)) t ∙ ap (λ (x : List ℕ). said (gives (OneSender.finished sender dgn x))) (sym b)
+sums-of-pauses = Calls.sums-on-bus receiverCalls receiver-keeps pauses-of-messages

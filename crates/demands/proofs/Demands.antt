@@ -50,8 +50,10 @@ demand-two =
       reads-back = Catalogue.reads-back;
       reads-others = Catalogue.reads-others;
       bits-kept = Catalogue.bits-kept;
+      splitter-announces = Message.splitter-announces;
+      splitter-cuts = Message.splitter-cuts;
       split-and-join = SplitAndJoin.split-and-join;
-      split-and-join-busy = SplitAndJoin.split-and-join-busy;
+      joined-by-rules = SplitAndJoin.joined-by-rules;
       written-taken-apart = Capture.written-taken-apart;
       taken-apart-written = Capture.taken-apart-written;
       blocks-do-not-matter = Feeding.blocks-do-not-matter;
@@ -61,10 +63,14 @@ pub demand-three : DemandThree
 demand-three =
     record {
       busy-bus = BusyBus.busy-bus;
+      open-on-bus = BusyBus.open-on-bus;
+      told-on-bus = BusyBus.told-on-bus;
       no-place-free = BusyBus.no-place-free;
+      pause-count = BusyBus.pause-count;
       sums-of-pauses = BusyBus.sums-of-pauses;
-      pause-as-rules = BusyBus.pause-as-rules;
-      fresh-keeps = BusyBus.fresh-keeps;
+      start-kept = BusyBus.start-kept;
       rules-kept = BusyBus.rules-kept;
-      handed-back = BusyBus.handed-back;
+      every-run-runs = BusyBus.every-run-runs;
+      no-place-free-at = BusyBus.no-place-free-at;
+      pause-count-at = BusyBus.pause-count-at;
     }

@@ -1,8 +1,19 @@
 -- Every law of the parts, by its name.
 -- Assumes nothing.
+use mathlib.Core.List.{List}
+use Prim.Native.Nat.{ℕ}
 use Rattle.frame.proofs.Laws as Frame
-use Rattle.places.proofs.NineKeys as PlacesNineKeys
+use Rattle.places.specs.Format.{Format}
+use Rattle.places.specs.Layout.{Layout}
+use Rattle.places.specs.Calls.{Calls, KeepsPlaces}
+use Rattle.places.proofs.Search as PlacesSearch
 use Rattle.places.proofs.Stretch as PlacesStretch
+use Rattle.places.proofs.View as PlacesView
+use Rattle.places.proofs.Receiver as PlacesReceiver
+use Rattle.places.proofs.Steps as PlacesSteps
+use Rattle.places.proofs.Statements as PlacesStatements
+use Rattle.places.proofs.Calls as PlacesCalls
+use Rattle.places.proofs.NineKeys as PlacesNineKeys
 use Rattle.places.proofs.Tiny as PlacesTiny
 use Rattle.message.proofs.Laws as Message
 use Rattle.catalogue.proofs.Laws as Catalogue
@@ -15,7 +26,7 @@ use Rattle.command.proofs.PositionLaws as CommandPositionLaws
 use Rattle.command.proofs.ReplyLaws as CommandReplyLaws
 use Rattle.capture.proofs.Feeding as CaptureFeeding
 use Rattle.capture.proofs.Laws as Capture
-use Rattle.demands.specs.EveryLaw.{EveryLaw, FrameLaws, PlacesLaws, MessageLaws, CatalogueLaws, ClaimLaws, NodesLaws, CommandLaws, CaptureLaws}
+use Rattle.demands.specs.EveryLaw.{EveryLaw, FrameLaws, SearchLaws, LayoutLaws, StepLaws, FormatLaws, CallLaws, PlacesLaws, MessageLaws, CatalogueLaws, ClaimLaws, NodesLaws, CommandLaws, CaptureLaws}
 
 frame-laws : FrameLaws
 frame-laws =
@@ -40,16 +51,99 @@ frame-laws =
       lowest-wins = Frame.lowest-wins;
     }
 
+search-laws : (P : Type 0) → SearchLaws P
+search-laws P =
+    record {
+      found-at = PlacesSearch.found-at {P = P};
+      found-nowhere = PlacesSearch.found-nowhere {P = P};
+      set-keeps = PlacesSearch.set-keeps {P = P};
+      every-set = PlacesSearch.every-set {P = P};
+    }
+
+layout-laws : (P S : Type 0) (L : Layout P S) → LayoutLaws P S L
+layout-laws P S L =
+    record {
+      lookup-nowhere = PlacesView.lookup-nowhere L;
+      lookup-at = PlacesView.lookup-at L;
+      free-nowhere = PlacesView.free-nowhere L;
+      free-at = PlacesView.free-at L;
+      update-at = PlacesView.update-at L;
+      close-at = PlacesView.close-at L;
+      take-at = PlacesView.take-at L;
+      free-write = PlacesView.free-write L;
+      one-each-view = PlacesView.one-each-view L;
+      length-view = PlacesView.length-view L;
+      blank-view = PlacesView.blank-view L;
+    }
+
+step-laws : (P : Type 0) (𝓕 : Format) (L : Layout P (𝓕 .Session)) (f : 𝓕 .Frame) (ps : List P) (s : List ℕ) → StepLaws P 𝓕 L f ps s
+step-laws P 𝓕 L f ps s =
+    record {
+      shows-fixed = PlacesReceiver.shows-fixed 𝓕 L f ps s;
+      shows-opens-held = PlacesReceiver.shows-opens-held 𝓕 L f ps s;
+      shows-opens-free = PlacesReceiver.shows-opens-free 𝓕 L f ps s;
+      shows-finishes-held = PlacesReceiver.shows-finishes-held 𝓕 L f ps s;
+      shows-finishes-free = PlacesReceiver.shows-finishes-free 𝓕 L f ps s;
+      shows-full = PlacesReceiver.shows-full 𝓕 L f ps s;
+      shows-feeds-nowhere = PlacesReceiver.shows-feeds-nowhere 𝓕 L f ps s;
+      shows-feeds-goes = PlacesReceiver.shows-feeds-goes 𝓕 L f ps s;
+      shows-feeds-ends = PlacesReceiver.shows-feeds-ends 𝓕 L f ps s;
+      shows-keeps = PlacesReceiver.shows-keeps 𝓕 L f ps s;
+    }
+
+format-laws : (𝓕 : Format) → FormatLaws 𝓕
+format-laws 𝓕 =
+    record {
+      one-step = PlacesSteps.one-step 𝓕;
+      pause-closes = PlacesStatements.pause-closes 𝓕;
+      run-keeps = PlacesStatements.run-keeps 𝓕;
+      as-rules-from-any = PlacesStatements.as-rules-from-any 𝓕;
+      open-as-rules = PlacesStatements.open-as-rules 𝓕;
+      told-as-rules = PlacesStatements.told-as-rules 𝓕;
+      busy-as-quiet = PlacesStatements.busy-as-quiet 𝓕;
+      full-exactly-when = PlacesStatements.full-exactly-when 𝓕;
+      closes-as-rules = PlacesStatements.closes-as-rules 𝓕;
+      full-exactly-when-at = PlacesStatements.full-exactly-when-at 𝓕;
+      sums-of-pauses = PlacesStatements.sums-of-pauses 𝓕;
+      pauses-add = PlacesStatements.pauses-add 𝓕;
+    }
+
+call-laws : (𝓕 : Format) (𝓒 : Calls 𝓕) → KeepsPlaces 𝓒 → CallLaws 𝓕 𝓒
+call-laws 𝓕 𝓒 𝓚 =
+    record {
+      busy-bus = PlacesCalls.busy-bus 𝓒 𝓚;
+      open-on-bus = PlacesCalls.open-on-bus 𝓒 𝓚;
+      told-on-bus = PlacesCalls.told-on-bus 𝓒 𝓚;
+      no-place-free = PlacesCalls.no-place-free 𝓒 𝓚;
+      pause-count = PlacesCalls.pause-count 𝓒 𝓚;
+      sums-on-bus = PlacesCalls.sums-on-bus 𝓒 𝓚;
+      start-kept = PlacesCalls.start-kept 𝓒 𝓚;
+      rules-kept = PlacesCalls.rules-kept 𝓒 𝓚;
+      every-run-runs = PlacesCalls.every-run-runs 𝓒 𝓚;
+      full-at-any-state = PlacesCalls.full-at-any-state 𝓒 𝓚;
+      pause-at-any-state = PlacesCalls.pause-at-any-state 𝓒 𝓚;
+    }
+
 places-laws : PlacesLaws
 places-laws =
     record {
+      searches = search-laws;
       stretch-same = PlacesStretch.stretch-same;
       stretch-other = PlacesStretch.stretch-other;
+      layouts = layout-laws;
+      steps = step-laws;
+      pauses = λ P 𝓕 L. record { view-pass = PlacesView.view-pass 𝓕 L; view-closes = PlacesView.view-closes 𝓕 L; pass-keeps = PlacesReceiver.pass-keeps 𝓕 L };
+      formats = format-laws;
+      calls = call-laws;
       nine-keys-told = PlacesNineKeys.nine-keys-told;
       nine-keys-after = PlacesNineKeys.nine-keys-after;
       nine-keys-paused = PlacesNineKeys.nine-keys-paused;
       tiny-busy-as-quiet = PlacesTiny.tiny-busy-as-quiet;
+      tiny-open-as-rules = PlacesTiny.tiny-open-as-rules;
+      tiny-told-as-rules = PlacesTiny.tiny-told-as-rules;
       tiny-full-exactly-when = PlacesTiny.tiny-full-exactly-when;
+      tiny-closes-as-rules = PlacesTiny.tiny-closes-as-rules;
+      tiny-pausing = PlacesTiny.tiny-pausing;
       tiny-sums-of-pauses = PlacesTiny.tiny-sums-of-pauses;
     }
 
@@ -69,8 +163,11 @@ message-laws =
       refused-keeps = Message.refused-keeps;
       ten-closes = Message.ten-closes;
       pause-refused-keeps = Message.pause-refused-keeps;
+      writes-the-packet = Message.writes-the-packet;
       writes-its-own = Message.writes-its-own;
       not-beyond = Message.not-beyond;
+      splitter-announces = Message.splitter-announces;
+      splitter-cuts = Message.splitter-cuts;
       lowest-wins = Message.lowest-wins;
     }
 

@@ -1,7 +1,7 @@
--- The receiver, its places seen with their stretches of the storage, does what the places of long messages do, and a state that keeps its
+-- The calls of the receiver, its places seen with their stretches of the storage, do what the places of long messages do, and a state that keeps its
 -- rules leads to one that keeps them.
 -- Assumes nothing.
-use mathlib.Core.Path.{_≡_, refl, sym, ap, _∙_, subst, subst⁻¹}
+use mathlib.Core.Path.{_≡_, refl, sym, ap, ap₂, _∙_, subst⁻¹}
 use mathlib.Core.Bool.{Bool, true, false, not}
 use mathlib.Core.List.{List, [], _∷_, _++_, map}
 use mathlib.Core.Logic.{_≢_}
@@ -14,11 +14,13 @@ use lib.Seq.{paste, length-paste, take-paste, take-take}
 use Rattle.frame.specs.Words.{if_then_else_, _≤?_, _<?_, _=?_, _and_, Told, refused, gives}
 use Rattle.frame.specs.Identifier.{sourceOf, greatestDgn}
 use Rattle.frame.specs.Frame.{frameBytes}
+use Rattle.frame.specs.declared.BadFrame.the-variants.{IdentifierTooLarge, NotEightBytes, ReservedBitSet, SourceNotAllowed}
 use Rattle.frame.proofs.Words.{by-test, both-true}
-use Rattle.places.specs.Format.{fixed, opens, feeds, goes, ends, Step, step}
+use Rattle.places.specs.Format.{fixed, opens, feeds, goes, ends}
 use Rattle.places.specs.Places.{Out, full, said, rest, closes, count}
 use Rattle.places.specs.Layout.{first, every, stretch, AgreeBut, openBy, seat, view, oneEach}
-use Rattle.places.specs.Receiver.{Shows, Receiver, Fresh}
+use Rattle.places.specs.Receiver.{Shows}
+use Rattle.places.specs.Calls.{KeepsPlaces}
 use Rattle.places.specs.declared.Found.{Found}
 use Rattle.places.specs.declared.Found.the-variants.{At, Nowhere}
 use Rattle.places.proofs.Search.{found-at, every-at, every-set, every-map, every-replicate}
@@ -30,10 +32,13 @@ use Rattle.message.specs.OneSender.{Open, Frame, Part, Tells, announcedBy, join
 use Rattle.message.specs.OneSender as OneSender
 use Rattle.message.specs.Receiver.{greatestSender, placeCount, room, freePlace, isFree, openMessage, layout, isOpenBy, isZero, placeKeepsRules, keepsRules, Outcome, After, leaves, placeFor, announces, keptAt, expecting, advanced, packetAt, carries, byMeaning, heard, idled, pausedPlaces, pausedAnswer}
 use Rattle.message.specs.Receiver as Eight
-use Rattle.message.specs.Promises.{messageIn, partOf}
+use Rattle.message.specs.Promises.{toldAnswer, messageIn, partOf}
+use Rattle.message.specs.Calls.{Held, Starts, Keeps, tells, Hears, Pauses, openIn, receiverCalls}
 use Rattle.message.specs.declared.Place.{Place}
+use Rattle.message.specs.declared.Answer.{Answer}
+use Rattle.message.specs.declared.Answer.the-variants.{BadFrame, MalformedAnnouncement, NoPlaceFree, NoOpenMessage, UnexpectedPacket, NothingToDo, Opened, Stored, Finished}
+use Rattle.message.specs.declared.Pausing.the-variants as Pausing
 use Rattle.message.proofs.Steps.{found-below, OpenRules, open-rules, rules-at, announces-at, announces-nowhere, advanced-last, advanced-next, packet-expected, packet-other, carries-at, carries-nowhere, heard-kept}
-use Rattle.demands.specs.BusyBus.{Held, fresh, tells, afterFrame, toldOf, afterPause, Keeps, openIn}
 use Rattle.message.proofs.Frames.{Known, meaning-known}
 
 -- an open place that keeps its rules
@@ -105,22 +110,37 @@ module _ (s bytes : List ℕ) (j : ℕ) (p : Place) (enough : room ≤ length s)
         within = omega (arith, n, o .within);
       }
 
+-- an answer that tells this
+abbrev Answers : Told Outcome → Type 0
+Answers t = (x : Answer) × (toldAnswer x ≡ t)
+
+-- each of the refusals 3 to 7 has an answer
+refusal-named : (n : ℕ) → 2 < n → n < 8 → Answers (refused n)
+refusal-named n low high =
+    by-test (n =? 3) (λ t. (BadFrame IdentifierTooLarge, ap refused (sym (eqb-true n 3 t)))) (λ t₃.
+    by-test (n =? 4) (λ t. (BadFrame NotEightBytes, ap refused (sym (eqb-true n 4 t)))) (λ t₄.
+    by-test (n =? 5) (λ t. (BadFrame ReservedBitSet, ap refused (sym (eqb-true n 5 t)))) (λ t₅.
+    by-test (n =? 6) (λ t. (BadFrame SourceNotAllowed, ap refused (sym (eqb-true n 6 t)))) (λ t₆.
+    let e : 7 ≡ n = omega (arith, eqb-false n 3 t₃, eqb-false n 4 t₄, eqb-false n 5 t₅, eqb-false n 6 t₆) in
+    (MalformedAnnouncement, ap refused e)))))
+
 -- one frame at a state that keeps its rules
 
 module _ (f : Frame) (ps : List Place) (s : List ℕ) (eight : length ps ≡ placeCount) (ok : keepsRules ps ≡ true) (enough : room ≤ length s) where
-  -- what a frame leaves is what the places show, each place keeps its rules, and the storage its length
+  -- what a frame leaves is what the places show, each place keeps its rules, the storage its length, and there is an answer that tells it
   pub record Agrees (a : After) : Type 0 where
-    pub shows : Shows longMessages layout f ps s (a .places) (a .storage) (tells (a .storage) (a .answer))
+    pub shows : Shows longMessages layout f ps s (a .places) (a .storage) (tells (messageIn (a .storage) (a .answer)) (a .answer))
     pub rules : every placeKeepsRules (a .places) ≡ true
     pub long : length (a .storage) ≡ length s
+    pub answers : Answers (a .answer)
 
   each-rules : every placeKeepsRules ps ≡ true
   unfolding keepsRules
   each-rules = both-true (every placeKeepsRules ps) _ ok .0
 
   -- a fixed answer
-  kept : (t : Told Outcome) (a : Told Tells) → longMessages .asks f ≡ fixed a → tells s t ≡ said a → Agrees (leaves ps s t)
-  kept t a e k = record { shows = rw k (shows-fixed longMessages layout f ps s a e); rules = each-rules; long = refl }
+  kept : (t : Told Outcome) (a : Told Tells) → longMessages .asks f ≡ fixed a → tells (messageIn s t) t ≡ said a → Answers t → Agrees (leaves ps s t)
+  kept t a e k x = record { shows = rw k (shows-fixed longMessages layout f ps s a e); rules = each-rules; long = refl; answers = x }
 
   -- an announcement
   module _ (sender size dgn : ℕ) (by : sourceOf (f .id) ≡ sender) (named : sender ≤ greatestSender) (long : shortest ≤ size) (short : size ≤ longest) (about : dgn ≤ greatestDgn)
@@ -152,9 +172,10 @@ module _ (f : Frame) (ps : List Place) (s : List ℕ) (eight : length ps ≡ pla
               shows = shows-opens-free longMessages layout f ps s (announcedBy sender size dgn) (gives OneSender.opened) j new s asks (found Nowhere n) e new-open refl (λ i x. refl);
               rules = new-set j;
               long = refl;
+              answers = (Opened, refl);
             })
         free Nowhere n e =
-            rw (n, e) (record { shows = shows-full longMessages layout f ps s (rw asks) (found Nowhere n) e; rules = each-rules; long = refl })
+            rw (n, e) (record { shows = shows-full longMessages layout f ps s (rw asks) (found Nowhere n) e; rules = each-rules; long = refl; answers = (NoPlaceFree, refl) })
 
         held : (g : Found) → first (isOpenBy sender) ps ≡ g → Agrees (announces sender size dgn ps s)
         held (At j) e =
@@ -163,6 +184,7 @@ module _ (f : Frame) (ps : List Place) (s : List ℕ) (eight : length ps ≡ pla
               shows = shows-opens-held longMessages layout f ps s (announcedBy sender size dgn) (gives OneSender.opened) j new s asks (found (At j) e) new-open refl (λ i x. refl);
               rules = new-set j;
               long = refl;
+              answers = (Opened, refl);
             })
         held Nowhere e = free (first isFree ps) e refl
 
@@ -218,6 +240,7 @@ module _ (f : Frame) (ps : List Place) (s : List ℕ) (eight : length ps ≡ pla
                 j freePlace freePlace (keptAt j p (f .bytes) s) asks (sought (At j) e) (last n u) refl (others s (f .bytes) j p enough below rules-here size));
             rules = freed;
             long = length-written s (f .bytes) j p enough below rules-here size;
+            answers = (Finished j (p .sender) (p .dgn) (p .length), refl);
           })
 
       expected-next : p .expected ≢ packetsOf (p .length) → number ≡ p .expected → Agrees (advanced j p ps (keptAt j p (f .bytes) s))
@@ -233,6 +256,7 @@ module _ (f : Frame) (ps : List Place) (s : List ℕ) (eight : length ps ≡ pla
                 every-set placeKeepsRules ps j (expecting (p .expected + 1) p) each-rules
                 (rules-open (expecting (p .expected + 1) p) (not-free p (rules-here .long)) (next-rules s (f .bytes) j p enough below rules-here size u));
             long = length-written s (f .bytes) j p enough below rules-here size;
+            answers = (Stored, refl);
           })
 
       at-place : Agrees (packetAt j p number (f .bytes) ps s)
@@ -252,6 +276,7 @@ module _ (f : Frame) (ps : List Place) (s : List ℕ) (eight : length ps ≡ pla
                 shows-feeds-ends longMessages layout f ps s part (refused 9) (refused 10) j freePlace freePlace s asks (sought (At j) e) (wrong n) refl (λ i x. refl);
             rules = freed;
             long = refl;
+            answers = (UnexpectedPacket, refl);
           }))
 
     carried : Agrees (carries sender number (f .bytes) ps s)
@@ -261,7 +286,12 @@ module _ (f : Frame) (ps : List Place) (s : List ℕ) (eight : length ps ≡ pla
         go (At j) e = subst⁻¹ Agrees (carries-at sender number (f .bytes) ps s j e) (at-place j e)
         go Nowhere e =
             subst⁻¹ Agrees (carries-nowhere sender number (f .bytes) ps s e)
-            (record { shows = shows-feeds-nowhere longMessages layout f ps s part (refused 9) asks (sought Nowhere e); rules = each-rules; long = refl })
+            (record {
+              shows = shows-feeds-nowhere longMessages layout f ps s part (refused 9) asks (sought Nowhere e);
+              rules = each-rules;
+              long = refl;
+              answers = (NoOpenMessage, refl);
+            })
 
   -- a frame
   pub agrees : Agrees (heard (f .id) (f .bytes) ps s)
@@ -273,9 +303,9 @@ module _ (f : Frame) (ps : List Place) (s : List ℕ) (eight : length ps ≡ pla
 
       go : (m : Told Meaning) → meaningOf (f .id) (f .bytes) ≡ m → Known (f .id) (f .bytes) (meaningOf (f .id) (f .bytes)) → Agrees (byMeaning (meaningOf (f .id) (f .bytes)) (f .bytes) ps s)
       go (refused n) e k =
-          let h : n < 8 = rw e at k in
-          rw e (kept (refused n) (refused n) (asked (refused n) e) (rw (ne-eqb n 8 (λ x. omega arith))))
-      go (gives other) e k = rw e (kept (gives Eight.nothingToDo) (gives OneSender.nothingToDo) (asked (gives other) e) refl)
+          let h : (2 < n) × (n < 8) = rw e at k in
+          rw e (kept (refused n) (refused n) (asked (refused n) e) (rw (ne-eqb n 8 (λ x. omega (arith, h .1)))) (refusal-named n (h .0) (h .1)))
+      go (gives other) e k = rw e (kept (gives Eight.nothingToDo) (gives OneSender.nothingToDo) (asked (gives other) e) refl (NothingToDo, refl))
       go (gives (announcement sender size dgn)) e k =
           let h = rw e at k in
           rw e (announced sender size dgn (sym (h .0)) (h .1) (h .2) (h .3) (h .4) (asked (gives (announcement sender size dgn)) e))
@@ -334,53 +364,111 @@ pub paused-count : (ms : ℕ) (ps : List Place) → keepsRules ps ≡ true → p
 unfolding pausedAnswer
 paused-count ms ps v = rw v
 
-pub frame-kept : (f : Frame) (h : Held) → Keeps h → Keeps (afterFrame f h)
-frame-kept f h k =
-    let a = agrees f (h .places) (h .storage) (k .eight) (k .rules) (k .enough) in
-    let o = shows-keeps longMessages layout f (h .places) (h .storage) _ _ _ (a .shows) (each-alone (h .places) (k .rules)) in
-    let after = heard (f .id) (f .bytes) (h .places) (h .storage) in
-    record {
-      eight = o .1 ∙ k .eight;
-      rules = both-rules (after .places) (a .rules) (o .0);
-      enough = rw (a .long) (k .enough);
-    }
+-- the calls, from a state that keeps its rules: there is one answer and one state after each
 
-pub pause-kept : (ms : ℕ) (h : Held) → Keeps h → Keeps (afterPause ms h)
-pause-kept ms h k =
-    let e = paused-places ms (h .places) (k .rules) in
-    record {
-      eight = rw e (length-map (h .places) (idled ms) ∙ k .eight);
-      rules =
-          rw e
-          (both-rules (map (idled ms) (h .places)) (every-map placeKeepsRules (idled ms) (idled-rules ms) (h .places) (all-rules (h .places) (k .rules)))
-          (pass-keeps longMessages layout ms (idled ms) (seat-idled ms) (h .places) (each-alone (h .places) (k .rules))));
-      enough = k .enough;
-    }
+module _ (s : Held) (k : Keeps s) where
+  abbrev ps : List Place
+  ps = s .receiver .places
 
--- The receiver of long messages.
-abbrev pub eightSenders : Receiver longMessages
-eightSenders = record {
-  State = Held;
-  Kept = Keeps;
-  seen = openIn;
-  heard = λ f h. step (afterFrame f h) (toldOf f h);
-  paused = afterPause;
-  closed = λ ms h. count (Eight.closes ms) (h .places);
-  eight = λ h k. length-view layout (h .places) (h .storage) ∙ k .eight;
-  each = λ h k. one-each-view layout (h .places) (h .storage) .0 (each-alone (h .places) (k .rules));
-  heard-kept = frame-kept;
-  heard-seen = λ f h k. agrees f (h .places) (h .storage) (k .eight) (k .rules) (k .enough) .shows .places;
-  heard-answer = λ f h k. agrees f (h .places) (h .storage) (k .eight) (k .rules) (k .enough) .shows .answer;
-  paused-kept = pause-kept;
-  paused-seen = λ ms h k.
-      ap (λ (ps : List Place). view layout ps (h .storage)) (paused-places ms (h .places) (k .rules))
-      ∙ view-pass longMessages layout ms (idled ms) (seat-idled ms) (h .places) (h .storage);
-  closed-seen = λ ms h k. view-closes longMessages layout ms (Eight.closes ms) (seat-closes ms) (h .places) (h .storage);
-}
+  module _ (f : Frame) where
+    abbrev left : After
+    left = heard (f .id) (f .bytes) ps (s .storage)
 
-pub fresh-keeps : (storage : List ℕ) → room ≤ length storage → Keeps (fresh storage)
+    frame-agrees : Agrees f ps (s .storage) (k .eight) (k .rules) (k .enough) left
+    frame-agrees = agrees f ps (s .storage) (k .eight) (k .rules) (k .enough)
+
+    abbrev heardBy : Held
+    heardBy = record { receiver = record { places = left .places }; storage = left .storage }
+
+    abbrev toldBy : Out (Told Tells)
+    toldBy = tells (messageIn (left .storage) (left .answer)) (left .answer)
+
+    enough-left : room ≤ length (left .storage)
+    enough-left = rw (frame-agrees .long) (k .enough)
+
+    -- whatever the promises allow is that
+    hears-is : (t : Held) (o : Out (Told Tells)) → Hears s f o t → (t ≡ heardBy) × (o ≡ toldBy)
+    hears-is t o c =
+        let p = c .hear .places in
+        let b = c .hear .storage-bytes in
+        let l : room ≤ length (t .storage) = rw b enough-left in
+        let m : c .message ≡ messageIn (left .storage) (left .answer) = c .read .bytes ∙ rw (le-ltb _ _ l) (ap₂ messageIn b (c .hear .answer)) in (
+          (λ i. record { receiver = record { places = p i }; storage = b i }),
+          c .told-so ∙ ap₂ tells m (c .hear .answer),
+        )
+
+    heard-kept-rules : Keeps heardBy
+    heard-kept-rules =
+        let o = shows-keeps longMessages layout f ps (s .storage) _ _ _ (frame-agrees .shows) (each-alone ps (k .rules)) in
+        record { eight = o .1 ∙ k .eight; rules = both-rules (left .places) (frame-agrees .rules) (o .0); enough = enough-left }
+
+    hears-some : (o : Out (Told Tells)) × (t : Held) × Hears s f o t
+    hears-some =
+        let x = frame-agrees .answers in (
+          toldBy,
+          heardBy,
+          record {
+            answer = x .0;
+            message = messageIn (left .storage) (left .answer);
+            hear = record { places = refl; storage-bytes = refl; answer = x .1 };
+            read = record { bytes = rw (le-ltb _ _ enough-left, x .1) };
+            told-so = ap (tells (messageIn (left .storage) (left .answer))) (sym (x .1));
+          },
+        )
+
+  module _ (ms : ℕ) where
+    abbrev restedBy : Held
+    restedBy = record { receiver = record { places = map (idled ms) ps }; storage = s .storage }
+
+    pauses-is : (t : Held) (n : Told ℕ) → Pauses s ms n t → (t ≡ restedBy) × (n ≡ gives (count (Eight.closes ms) ps))
+    pauses-is t n c =
+        let p = c .pause .places ∙ paused-places ms ps (k .rules) in
+        let b = c .storage-kept in (
+          (λ i. record { receiver = record { places = p i }; storage = b i }),
+          c .told-so ∙ c .pause .answer ∙ paused-count ms ps (k .rules),
+        )
+
+    rested-kept-rules : Keeps restedBy
+    rested-kept-rules =
+        record {
+          eight = length-map ps (idled ms) ∙ k .eight;
+          rules =
+              both-rules (map (idled ms) ps) (every-map placeKeepsRules (idled ms) (idled-rules ms) ps (all-rules ps (k .rules)))
+              (pass-keeps longMessages layout ms (idled ms) (seat-idled ms) ps (each-alone ps (k .rules)));
+          enough = k .enough;
+        }
+
+    pauses-some : (n : Told ℕ) × (t : Held) × Pauses s ms n t
+    pauses-some = (
+      gives (count (Eight.closes ms) ps),
+      restedBy,
+      record {
+        answer = Pausing.Closed (count (Eight.closes ms) ps);
+        pause = record { places = sym (paused-places ms ps (k .rules)); answer = sym (paused-count ms ps (k .rules)) };
+        storage-kept = refl;
+        told-so = refl;
+      },
+    )
+
+starts-keep : (s : Held) → Starts s → Keeps s
 unfolding keepsRules placeKeepsRules isZero
-fresh-keeps storage h = record { eight = refl; rules = refl; enough = h }
+starts-keep s h = record { eight = rw (h .new .places); rules = rw (h .new .places); enough = h .enough }
 
-pub fresh-receiver : (storage : List ℕ) → room ≤ length storage → Fresh eightSenders (fresh storage)
-fresh-receiver storage h = record { kept = fresh-keeps storage h; all-free = blank-view layout placeCount storage }
+-- The calls of the receiver keep to the places of long messages.
+pub receiver-keeps : KeepsPlaces receiverCalls
+receiver-keeps = record {
+  eight = λ s k. length-view layout (s .receiver .places) (s .storage) ∙ k .eight;
+  each = λ s k. one-each-view layout (s .receiver .places) (s .storage) .0 (each-alone (s .receiver .places) (k .rules));
+  starts-kept = starts-keep;
+  starts-free = λ s h. ap (λ (l : List Place). view layout l (s .storage)) (h .new .places) ∙ blank-view layout placeCount (s .storage);
+  hears-kept = λ s t f o k c. subst⁻¹ Keeps (hears-is s k f t o c .0) (heard-kept-rules s k f);
+  hears-seen = λ s t f o k c. ap openIn (hears-is s k f t o c .0) ∙ frame-agrees s k f .shows .places;
+  hears-told = λ s t f o k c. hears-is s k f t o c .1 ∙ frame-agrees s k f .shows .answer;
+  hears-some = λ s f k. hears-some s k f;
+  pauses-kept = λ s t ms n k c. subst⁻¹ Keeps (pauses-is s k ms t n c .0) (rested-kept-rules s k ms);
+  pauses-seen = λ s t ms n k c.
+      ap openIn (pauses-is s k ms t n c .0) ∙ view-pass longMessages layout ms (idled ms) (seat-idled ms) (s .receiver .places) (s .storage);
+  pauses-told = λ s t ms n k c.
+      pauses-is s k ms t n c .1 ∙ ap gives (view-closes longMessages layout ms (Eight.closes ms) (seat-closes ms) (s .receiver .places) (s .storage));
+  pauses-some = λ s ms k. pauses-some s k ms;
+}

@@ -9,8 +9,8 @@ use Rattle.nodes.specs.Laws as Nodes
 use Rattle.command.specs.Laws as Command
 use Rattle.capture.specs.Laws as Capture
 use Rattle.demands.specs.EveryCall.{EveryCall}
-use Rattle.demands.specs.BusyBus.{BusyBus, NoPlaceFree, SumsOfPauses, PauseAsRules, RulesKept, FreshKeeps, HandedBack}
-use Rattle.demands.specs.SplitAndJoin.{SplitAndJoin, SplitAndJoinBusy}
+use Rattle.demands.specs.BusyBus.{BusyBus, OpenOnBus, ToldOnBus, NoPlaceFree, PauseCount, SumsOfPauses, StartKept, RulesKept, EveryRunRuns, NoPlaceFreeAt, PauseCountAt}
+use Rattle.demands.specs.SplitAndJoin.{SplitAndJoin, JoinedByRules}
 
 -- 1. Every public call ends with an answer for every input. No call relies on an earlier check. Each refusal carries document 01's number and changes
 -- nothing lent or held, but 10 closes that sender's message.
@@ -51,21 +51,30 @@ pub record DemandTwo : Type 0 where
   pub reads-back : Catalogue.ReadsBack
   pub reads-others : Catalogue.ReadsOthers
   pub bits-kept : Catalogue.BitsKept
-  -- long messages
+  -- long messages: every message and DGN within document 01's limits is split, and is joined again in any run of calls
+  pub splitter-announces : Message.SplitterAnnounces
+  pub splitter-cuts : Message.SplitterCuts
   pub split-and-join : SplitAndJoin
-  pub split-and-join-busy : SplitAndJoinBusy
+  pub joined-by-rules : JoinedByRules
   -- captures
   pub written-taken-apart : Capture.WrittenTakenApart
   pub taken-apart-written : Capture.TakenApartWritten
   pub blocks-do-not-matter : Capture.BlocksDoNotMatter
 
 -- 3. A busy bus reads like a quiet one: for a sender that never met "no place free", every answer, bytes included, is the one that the single-sender
--- rules give.
+-- rules give. In every run of calls.
 pub record DemandThree : Type 0 where
   pub busy-bus : BusyBus
+  -- more: whoever met it, what is open, what is told, who meets "no place free" and what a pause closes is what those rules say of the bus
+  pub open-on-bus : OpenOnBus
+  pub told-on-bus : ToldOnBus
   pub no-place-free : NoPlaceFree
+  pub pause-count : PauseCount
   pub sums-of-pauses : SumsOfPauses
-  pub pause-as-rules : PauseAsRules
-  pub fresh-keeps : FreshKeeps
+  -- runs begin with a new receiver, keep the rules of its state, and there is one for any frames and pauses
+  pub start-kept : StartKept
   pub rules-kept : RulesKept
-  pub handed-back : HandedBack
+  pub every-run-runs : EveryRunRuns
+  -- at any state that keeps its rules, wherever it comes from
+  pub no-place-free-at : NoPlaceFreeAt
+  pub pause-count-at : PauseCountAt

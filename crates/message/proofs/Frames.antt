@@ -24,17 +24,17 @@ by-if P false x y f g = g refl
 -- a checked frame
 
 abbrev Sound : ℕ → ℕ → Told Parts → Type 0
-Sound id size (refused n) = n < 8
+Sound id size (refused n) = (2 < n) × (n < 8)
 Sound id size (gives p) = (p ≡ partsOf id) × (size ≡ frameBytes) × (sourceAllowed (sourceOf id) (dgnOf id) ≡ true)
 
 checked-sound : (id size : ℕ) → Sound id size (checkedOf id size)
 unfolding checkedOf
 checked-sound id size =
-    by-if (Sound id size) (identifiers ≤? id) _ _ (λ _. omega arith) (λ _.
-    by-if (Sound id size) (not (size =? frameBytes)) _ _ (λ _. omega arith) (λ s.
-    by-if (Sound id size) (reservedOf id =? 1) _ _ (λ _. omega arith) (λ _.
+    by-if (Sound id size) (identifiers ≤? id) _ _ (λ _. (omega arith, omega arith)) (λ _.
+    by-if (Sound id size) (not (size =? frameBytes)) _ _ (λ _. (omega arith, omega arith)) (λ s.
+    by-if (Sound id size) (reservedOf id =? 1) _ _ (λ _. (omega arith, omega arith)) (λ _.
     by-if (Sound id size) (sourceAllowed (sourceOf id) (dgnOf id)) _ _
-    (λ a. (refl, eqb-true size frameBytes (not-flips (size =? frameBytes) s), a)) (λ _. omega arith))))
+    (λ a. (refl, eqb-true size frameBytes (not-flips (size =? frameBytes) s), a)) (λ _. (omega arith, omega arith)))))
 
 -- a sender of an announcement is no higher than 253
 sender-low : (source dgn : ℕ) → source < 256 → dgn ≡ announcementDgn → sourceAllowed source dgn ≡ true → source ≤ greatestSender
@@ -48,7 +48,7 @@ sender-low source dgn h e f =
 
 -- What is known of a frame by its meaning.
 abbrev pub Known : ℕ → List ℕ → Told Meaning → Type 0
-Known id bytes (refused n) = n < 8
+Known id bytes (refused n) = (2 < n) × (n < 8)
 Known id bytes (gives other) = Unit {0}
 Known id bytes (gives (announcement sender size dgn)) =
     (sender ≡ sourceOf id) × (sender ≤ greatestSender) × (shortest ≤ size) × (size ≤ longest) × (dgn ≤ greatestDgn)
@@ -63,7 +63,7 @@ announced-known id size count dgn bytes h =
     let r₂ = both-true (size ≤? longest) _ (r₁ .1) in
     let r₃ = both-true (count =? packetsOf size) _ (r₂ .1) in
     (refl, h, leb-true _ _ (r₁ .0), leb-true _ _ (r₂ .0), leb-true _ _ (r₃ .1)))
-    (λ _. omega arith)
+    (λ _. (omega arith, omega arith))
 
 source-byte : (id : ℕ) → sourceOf id < 256
 unfolding sourceOf

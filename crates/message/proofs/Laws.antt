@@ -1,15 +1,16 @@
 -- The statements of specs/Laws.antt, proved.
 -- Assumes nothing.
-use mathlib.Core.Path.{_≡_, refl, sym, ap, _∙_, subst⁻¹}
-use mathlib.Core.Bool.{Bool, true, false, not}
-use mathlib.Core.List.{List, _++_, append-assoc}
-use mathlib.Core.Logic.{_≢_}
+use mathlib.Core.Path.{_≡_, refl, sym, ap, _∙_, subst, subst⁻¹}
+use mathlib.Core.Bool.{true, false}
+use mathlib.Core.List.{List, _++_}
+use mathlib.Core.Logic.{_≢_, _⊎_, inl, inr}
 use Prim.Native.Nat.{ℕ, _+_, _-_, _*_, _≤_, _<_}
 use native.Mathlib.Omega.{arith}
-use borrow.Author.Tests.{eqb-true, eqb-false, ltb-true, ltb-false, leb-true, leb-false}
+use borrow.Author.Tests.{eqb-true, eqb-false, ltb-true, ltb-false}
 use lib.ListN.{List·getD-append, length, take, drop, getD, set, length-drop, length-take}
-use lib.Seq.{paste, getD-take, getD-drop, getD-append-add, take-paste, drop-paste, length-paste-head}
-use Rattle.frame.specs.Words.{if_then_else_, _=?_, _<?_, _≤?_, Told, refused, gives}
+use lib.Seq.{paste, getD-take, getD-drop, getD-append-add, take-paste, drop-paste}
+use Rattle.frame.specs.Words.{if_then_else_, _=?_, _<?_, Told, refused, gives}
+use Rattle.frame.specs.Identifier.{greatestDgn}
 use Rattle.frame.specs.Frame.{frameBytes}
 use Rattle.frame.specs.Promises.{refusalOf}
 use Rattle.frame.specs.declared.BadFrame as Frames
@@ -21,11 +22,12 @@ use Rattle.places.specs.Places.{count}
 use Rattle.places.specs.Layout.{first}
 use Rattle.places.specs.declared.Found.{Found}
 use Rattle.places.specs.declared.Found.the-variants.{At, Nowhere}
-use Rattle.message.specs.LongMessage.{longest, packetBytes, packetsOf, needed, Meaning, other, announcement, packet, meaningOf}
-use Rattle.message.specs.Receiver.{room, freePlace, isOpenBy, keepsRules, Outcome, nothingToDo, opened, stored, finished, After, leaves, placeFor, announces, keptAt, advanced, packetAt, carries, byMeaning, heard, pausedPlaces, pausedAnswer}
+use Rattle.message.specs.LongMessage.{shortest, longest, packetBytes, packetsOf, needed, Meaning, other, announcement, packet, meaningOf}
+use Rattle.message.specs.Receiver.{placeCount, room, freePlace, isOpenBy, keepsRules, Outcome, nothingToDo, opened, stored, finished, After, leaves, placeFor, openedAt, announces, keptAt, packetAt, carries, byMeaning, heard, pausedPlaces, pausedAnswer}
 use Rattle.message.specs.Receiver as Receiver
-use Rattle.message.specs.Promises.{toldAnswer, toldPausing, announcingNumber, cuttingNumber, refusalWhy}
-use Rattle.message.specs.Laws.{ToldAnswerSame, ToldPausingSame, AnnouncingNumberSame, CuttingNumberSame, NewOnly, HearOnly, PauseOnly, MessageOnly, AnnouncementOnly, PacketOnly, RefusedKeeps, ClosedAt, TenCloses, LowestWins, PauseRefusedKeeps, ItsOwn, WritesItsOwn, NotBeyond}
+use Rattle.message.specs.Splitter.{mostPackets, splits, numbered}
+use Rattle.message.specs.Promises.{toldAnswer, toldPausing, announcingNumber, cuttingNumber, numberIn, bytesIn}
+use Rattle.message.specs.Laws.{ToldAnswerSame, ToldPausingSame, AnnouncingNumberSame, CuttingNumberSame, NewOnly, HearOnly, PauseOnly, MessageOnly, AnnouncementOnly, PacketOnly, RefusedKeeps, ClosedAt, TenCloses, LowestWins, PauseRefusedKeeps, WritesThePacket, WritesItsOwn, NotBeyond, SplitterAnnounces, SplitterCuts}
 use Rattle.message.specs.declared.Place.{Place}
 use Rattle.message.specs.declared.Receiver.{Receiver}
 use Rattle.message.specs.declared.Answer.{Answer}
@@ -39,7 +41,8 @@ use Rattle.message.specs.declared.Announcing.the-variants as Announcing
 use Rattle.message.specs.declared.Cutting.{Cutting}
 use Rattle.message.specs.declared.Cutting.the-variants as Cutting
 use Rattle.message.proofs.Frames.{Known, meaning-known}
-use Rattle.message.proofs.Steps.{found-below, OpenRules, rules-at, announces-at, announces-nowhere, advanced-last, advanced-next, packet-expected, packet-other, carries-at, carries-nowhere, heard-short, heard-broken, heard-kept}
+use Rattle.message.proofs.Steps.{found-below, OpenRules, rules-at, announces-at, announces-nowhere, advanced-last, advanced-next, advanced-storage, packet-expected, packet-other, carries-at, carries-nowhere, heard-short, heard-broken, heard-kept}
+use Rattle.message.proofs.Packets.{announcement-refused, announcement-given, packet-refused, packet-numbered, numbered-zero, numbered-above, numbered-given}
 
 -- an answer is read back from what it tells
 
@@ -160,9 +163,9 @@ packet-only message dgn number r s p q =
 data Left (id : ℕ) (bytes : List ℕ) (ps : List Place) (s : List ℕ) : After → Type 0 where
   refuses : {n : ℕ} → n ≢ 10 → Left id bytes ps s (leaves ps s (refused n))
   passes : Left id bytes ps s (leaves ps s (gives nothingToDo))
-  opens : {qs : List Place} → Left id bytes ps s (leaves qs s (gives opened))
+  opens : (i : ℕ) (p : Place) → Left id bytes ps s (openedAt (At i) p ps s)
   closes : {sender number i : ℕ} → meaningOf id bytes ≡ gives (packet sender number) → first (isOpenBy sender) ps ≡ At i
-      → Left id bytes ps s (leaves (set ps i freePlace) s (refused 10))
+      → number ≢ getD ps i freePlace .expected → Left id bytes ps s (leaves (set ps i freePlace) s (refused 10))
   stores : {sender number i : ℕ} {qs : List Place} {o : Outcome} → meaningOf id bytes ≡ gives (packet sender number) → first (isOpenBy sender) ps ≡ At i
       → OpenRules (getD ps i freePlace) → room ≤ length s → length bytes ≡ frameBytes
       → Left id bytes ps s (leaves qs (keptAt i (getD ps i freePlace) bytes s) (gives o))
@@ -172,7 +175,7 @@ module _ (id : ℕ) (bytes : List ℕ) (ps : List Place) (s : List ℕ) where
   announces-left sender size dgn = go (placeFor sender ps) refl
     where
       go : (g : Found) → placeFor sender ps ≡ g → Left id bytes ps s (announces sender size dgn ps s)
-      go (At i) e = subst⁻¹ (Left id bytes ps s) (announces-at sender size dgn ps s i e) opens
+      go (At i) e = subst⁻¹ (Left id bytes ps s) (announces-at sender size dgn ps s i e) (opens i _)
       go Nowhere e = subst⁻¹ (Left id bytes ps s) (announces-nowhere sender size dgn ps s e) (refuses (λ x. omega arith))
 
   carries-left : (sender number : ℕ) → meaningOf id bytes ≡ gives (packet sender number) → keepsRules ps ≡ true → room ≤ length s → length bytes ≡ frameBytes
@@ -188,14 +191,16 @@ module _ (id : ℕ) (bytes : List ℕ) (ps : List Place) (s : List ℕ) where
           (by-test (p .expected =? packetsOf (p .length))
           (λ u. subst⁻¹ (Left id bytes ps s) (advanced-last i p ps (keptAt i p bytes s) (eqb-true (p .expected) (packetsOf (p .length)) u)) (stores m e (rules-at sender i ps v e) enough l))
           (λ u. subst⁻¹ (Left id bytes ps s) (advanced-next i p ps (keptAt i p bytes s) (eqb-false (p .expected) (packetsOf (p .length)) u)) (stores m e (rules-at sender i ps v e) enough l))))
-          (λ t. subst⁻¹ (Left id bytes ps s) (packet-other i p ps s number bytes (eqb-false number (p .expected) t)) (closes m e))
+          (λ t.
+          let o = eqb-false number (p .expected) t in
+          subst⁻¹ (Left id bytes ps s) (packet-other i p ps s number bytes o) (closes m e o))
 
       go : (g : Found) → first (isOpenBy sender) ps ≡ g → Left id bytes ps s (carries sender number bytes ps s)
       go (At i) e = subst⁻¹ (Left id bytes ps s) (carries-at sender number bytes ps s i e) (at i e)
       go Nowhere e = subst⁻¹ (Left id bytes ps s) (carries-nowhere sender number bytes ps s e) (refuses (λ x. omega arith))
 
   meaning-left : (m : Told Meaning) → meaningOf id bytes ≡ m → Known id bytes m → keepsRules ps ≡ true → room ≤ length s → Left id bytes ps s (byMeaning m bytes ps s)
-  meaning-left (refused n) e k v enough = let h : n < 8 = k in let x : n ≡ 10 → ⊥ = λ y. omega arith in refuses x
+  meaning-left (refused n) e k v enough = let h : n < 8 = k .1 in let x : n ≡ 10 → ⊥ = λ y. omega arith in refuses x
   meaning-left (gives other) e k v enough = passes
   meaning-left (gives (announcement sender size dgn)) e k v enough = announces-left sender size dgn
   meaning-left (gives (packet sender number)) e k v enough = carries-left sender number e v enough (k .1)
@@ -215,25 +220,32 @@ refused-is : {m n : ℕ} → _≡_ {A = Told Outcome} (refused m) (refused n) �
 refused-is e = cc
 
 pub refused-keeps : RefusedKeeps
-refused-keeps id bytes ps s n e k = go (heard id bytes ps s) (heard-left id bytes ps s) e
+refused-keeps id bytes ps s r exit n h e k =
+    let u = go (heard id bytes ps s) (heard-left id bytes ps s) (sym (h .answer) ∙ e) in
+    (h .places ∙ u .0, h .storage-bytes ∙ u .1)
   where
     go : (a : After) → Left id bytes ps s a → a .answer ≡ refused n → (a .places ≡ ps) × (a .storage ≡ s)
-    go a (refuses h) x = (refl, refl)
-    go a passes x = given-refused x
-    go a opens x = given-refused x
-    go a (closes m f) x = absurd (k (sym (refused-is x)))
-    go a (stores m f o l b) x = given-refused x
+    go a (refuses x) y = (refl, refl)
+    go a passes y = given-refused y
+    go a (opens i p) y = given-refused y
+    go a (closes m f o) y = absurd (k (sym (refused-is y)))
+    go a (stores m f o l b) y = given-refused y
 
 pub ten-closes : TenCloses
-ten-closes id bytes ps s e = go (heard id bytes ps s) (heard-left id bytes ps s) e
+ten-closes id bytes ps s r exit h e =
+    let ten = sym (h .answer) ∙ ap toldAnswer e in
+    go (heard id bytes ps s) (heard-left id bytes ps s) ten (h .places) (h .storage-bytes)
   where
     go : (a : After) → Left id bytes ps s a → a .answer ≡ refused 10
-        → (sender number i : ℕ) × (meaningOf id bytes ≡ gives (packet sender number)) × ClosedAt ps s (a .places) (a .storage) sender i
-    go a (refuses h) x = absurd (h (refused-is x))
-    go a passes x = given-refused x
-    go a opens x = given-refused x
-    go a (closes {sender = sender} {number = number} {i = i} m f) x = (sender, number, i, m, record { held = f; closed = refl; kept = refl })
-    go a (stores m f o l b) x = given-refused x
+        → r .receiver .places ≡ a .places → exit ≡ a .storage
+        → (sender number i : ℕ) × (meaningOf id bytes ≡ gives (packet sender number))
+        × (number ≢ getD ps i freePlace .expected) × ClosedAt ps s (r .receiver .places) exit sender i
+    go a (refuses x) y p q = absurd (x (refused-is y))
+    go a passes y p q = given-refused y
+    go a (opens i q₀) y p q = given-refused y
+    go a (closes {sender = sender} {number = number} {i = i} m f o) y p q =
+        (sender, number, i, m, o, record { held = f; closed = p; kept = q })
+    go a (stores m f o l b) y p q = given-refused y
 
 pub lowest-wins : (id : ℕ) (bytes : List ℕ) (ps : List Place) (s : List ℕ) → LowestWins id bytes ps s
 unfolding heard meaningOf
@@ -247,10 +259,13 @@ lowest-wins id bytes ps s =
 
 pub pause-refused-keeps : PauseRefusedKeeps
 unfolding pausedPlaces pausedAnswer
-pause-refused-keeps ms ps n e =
+pause-refused-keeps ms ps r n h e =
     by-test (keepsRules ps)
-    (λ v. let z : gives (count (Receiver.closes ms) ps) ≡ refused n = rw v at e in let y : _≡_ {A = ℕ} 0 1 = cc in absurd (omega arith))
-    (λ v. rw v)
+    (λ v.
+    let z : gives (count (Receiver.closes ms) ps) ≡ refused n = rw v at (sym (h .answer) ∙ e) in
+    let y : _≡_ {A = ℕ} 0 1 = cc in
+    absurd (omega arith))
+    (λ v. rw v at (h .places))
 
 -- a byte outside a copy
 
@@ -275,20 +290,117 @@ copy-keeps d at b n k l m h =
     ∙ ap (λ (r : List ℕ). getD r (k - (at + n)) 0) (drop-paste d at b n (omega arith) m)
     ∙ getD-drop (at + n) d (k - (at + n)) 0)))
 
+-- a byte within it
+copy-writes : (d : List ℕ) (at : ℕ) (b : List ℕ) (n k : ℕ) → at + n ≤ length d → n ≤ length b → at ≤ k → k < at + n
+    → getD (paste d at b n) k 0 ≡ getD b (k - at) 0
+copy-writes d at b n k l m x y =
+    let z : length (take at d) ≡ at = rw length-take (omega arith) in
+    let e : k ≡ length (take at d) + (k - at) = rw z (omega arith) in
+    sym (getD-take (at + n) (paste d at b n) k 0 y)
+    ∙ ap (λ (r : List ℕ). getD r k 0) (take-paste d at b n (omega arith) m)
+    ∙ ap (λ (j : ℕ). getD (take at d ++ take n b) j 0) e
+    ∙ getD-append-add (take at d) (take n b) (k - at) 0
+    ∙ getD-take n b (k - at) 0 (omega arith)
+
+-- an open place's expected packet lies within the storage, and has as many bytes as are needed of it
+
+stretch-holds : (s : List ℕ) (i : ℕ) (p : Place) → i < placeCount → room ≤ length s → OpenRules p
+    → longest * i + packetBytes * (p .expected - 1) + needed (p .length) (p .expected) ≤ length s
+stretch-holds s i p below enough o = omega (arith, o .within, o .short, o .begun)
+
+packet-holds : (bytes : List ℕ) (p : Place) → length bytes ≡ frameBytes
+    → needed (p .length) (p .expected) ≤ length (drop 1 bytes)
+packet-holds bytes p b = rw length-drop (omega arith)
+
+-- the expected packet is kept
+expected-kept : (id : ℕ) (bytes : List ℕ) (ps : List Place) (s : List ℕ) (sender i : ℕ)
+    → room ≤ length s → keepsRules ps ≡ true
+    → meaningOf id bytes ≡ gives (packet sender (getD ps i freePlace .expected)) → first (isOpenBy sender) ps ≡ At i
+    → heard id bytes ps s .storage ≡ keptAt i (getD ps i freePlace) bytes s
+expected-kept id bytes ps s sender i enough v m f =
+    let p = getD ps i freePlace in
+    ap (λ (a : After). a .storage)
+    (heard-kept id bytes ps s enough v
+    ∙ ap (λ (t : Told Meaning). byMeaning t bytes ps s) m
+    ∙ carries-at sender (p .expected) bytes ps s i f
+    ∙ packet-expected i p ps s (p .expected) bytes refl)
+    ∙ advanced-storage i p ps (keptAt i p bytes s)
+
+pub writes-the-packet : WritesThePacket
+writes-the-packet id bytes ps s r exit sender i k eight enough v h m f own =
+    let p = getD ps i freePlace in
+    let at = longest * i + packetBytes * (p .expected - 1) in
+    let known = subst (Known id bytes) m (meaning-known id bytes) in
+    let o = rules-at sender i ps v f in
+    let room-left = stretch-holds s i p (found-below (isOpenBy sender) ps i eight f) enough o in
+    ap (λ (x : List ℕ). getD x k 0) (h .storage-bytes ∙ expected-kept id bytes ps s sender i enough v m f)
+    ∙ copy-writes s at (drop 1 bytes) (needed (p .length) (p .expected)) k
+    room-left (packet-holds bytes p (known .1)) (own .from) (own .below)
+    ∙ getD-drop 1 bytes (k - at) 0
+
 pub writes-its-own : WritesItsOwn
-writes-its-own id bytes ps s k eight h = go (heard id bytes ps s) (heard-left id bytes ps s)
+writes-its-own id bytes ps s r exit k eight h beside =
+    ap (λ (x : List ℕ). getD x k 0) (h .storage-bytes) ∙ go (heard id bytes ps s) (heard-left id bytes ps s)
   where
     go : (a : After) → Left id bytes ps s a → getD (a .storage) k 0 ≡ getD s k 0
     go a (refuses x) = refl
     go a passes = refl
-    go a opens = refl
-    go a (closes m f) = refl
+    go a (opens i p) = refl
+    go a (closes m f o) = refl
     go a (stores {sender = sender} {number = number} {i = i} m f o enough b) =
         let p = getD ps i freePlace in
         let below = found-below (isOpenBy sender) ps i eight f in
-        let l : longest * i + packetBytes * (p .expected - 1) + needed (p .length) (p .expected) ≤ length s = omega (arith, o .within, o .short, o .begun) in
-        let r : needed (p .length) (p .expected) ≤ length (drop 1 bytes) = rw length-drop (omega arith) in
-        copy-keeps s (longest * i + packetBytes * (p .expected - 1)) (drop 1 bytes) (needed (p .length) (p .expected)) k l r (λ x y. h sender number i m f (record { from = x; below = y }))
+        copy-keeps s (longest * i + packetBytes * (p .expected - 1)) (drop 1 bytes) (needed (p .length) (p .expected)) k
+        (stretch-holds s i p below enough o) (packet-holds bytes p b)
+        (λ x y. beside sender number i m f (record { from = x; below = y }))
 
 pub not-beyond : NotBeyond
 not-beyond p i k one most own = omega (arith, own .below)
+
+-- What the splitter says of a length and a DGN. The laws add that no length which it takes has more than 255 packets.
+
+module _ (size dgn : ℕ) where
+  splits-above : greatestDgn < dgn → splits size dgn ≡ refused 12
+  unfolding splits
+  splits-above d = search tests
+
+  splits-outside : dgn ≤ greatestDgn → (size < shortest) ⊎ (longest < size) → splits size dgn ≡ refused 13
+  unfolding splits
+  splits-outside d (inl h) = search tests
+  splits-outside d (inr h) = let l : shortest ≤ size = omega arith in search tests
+
+  splits-within : dgn ≤ greatestDgn → shortest ≤ size → size ≤ longest → packetsOf size ≤ mostPackets
+      → splits size dgn ≡ gives (packetsOf size)
+  unfolding splits
+  splits-within d l h few = search tests
+
+pub splitter-announces : SplitterAnnounces
+splitter-announces message dgn r p =
+    let size = length message in
+    record {
+      twelve = λ d. p .number ∙ ap numberIn (announcement-refused message dgn (splits-above size dgn d));
+      thirteen = λ d h. p .number ∙ ap numberIn (announcement-refused message dgn (splits-outside size dgn d h));
+      given = λ d l h.
+          let e = announcement-given message dgn (splits-within size dgn d l h (omega arith)) in
+          (announcing-number-same (r .answer) Announcing.Bytes (p .number ∙ ap numberIn e), p .bytes ∙ ap bytesIn e);
+    }
+
+pub splitter-cuts : SplitterCuts
+splitter-cuts message dgn number r p =
+    let size = length message in
+    record {
+      twelve = λ d. p .number ∙ ap numberIn (packet-refused message dgn number (splits-above size dgn d));
+      thirteen = λ d h. p .number ∙ ap numberIn (packet-refused message dgn number (splits-outside size dgn d h));
+      fifteen = λ d l h n.
+          let e = packet-numbered message dgn number (splits-within size dgn d l h (omega arith)) in
+          p .number ∙ ap numberIn (e ∙ numbered-outside n);
+      given = λ d l h one most.
+          let e = packet-numbered message dgn number (splits-within size dgn d l h (omega arith)) in
+          let g = e ∙ numbered-given message number (packetsOf size) (λ z. omega arith) most in
+          (cutting-number-same (r .answer) Cutting.Bytes (p .number ∙ ap numberIn g), p .bytes ∙ ap bytesIn g);
+    }
+  where
+    numbered-outside : (number ≡ 0) ⊎ (packetsOf (length message) < number)
+        → numbered message number (packetsOf (length message)) ≡ refused 15
+    numbered-outside (inl z) = numbered-zero message number (packetsOf (length message)) z
+    numbered-outside (inr h) = numbered-above message number (packetsOf (length message)) (λ z. omega arith) h

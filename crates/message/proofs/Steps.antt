@@ -6,19 +6,19 @@ use mathlib.Core.Bool.{Bool, true, false, not}
 use mathlib.Core.List.{List}
 use Prim.Native.Nat.{ℕ, _+_, _<_, _≤_}
 use native.Mathlib.Omega.{arith}
-use borrow.Author.Tests.{leb-true, not-true, eq-eqb, ne-eqb, lt-ltb, le-ltb}
+use borrow.Author.Tests.{leb-true, eqb-true, eqb-false, not-true, eq-eqb, ne-eqb, lt-ltb, le-ltb}
 use lib.ListN.{length, getD, set}
 use Rattle.frame.specs.Words.{if_then_else_, _≤?_, _=?_, _<?_, _and_, Told, refused, gives}
 use Rattle.frame.specs.Identifier.{greatestDgn}
 use Rattle.frame.specs.Frame.{checkedOf}
 use Rattle.frame.specs.declared.Parts.{Parts}
-use Rattle.frame.proofs.Words.{both-true}
+use Rattle.frame.proofs.Words.{both-true, by-test}
 use Rattle.places.specs.Layout.{first, every, oneEach}
 use Rattle.places.proofs.Search.{found-at, every-at}
 use Rattle.places.specs.declared.Found.{Found}
 use Rattle.places.specs.declared.Found.the-variants.{At, Nowhere}
 use Rattle.message.specs.LongMessage.{shortest, longest, packetsOf, idleLimit, Meaning, meant, meaningOf}
-use Rattle.message.specs.Receiver.{greatestSender, room, freePlace, isFree, isOpenBy, layout, placeKeepsRules, keepsRules, Outcome, opened, stored, finished, After, leaves, orElse, placeFor, announces, keptAt, expecting, advanced, packetAt, carries, byMeaning, heard}
+use Rattle.message.specs.Receiver.{greatestSender, room, freePlace, isFree, isOpenBy, layout, placeKeepsRules, keepsRules, Outcome, stored, finished, After, leaves, orElse, placeFor, openedAt, announces, keptAt, expecting, advanced, packetAt, carries, byMeaning, heard}
 use Rattle.message.specs.Promises.{toldAnswer, LeftBy}
 use Rattle.message.specs.Private.{Live}
 use Rattle.message.specs.declared.Place.{Place}
@@ -54,7 +54,8 @@ place-for-below sender ps j h e = go (first (isOpenBy sender) ps) refl
 
 module _ (sender size dgn : ℕ) (ps : List Place) (s : List ℕ) where
   pub announces-at : (i : ℕ) → placeFor sender ps ≡ At i
-      → announces sender size dgn ps s ≡ leaves (set ps i (record { sender = sender; length = size; dgn = dgn; expected = 1; idle = 0 })) s (gives opened)
+      → announces sender size dgn ps s
+      ≡ openedAt (At i) (record { sender = sender; length = size; dgn = dgn; expected = 1; idle = 0 }) ps s
   unfolding announces
   announces-at i e = rw e
 
@@ -80,6 +81,13 @@ module _ (i : ℕ) (p : Place) (ps : List Place) (s : List ℕ) where
   pub packet-other : (n : ℕ) (bytes : List ℕ) → (n ≡ p .expected → ⊥) → packetAt i p n bytes ps s ≡ leaves (set ps i freePlace) s (refused 10)
   unfolding packetAt
   packet-other n bytes e = rw (ne-eqb _ _ e)
+
+  -- whether or not it is the last, the storage stays as it was handed on
+  pub advanced-storage : advanced i p ps s .storage ≡ s
+  advanced-storage =
+      by-test (p .expected =? packetsOf (p .length))
+      (λ t. ap (λ (a : After). a .storage) (advanced-last (eqb-true (p .expected) (packetsOf (p .length)) t)))
+      (λ t. ap (λ (a : After). a .storage) (advanced-next (eqb-false (p .expected) (packetsOf (p .length)) t)))
 
 module _ (sender number : ℕ) (bytes : List ℕ) (ps : List Place) (s : List ℕ) where
   pub carries-at : (i : ℕ) → first (isOpenBy sender) ps ≡ At i → carries sender number bytes ps s ≡ packetAt i (getD ps i freePlace) number bytes ps s

@@ -3,25 +3,30 @@
 use mathlib.Core.Path.{_≡_}
 use mathlib.Core.Bool.{true, false}
 use mathlib.Core.List.{List}
-use mathlib.Core.Logic.{_≢_}
+use mathlib.Core.Logic.{_≢_, _⊎_}
 use Prim.Native.Nat.{ℕ, _+_, _-_, _*_, _≤_, _<_}
 use lib.ListN.{length, getD, set}
 use Rattle.frame.specs.Words.{Told, refused, gives}
+use Rattle.frame.specs.Identifier.{greatestDgn}
 use Rattle.frame.specs.Frame.{checkedOf}
 use Rattle.places.specs.Layout.{first}
 use Rattle.places.specs.declared.Found.the-variants.{At}
-use Rattle.message.specs.LongMessage.{longest, packetBytes, packetsOf, needed, packet, meaningOf}
-use Rattle.message.specs.Receiver.{placeCount, room, freePlace, isOpenBy, keepsRules, heard, pausedPlaces, pausedAnswer}
+use Rattle.message.specs.LongMessage.{shortest, longest, packetBytes, packetsOf, needed, packet, meaningOf}
+use Rattle.message.specs.Receiver.{placeCount, room, freePlace, isOpenBy, keepsRules, heard}
+use Rattle.message.specs.Splitter.{announcementBytes, packetBytesOf}
 use Rattle.message.specs.Promises.{toldAnswer, toldPausing, announcingNumber, cuttingNumber, New, Hear, Pause, Message, Announcement, Packet}
 use Rattle.message.specs.declared.Place.{Place}
 use Rattle.message.specs.declared.Receiver.{Receiver}
 use Rattle.message.specs.declared.Answer.{Answer}
+use Rattle.message.specs.declared.Answer.the-variants.{UnexpectedPacket}
 use Rattle.message.specs.declared.Heard.{Heard}
 use Rattle.message.specs.declared.Pausing.{Pausing}
 use Rattle.message.specs.declared.Paused.{Paused}
 use Rattle.message.specs.declared.Announcing.{Announcing}
+use Rattle.message.specs.declared.Announcing.the-variants as Announcing
 use Rattle.message.specs.declared.Announced.{Announced}
 use Rattle.message.specs.declared.Cutting.{Cutting}
+use Rattle.message.specs.declared.Cutting.the-variants as Cutting
 use Rattle.message.specs.declared.Cut.{Cut}
 
 -- An answer read in document 01's terms loses nothing.
@@ -64,9 +69,9 @@ PacketOnly = (message : List ℕ) (dgn number : ℕ) (r s : Cut) → Packet mess
 
 abbrev pub RefusedKeeps : Type 0
 RefusedKeeps =
-    (id : ℕ) (bytes : List ℕ) (places : List Place) (storage : List ℕ) (n : ℕ)
-    → heard id bytes places storage .answer ≡ refused n → n ≢ 10
-    → (heard id bytes places storage .places ≡ places) × (heard id bytes places storage .storage ≡ storage)
+    (id : ℕ) (bytes : List ℕ) (places : List Place) (storage : List ℕ) (r : Heard) (exit : List ℕ) (n : ℕ)
+    → Hear id bytes places storage r exit → toldAnswer (r .answer) ≡ refused n → n ≢ 10
+    → (r .receiver .places ≡ places) × (exit ≡ storage)
 
 pub record ClosedAt (places : List Place) (storage : List ℕ) (after : List Place) (exit : List ℕ) (sender i : ℕ) : Type 0 where
   pub held : first (isOpenBy sender) places ≡ At i
@@ -75,12 +80,15 @@ pub record ClosedAt (places : List Place) (storage : List ℕ) (after : List Pla
 
 abbrev pub TenCloses : Type 0
 TenCloses =
-    (id : ℕ) (bytes : List ℕ) (places : List Place) (storage : List ℕ) → heard id bytes places storage .answer ≡ refused 10
+    (id : ℕ) (bytes : List ℕ) (places : List Place) (storage : List ℕ) (r : Heard) (exit : List ℕ)
+    → Hear id bytes places storage r exit → r .answer ≡ UnexpectedPacket
     → (sender number i : ℕ) × (meaningOf id bytes ≡ gives (packet sender number))
-    × ClosedAt places storage (heard id bytes places storage .places) (heard id bytes places storage .storage) sender i
+    × (number ≢ getD places i freePlace .expected) × ClosedAt places storage (r .receiver .places) exit sender i
 
 abbrev pub PauseRefusedKeeps : Type 0
-PauseRefusedKeeps = (ms : ℕ) (places : List Place) (n : ℕ) → pausedAnswer ms places ≡ refused n → pausedPlaces ms places ≡ places
+PauseRefusedKeeps =
+    (ms : ℕ) (places : List Place) (r : Paused) (n : ℕ)
+    → Pause ms places r → toldPausing (r .answer) ≡ refused n → r .receiver .places ≡ places
 
 -- The lowest number wins: the storage, then the state, then what the frame alone earns, then a malformed announcement; 8, 9 and 10 come after.
 pub record LowestWins (id : ℕ) (bytes : List ℕ) (places : List Place) (storage : List ℕ) : Type 0 where
@@ -91,19 +99,64 @@ pub record LowestWins (id : ℕ) (bytes : List ℕ) (places : List Place) (stora
   pub announcement-next :
       (n : ℕ) → room ≤ length storage → keepsRules places ≡ true → meaningOf id bytes ≡ refused n → heard id bytes places storage .answer ≡ refused n
 
--- A stored packet writes its own bytes and no others: byte k of the storage is the expected packet's own where it is among the bytes that place i,
--- holding p, still needs from it. Any other byte stays as it was, whatever the frame.
+-- A stored packet writes its own bytes and no others: byte k of the storage is the expected packet's own where it is
+-- among the bytes that place i, holding p, still needs from it.
 
 pub record ItsOwn (p : Place) (i k : ℕ) : Type 0 where
   pub from : longest * i + packetBytes * (p .expected - 1) ≤ k
   pub below : k < longest * i + packetBytes * (p .expected - 1) + needed (p .length) (p .expected)
 
+-- The expected packet's own bytes are what is written there: byte k is the packet's byte after its number and after
+-- those that went before.
+abbrev pub WritesThePacket : Type 0
+WritesThePacket =
+    (id : ℕ) (bytes : List ℕ) (places : List Place) (storage : List ℕ) (r : Heard) (exit : List ℕ) (sender i k : ℕ)
+    → length places ≡ placeCount → room ≤ length storage → keepsRules places ≡ true
+    → Hear id bytes places storage r exit
+    → meaningOf id bytes ≡ gives (packet sender (getD places i freePlace .expected))
+    → first (isOpenBy sender) places ≡ At i
+    → ItsOwn (getD places i freePlace) i k
+    → getD exit k 0
+    ≡ getD bytes (1 + (k - (longest * i + packetBytes * (getD places i freePlace .expected - 1)))) 0
+
+-- Any other byte stays as it was, whatever the frame.
 abbrev pub WritesItsOwn : Type 0
 WritesItsOwn =
-    (id : ℕ) (bytes : List ℕ) (places : List Place) (storage : List ℕ) (k : ℕ) → length places ≡ placeCount
-    → ((sender number i : ℕ) → meaningOf id bytes ≡ gives (packet sender number) → first (isOpenBy sender) places ≡ At i → ItsOwn (getD places i freePlace) i k → ⊥)
-    → getD (heard id bytes places storage .storage) k 0 ≡ getD storage k 0
+    (id : ℕ) (bytes : List ℕ) (places : List Place) (storage : List ℕ) (r : Heard) (exit : List ℕ) (k : ℕ)
+    → length places ≡ placeCount → Hear id bytes places storage r exit
+    → ((sender number i : ℕ) → meaningOf id bytes ≡ gives (packet sender number) → first (isOpenBy sender) places ≡ At i
+    → ItsOwn (getD places i freePlace) i k → ⊥)
+    → getD exit k 0 ≡ getD storage k 0
 
 -- Its own bytes lie within the message's length: none beyond it is ever written.
 abbrev pub NotBeyond : Type 0
 NotBeyond = (p : Place) (i k : ℕ) → 1 ≤ p .expected → p .expected ≤ packetsOf (p .length) → ItsOwn p i k → k < longest * i + p .length
+
+-- What the announcement of a message answers: 12 for a DGN above 1FFFFh, else 13 for a length outside 9 to 1,785, and
+-- otherwise the bytes.
+pub record AnnouncementAnswers (message : List ℕ) (dgn : ℕ) (r : Announced) : Type 0 where
+  pub twelve : greatestDgn < dgn → announcingNumber (r .answer) ≡ 12
+  pub thirteen :
+      dgn ≤ greatestDgn → (length message < shortest) ⊎ (longest < length message) → announcingNumber (r .answer) ≡ 13
+  pub given : dgn ≤ greatestDgn → shortest ≤ length message → length message ≤ longest
+      → (r .answer ≡ Announcing.Bytes) × (r .bytes ≡ announcementBytes (length message) dgn)
+
+abbrev pub SplitterAnnounces : Type 0
+SplitterAnnounces =
+    (message : List ℕ) (dgn : ℕ) (r : Announced) → Announcement message dgn r → AnnouncementAnswers message dgn r
+
+-- What packet `number` of a message answers: 12 and 13 as above, else 15 for a number that the message has no packet
+-- of, and otherwise the bytes.
+pub record PacketAnswers (message : List ℕ) (dgn number : ℕ) (r : Cut) : Type 0 where
+  pub twelve : greatestDgn < dgn → cuttingNumber (r .answer) ≡ 12
+  pub thirteen :
+      dgn ≤ greatestDgn → (length message < shortest) ⊎ (longest < length message) → cuttingNumber (r .answer) ≡ 13
+  pub fifteen : dgn ≤ greatestDgn → shortest ≤ length message → length message ≤ longest
+      → (number ≡ 0) ⊎ (packetsOf (length message) < number) → cuttingNumber (r .answer) ≡ 15
+  pub given : dgn ≤ greatestDgn → shortest ≤ length message → length message ≤ longest
+      → 1 ≤ number → number ≤ packetsOf (length message)
+      → (r .answer ≡ Cutting.Bytes) × (r .bytes ≡ packetBytesOf message number)
+
+abbrev pub SplitterCuts : Type 0
+SplitterCuts =
+    (message : List ℕ) (dgn number : ℕ) (r : Cut) → Packet message dgn number r → PacketAnswers message dgn number r

@@ -4,4 +4,5 @@ pub mod Receiver
 pub mod Splitter
 pub mod Promises
 pub mod Private
+pub mod Calls
 pub mod Laws

@@ -6,4 +6,5 @@ pub mod Search
 pub mod Stretch
 pub mod View
 pub mod Receiver
+pub mod Calls
 pub mod Tiny

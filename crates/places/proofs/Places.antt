@@ -135,3 +135,12 @@ module _ {S : Type 0} where
   full-holders [] f = refl
   full-holders (free ∷ ps) f = true-false f
   full-holders (held j s ∷ ps) f = ap suc (full-holders ps f)
+
+  -- a place that is freed leaves one holder less
+  pub freed-holders : (k : ℕ) (s : S) (ps : List (Place S)) → lookup k ps ≡ some s → suc (length (keysOf (update k none ps))) ≡ length (keysOf ps)
+  freed-holders k s [] h = some-none (sym h)
+  freed-holders k s (free ∷ ps) h = freed-holders k s ps h
+  freed-holders k s (held j t ∷ ps) h =
+      by-equal j k
+      (λ e. rw (eq-eqb j k e))
+      (λ n. rw (ne-eqb j k n) (ap suc (freed-holders k s ps (rw (ne-eqb j k n) at h))))

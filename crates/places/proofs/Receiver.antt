@@ -1,15 +1,12 @@
--- The statements of specs/Receiver.antt, proved for every layout and every receiver.
+-- The statements of specs/Receiver.antt, proved for every format and every layout.
 -- Assumes nothing.
-use mathlib.Core.Path.{_≡_, refl, sym, ap, ap₂, _∙_}
-use mathlib.Core.List.{List, [], _∷_, map}
+use mathlib.Core.Path.{sym, ap, _∙_}
+use mathlib.Core.List.{List, [], map}
 use Prim.Native.Nat.{ℕ}
 use lib.ListN.{length}
-use Rattle.places.specs.Format.{Format, Event, frame, pause}
-use Rattle.places.specs.Places.{lookup, eightFree, run, toldTo}
-use Rattle.places.specs.Statements.{Pausing}
+use Rattle.places.specs.Format.{Format}
 use Rattle.places.specs.Layout.{Layout, view}
-use Rattle.places.specs.Receiver.{ShowsFixed, ShowsOpensHeld, ShowsOpensFree, ShowsFinishesHeld, ShowsFinishesFree, ShowsFull, ShowsFeedsNowhere, ShowsFeedsGoes, ShowsFeedsEnds, ShowsKeeps, PassKeeps, Receiver, stateAfter, received, Fresh, ReceivedAsQuiet, ReceivedFullExactlyWhen, ReceivedSums, ReceivedPause}
-use Rattle.places.proofs.Statements.{busy-as-quiet, full-exactly-when-at, sums-of-pauses, pause-closes}
+use Rattle.places.specs.Receiver.{ShowsFixed, ShowsOpensHeld, ShowsOpensFree, ShowsFinishesHeld, ShowsFinishesFree, ShowsFull, ShowsFeedsNowhere, ShowsFeedsGoes, ShowsFeedsEnds, ShowsKeeps, PassKeeps}
 use Rattle.places.proofs.Steps.{no-place, one-step, pass-each}
 use Rattle.places.proofs.View.{lookup-nowhere, lookup-at, free-nowhere, free-at, update-at, close-at, take-at, free-write, one-each-view, length-view, view-pass}
 
@@ -72,45 +69,3 @@ module _ {P : Type 0} (𝓕 : Format) (L : Layout P (𝓕 .Session)) (f : 𝓕 .
 pub pass-keeps : {P : Type 0} (𝓕 : Format) (L : Layout P (𝓕 .Session)) → PassKeeps 𝓕 L
 pass-keeps 𝓕 L ms f k ps h =
     one-each-view L (map f ps) [] .1 (rw (view-pass 𝓕 L ms f k ps []) (pass-each 𝓕 ms (view L ps []) (one-each-view L ps [] .0 h)))
-
-module _ {𝓕 : Format} (𝓡 : Receiver 𝓕) where
-  -- a run of the receiver is a run of its places
-  pub received-run : (r : 𝓡 .State) (events : List (Event (𝓕 .Frame))) → 𝓡 .Kept r → received 𝓡 r events ≡ run 𝓕 (𝓡 .seen r) events
-  received-run r [] h = refl
-  received-run r (frame f ∷ es) h =
-      ap₂ (λ o os. (𝓕 .key f, o) ∷ os) (𝓡 .heard-answer f r h)
-      (received-run (𝓡 .heard f r .next) es (𝓡 .heard-kept f r h) ∙ ap (λ v. run 𝓕 v es) (𝓡 .heard-seen f r h))
-  received-run r (pause ms ∷ es) h = received-run (𝓡 .paused ms r) es (𝓡 .paused-kept ms r h) ∙ ap (λ v. run 𝓕 v es) (𝓡 .paused-seen ms r h)
-
-  fresh-run : (r : 𝓡 .State) (events : List (Event (𝓕 .Frame))) → Fresh 𝓡 r → received 𝓡 r events ≡ run 𝓕 (eightFree 𝓕) events
-  fresh-run r events h = received-run r events (h .kept) ∙ ap (λ v. run 𝓕 v events) (h .all-free)
-
-  -- and leaves a state that keeps its rules
-  pub after-kept : (r : 𝓡 .State) (events : List (Event (𝓕 .Frame))) → 𝓡 .Kept r → 𝓡 .Kept (stateAfter 𝓡 r events)
-  after-kept r [] h = h
-  after-kept r (frame f ∷ es) h = after-kept (𝓡 .heard f r .next) es (𝓡 .heard-kept f r h)
-  after-kept r (pause ms ∷ es) h = after-kept (𝓡 .paused ms r) es (𝓡 .paused-kept ms r h)
-
-  pub received-as-quiet : ReceivedAsQuiet 𝓡
-  received-as-quiet r h k events nf =
-      let e = fresh-run r events h in
-      ap (toldTo k) e ∙ busy-as-quiet 𝓕 k events (rw e at nf)
-
-  pub received-full-exactly-when : ReceivedFullExactlyWhen 𝓡
-  received-full-exactly-when r h events f =
-      let x = stateAfter 𝓡 r events in
-      let g = after-kept r events h in
-      let i = full-exactly-when-at 𝓕 (𝓡 .seen x) f (𝓡 .eight x g) (𝓡 .each x g) in
-      let e = 𝓡 .heard-answer f x g in
-      ((λ p. i .0 (sym e ∙ p)), (λ p. e ∙ i .1 p))
-
-  pub received-sums : Pausing 𝓕 → ReceivedSums 𝓡
-  received-sums 𝓟 r r′ h h′ k es es′ p nf nf′ =
-      let e = fresh-run r es h in
-      let e′ = fresh-run r′ es′ h′ in
-      ap (toldTo k) e ∙ sums-of-pauses 𝓕 𝓟 k es es′ p (rw e at nf) (rw e′ at nf′) ∙ sym (ap (toldTo k) e′)
-
-  pub received-pause : ReceivedPause 𝓡
-  received-pause ms r h =
-      let c = pause-closes 𝓕 ms (𝓡 .seen r) (𝓡 .each r h) in
-      record { session = λ k. ap (lookup k) (𝓡 .paused-seen ms r h) ∙ c .session k; number = 𝓡 .closed-seen ms r h ∙ c .closed }

@@ -5,27 +5,26 @@ use mathlib.Core.Bool.{Bool, true, false}
 use mathlib.Core.List.{List, [], _∷_, map}
 use mathlib.Core.Logic.{_≢_}
 use mathlib.Core.Option.{Option, some, none}
-use Prim.Native.Nat.{ℕ, _+_}
+use Prim.Native.Nat.{ℕ, _+_, _≤_}
 use native.Mathlib.Nat.{zero-add}
 use native.Mathlib.Omega.{arith}
 use borrow.Author.Tests.{eq-eqb, ne-eqb}
 use lib.ListN.{length, length-map}
-use Rattle.frame.specs.Words.{if_then_else_}
+use Rattle.frame.specs.Words.{if_then_else_, _=?_}
 use Rattle.frame.proofs.Words.{by-test}
-use Rattle.places.specs.Format.{Asks, fixed, opens, finishes, feeds, Fed, goes, ends, Format, Event, frame, pause}
-use Rattle.places.specs.OneKey.{fedAlone, packetAlone, askedAlone, hearAlone, pauseAlone, solo}
-use Rattle.places.specs.Places.{free, held, Out, full, said, lookup, keyed, anyFree, OnePlaceEach, isNone, placeCount, Places, opened, finished, fed, packet, asked, hear, rest, pass, closes, closedBy, eightFree, after, run, only, toldTo, NeverFull}
-use Rattle.places.specs.Statements.{PauseCloses, RunKeeps, BusyAsQuiet, BusyAsQuietFrom, EightOthers, isOpening, FullExactlyWhen, FullExactlyWhenAt, Pausing, spaced, spacing, SumsOfPauses, AllKept, PausesAdd}
-use Rattle.places.proofs.Places.{by-equal, absent-lookup, lookup-absent, holders-full, full-holders}
+use Rattle.places.specs.Format.{Asks, fixed, opens, finishes, feeds, Fed, goes, ends, Format, Event, frame, pause, step}
+use Rattle.places.specs.OneKey.{fedAlone, packetAlone, askedAlone, hearAlone, pauseAlone, solo, openAfter}
+use Rattle.places.specs.Places.{free, held, Out, full, said, heard, paused, lookup, keyed, update, anyFree, keysOf, Absent, Distinct, OnePlaceEach, count, isNone, placeCount, Places, opened, finished, fed, packet, asked, hear, rest, pass, closes, closedBy, eightFree, after, History, run, eventsOf, toldTo, only, admitted, NeverFull, answered}
+use Rattle.places.specs.Statements.{StepAgrees, PauseCloses, RunKeeps, onBusyBus, AsRulesFrom, AsRulesFromAny, OpenAsRules, ToldAsRules, BusyAsQuiet, EightOthers, isOpening, FullExactlyWhen, FullExactlyWhenAt, ClosesAsRules, Pausing, spaced, spacing, SumsOfPauses, AllKept, PausesAdd}
+use Rattle.places.proofs.Places.{by-equal, some-none, absent-lookup, lookup-absent, update-other, update-each, freed-holders, holders-below, holders-full, full-holders}
 use Rattle.places.proofs.Steps.{said-full, no-place, one-step, pass-lookup, pass-each, closed-count}
 
-never-full-head : {A : Type 0} (o : Out A) (os : List (Out A)) → NeverFull (o ∷ os) → o ≢ full
-never-full-head full os h = absurd h
-never-full-head (said a) os h = λ p. said-full p
+said-same : {A : Type 0} {a b : A} → said a ≡ said b → a ≡ b
+said-same e = cc
 
-never-full-tail : {A : Type 0} (o : Out A) (os : List (Out A)) → NeverFull (o ∷ os) → NeverFull os
-never-full-tail full os h = absurd h
-never-full-tail (said a) os h = h
+count-same : {f g : ℕ → Bool} → ((k : ℕ) → f k ≡ g k) → (ks : List ℕ) → count f ks ≡ count g ks
+count-same e [] = refl
+count-same e (k ∷ ks) = rw (e k, count-same e ks)
 
 module _ (𝓕 : Format) where
   pub pause-closes : PauseCloses 𝓕
@@ -41,30 +40,88 @@ module _ (𝓕 : Format) where
       let r = run-keeps (pass 𝓕 ms ps) es (pass-each 𝓕 ms ps u) in
       (r .0 ∙ length-map ps (rest 𝓕 ms), r .1)
 
-  -- a busy bus
-
-  pub busy-as-quiet-from : BusyAsQuietFrom 𝓕
-  busy-as-quiet-from ps k [] u nf = refl
-  busy-as-quiet-from ps k (frame f ∷ es) u nf =
-      let t = one-step 𝓕 f ps u in
-      let later = busy-as-quiet-from (hear 𝓕 f ps .next) k es (t .one-each) in
+  -- one frame, by its answer: where it found no place nothing happened, and where it is another key's nothing happened to k
+  frame-as-rules : (k : ℕ) (f : 𝓕 .Frame) (o : Out (𝓕 .Answer)) (ps next : Places 𝓕) (es : List (Event (𝓕 .Frame)))
+      → StepAgrees (𝓕 .key f) ps (step next o) (hearAlone 𝓕 f (lookup (𝓕 .key f) ps)) → AsRulesFrom 𝓕 next k es
+      → (lookup k (after 𝓕 next es) ≡ openAfter 𝓕 (lookup k ps) (admitted 𝓕 k (heard f o ∷ run 𝓕 next es)))
+      × (answered (toldTo 𝓕 k (heard f o ∷ run 𝓕 next es)) ≡ solo 𝓕 (lookup k ps) (admitted 𝓕 k (heard f o ∷ run 𝓕 next es)))
+  frame-as-rules k f full ps next es t later =
+      let own = admitted 𝓕 k (run 𝓕 next es) in
+      let same : lookup k next ≡ lookup k ps = ap (lookup k) (t .full-keeps refl) in
+      let told : answered (toldTo 𝓕 k (run 𝓕 next es)) ≡ solo 𝓕 (lookup k ps) own = later .told-as-rules ∙ ap (λ m. solo 𝓕 m own) same in (
+        later .open-as-rules ∙ ap (λ m. openAfter 𝓕 m own) same,
+        by-test (𝓕 .key f =? k) (λ e. rw e told) (λ e. rw e told),
+      )
+  frame-as-rules k f (said a) ps next es t later =
+      let own = admitted 𝓕 k (run 𝓕 next es) in
       by-equal (𝓕 .key f) k
       (λ e.
-      let o = hear 𝓕 f ps .answer in
-      let os = toldTo k (run 𝓕 (hear 𝓕 f ps .next) es) in
-      let nf′ : NeverFull (o ∷ os) = rw (eq-eqb (𝓕 .key f) k e) at nf in
-      let n = never-full-head o os nf′ in
-      let a : o ≡ said (hearAlone 𝓕 f (lookup k ps) .answer) = t .answered n ∙ ap (λ j. said (hearAlone 𝓕 f (lookup j ps) .answer)) e in
-      let s : lookup k (hear 𝓕 f ps .next) ≡ hearAlone 𝓕 f (lookup k ps) .next =
-      ap (λ j. lookup j (hear 𝓕 f ps .next)) (sym e) ∙ t .session n ∙ ap (λ j. hearAlone 𝓕 f (lookup j ps) .next) e in
-      rw (eq-eqb (𝓕 .key f) k e) (ap₂ (λ o os. o ∷ os) a (later (never-full-tail o os nf′) ∙ ap (λ m. map said (solo 𝓕 m (only 𝓕 k es))) s)))
+      let n : said a ≢ full = λ p. said-full p in
+      let x : a ≡ hearAlone 𝓕 f (lookup k ps) .answer = said-same (t .answered n) ∙ ap (λ j. hearAlone 𝓕 f (lookup j ps) .answer) e in
+      let y : lookup k next ≡ hearAlone 𝓕 f (lookup k ps) .next =
+      ap (λ j. lookup j next) (sym e) ∙ t .session n ∙ ap (λ j. hearAlone 𝓕 f (lookup j ps) .next) e in
+      rw (eq-eqb (𝓕 .key f) k e) (
+        later .open-as-rules ∙ ap (λ m. openAfter 𝓕 m own) y,
+        ap₂ (λ b l. b ∷ l) x (later .told-as-rules ∙ ap (λ m. solo 𝓕 m own) y),
+      ))
       (λ n.
-      rw (ne-eqb (𝓕 .key f) k n) (later (rw (ne-eqb (𝓕 .key f) k n) at nf) ∙ ap (λ m. map said (solo 𝓕 m (only 𝓕 k es))) (t .others k (λ e. n (sym e)))))
-  busy-as-quiet-from ps k (pause ms ∷ es) u nf =
-      busy-as-quiet-from (pass 𝓕 ms ps) k es (pass-each 𝓕 ms ps u) nf ∙ ap (λ m. map said (solo 𝓕 m (only 𝓕 k es))) (pass-lookup 𝓕 k ms ps u)
+      let same : lookup k next ≡ lookup k ps = t .others k (λ e. n (sym e)) in
+      rw (ne-eqb (𝓕 .key f) k n) (
+        later .open-as-rules ∙ ap (λ m. openAfter 𝓕 m own) same,
+        later .told-as-rules ∙ ap (λ m. solo 𝓕 m own) same,
+      ))
+
+  pub as-rules-from-any : AsRulesFromAny 𝓕
+  as-rules-from-any ps k [] u = record { open-as-rules = refl; told-as-rules = refl }
+  as-rules-from-any ps k (frame f ∷ es) u =
+      let t = one-step 𝓕 f ps u in
+      let r = frame-as-rules k f (hear 𝓕 f ps .answer) ps (hear 𝓕 f ps .next) es t (as-rules-from-any (hear 𝓕 f ps .next) k es (t .one-each)) in
+      record { open-as-rules = r .0; told-as-rules = r .1 }
+  as-rules-from-any ps k (pause ms ∷ es) u =
+      let r = as-rules-from-any (pass 𝓕 ms ps) k es (pass-each 𝓕 ms ps u) in
+      let own = admitted 𝓕 k (run 𝓕 (pass 𝓕 ms ps) es) in
+      let e = pass-lookup 𝓕 k ms ps u in
+      record {
+        open-as-rules = r .open-as-rules ∙ ap (λ m. openAfter 𝓕 m own) e;
+        told-as-rules = r .told-as-rules ∙ ap (λ m. solo 𝓕 m own) e;
+      }
+
+  pub open-as-rules : OpenAsRules 𝓕
+  open-as-rules k events = as-rules-from-any (eightFree 𝓕) k events tt .open-as-rules
+
+  pub told-as-rules : ToldAsRules 𝓕
+  told-as-rules k events = as-rules-from-any (eightFree 𝓕) k events tt .told-as-rules
+
+  -- a busy bus: a key that never found all places held has all its frames admitted
+
+  pub never-full-answered : (os : List (Out (𝓕 .Answer))) → NeverFull os → os ≡ map said (answered os)
+  never-full-answered [] n = refl
+  never-full-answered (full ∷ os) n = absurd n
+  never-full-answered (said a ∷ os) n = ap (λ l. said a ∷ l) (never-full-answered os n)
+
+  pub never-full-admitted : (k : ℕ) (h : History 𝓕) → NeverFull (toldTo 𝓕 k h) → admitted 𝓕 k h ≡ only 𝓕 k (eventsOf 𝓕 h)
+  never-full-admitted k [] n = refl
+  never-full-admitted k (heard f full ∷ h) n =
+      by-test (𝓕 .key f =? k)
+      (λ e. let z : ⊥ = rw e at n in absurd z)
+      (λ e. rw e (never-full-admitted k h (rw e at n)))
+  never-full-admitted k (heard f (said a) ∷ h) n =
+      by-test (𝓕 .key f =? k)
+      (λ e. rw e (ap (λ l. frame f ∷ l) (never-full-admitted k h (rw e at n))))
+      (λ e. rw e (never-full-admitted k h (rw e at n)))
+  never-full-admitted k (paused ms told ∷ h) n = ap (λ l. pause ms ∷ l) (never-full-admitted k h n)
+
+  -- what happened in a run are its events
+  pub events-run : (ps : Places 𝓕) (events : List (Event (𝓕 .Frame))) → eventsOf 𝓕 (run 𝓕 ps events) ≡ events
+  events-run ps [] = refl
+  events-run ps (frame f ∷ es) = ap (λ l. frame f ∷ l) (events-run (hear 𝓕 f ps .next) es)
+  events-run ps (pause ms ∷ es) = ap (λ l. pause ms ∷ l) (events-run (pass 𝓕 ms ps) es)
 
   pub busy-as-quiet : BusyAsQuiet 𝓕
-  busy-as-quiet k events nf = busy-as-quiet-from (eightFree 𝓕) k events tt nf
+  busy-as-quiet k events n =
+      let h = onBusyBus 𝓕 events in
+      never-full-answered (toldTo 𝓕 k h) n
+      ∙ ap (map said) (told-as-rules k events ∙ ap (solo 𝓕 none) (never-full-admitted k h n ∙ ap (only 𝓕 k) (events-run (eightFree 𝓕) events)))
 
   -- full exactly when
 
@@ -105,8 +162,67 @@ module _ (𝓕 : Format) where
     (λ r. let o = others-full (𝓕 .key f) ps (r .1) in ap (λ t. t .answer) (no-place 𝓕 (𝓕 .key f) (𝓕 .asks f) ps (r .0) (o .0) (o .1))),
   )
 
+  -- as many different keys as the rules have open hold places
+  holders-cover : (ps : Places 𝓕) (others : List ℕ) → OnePlaceEach ps → Distinct others → ((j : ℕ) → lookup j ps ≡ none → Absent j others)
+      → length others ≤ length (keysOf ps)
+  holders-cover ps [] u d c = omega arith
+  holders-cover ps (j ∷ js) u d c = go (λ rest v e. holders-cover rest js v (d .1) e) (lookup j ps) refl
+    where
+      go : ((rest : Places 𝓕) → OnePlaceEach rest → ((i : ℕ) → lookup i rest ≡ none → Absent i js) → length js ≤ length (keysOf rest))
+          → (m : Option (𝓕 .Session)) → lookup j ps ≡ m → length (j ∷ js) ≤ length (keysOf ps)
+      go later none e = absurd (c j e .0 refl)
+      go later (some s) e =
+          let rest = update j none ps in
+          let covers : (i : ℕ) → lookup i rest ≡ none → Absent i js = λ i f.
+          by-equal i j (λ x. rw x (d .0)) (λ n. c i (sym (update-other i j none ps (λ x. n (sym x))) ∙ f) .1)
+          in
+          omega (arith, later rest (update-each j none ps u) covers, freed-holders j s ps e)
+
+  -- where eight others have a session, k has none, and the eight are all that hold places
+  others-hold : (k : ℕ) (ps : Places 𝓕) (others : List ℕ) → length ps ≡ placeCount → OnePlaceEach ps → length others ≡ placeCount
+      → Distinct (k ∷ others) → ((j : ℕ) → lookup j ps ≡ none → Absent j others) → EightOthers k ps
+  others-hold k ps others h u n d c = go (lookup k ps) refl
+    where
+      go : (m : Option (𝓕 .Session)) → lookup k ps ≡ m → EightOthers k ps
+      go none e =
+          let all = holders-cover ps others u (d .1) c in
+          record { places = h; holders = omega (arith, all, holders-below ps); different = (lookup-absent k ps e, u) }
+      go (some s) e =
+          let covers : (j : ℕ) → lookup j ps ≡ none → Absent j (k ∷ others) = λ j f. ((λ x. some-none (sym e ∙ ap (λ i. lookup i ps) x ∙ f)), c j f) in
+          absurd (omega (arith, holders-cover ps (k ∷ others) u d covers, holders-below ps))
+
   pub full-exactly-when : FullExactlyWhen 𝓕
-  full-exactly-when events f = let r = run-keeps (eightFree 𝓕) events tt in full-exactly-when-at (after 𝓕 (eightFree 𝓕) events) f (r .0) (r .1)
+  full-exactly-when events f =
+      let ps = after 𝓕 (eightFree 𝓕) events in
+      let r = run-keeps (eightFree 𝓕) events tt in
+      let i = full-exactly-when-at ps f (r .0) (r .1) in
+      let k = 𝓕 .key f in (
+        (λ e.
+            let o = i .0 e in (
+              o .0,
+              record {
+                others = keysOf ps;
+                eight = o .1 .holders;
+                different = o .1 .different;
+                all-open = λ j n. lookup-absent j ps (open-as-rules j events ∙ n);
+              },
+            )),
+        (λ e.
+            let o = e .1 in
+            let covers : (j : ℕ) → lookup j ps ≡ none → Absent j (o .others) = λ j n. o .all-open j (sym (open-as-rules j events) ∙ n) in
+            i .1 (e .0, others-hold k ps (o .others) (r .0) (r .1) (o .eight) (o .different) covers)),
+      )
+
+  pub closes-as-rules : ClosesAsRules 𝓕
+  closes-as-rules ms events =
+      let ps = after 𝓕 (eightFree 𝓕) events in
+      let u = run-keeps (eightFree 𝓕) events tt .1 in
+      record {
+        keys = keysOf ps;
+        different = u;
+        exactly = λ k. ((λ a. sym (open-as-rules k events) ∙ absent-lookup k ps a), (λ e. lookup-absent k ps (open-as-rules k events ∙ e)));
+        number = closed-count 𝓕 ms ps u ∙ count-same (λ k. ap (λ m. isNone (pauseAlone 𝓕 ms m)) (open-as-rules k events)) (keysOf ps);
+      }
 
 module _ (𝓕 : Format) (𝓟 : Pausing 𝓕) where
   -- the machine of one key over frames with the sums of the pauses before them
@@ -164,11 +280,9 @@ module _ (𝓕 : Format) (𝓟 : Pausing 𝓕) where
   solo-spacing (frame f ∷ es) = solo-spaced none 0 (frame f ∷ es) tt
   solo-spacing (pause ms ∷ es) = solo-spacing es
 
-  pub sums-of-pauses : SumsOfPauses 𝓕
-  sums-of-pauses k es es′ e nf nf′ =
-      busy-as-quiet 𝓕 k es nf
-      ∙ ap (map said) (solo-spacing (only 𝓕 k es) ∙ ap (soloSpaced none) e ∙ sym (solo-spacing (only 𝓕 k es′)))
-      ∙ sym (busy-as-quiet 𝓕 k es′ nf′)
+  -- frames with the same sums of pauses between them are told the same
+  pub solo-sums : (es es′ : List (Event (𝓕 .Frame))) → spacing es ≡ spacing es′ → solo 𝓕 none es ≡ solo 𝓕 none es′
+  solo-sums es es′ e = solo-spacing es ∙ ap (soloSpaced none) e ∙ sym (solo-spacing es′)
 
   -- pauses of all places
 
@@ -208,3 +322,9 @@ module _ (𝓕 : Format) (𝓟 : Pausing 𝓕) where
   pauses-add a b ps h =
       let z = pass-zero ps h in
       record { zero-keeps = z .0; zero-closes = z .1; sum = pass-more a b ps h; closed = closed-more a b ps h }
+
+pub sums-of-pauses : (𝓕 : Format) → SumsOfPauses 𝓕
+sums-of-pauses 𝓕 𝓟 k es es′ e =
+    told-as-rules 𝓕 k es
+    ∙ solo-sums 𝓕 𝓟 (admitted 𝓕 k (onBusyBus 𝓕 es)) (admitted 𝓕 k (onBusyBus 𝓕 es′)) e
+    ∙ sym (told-as-rules 𝓕 k es′)

@@ -10,10 +10,9 @@ use Rattle.frame.specs.Words.{_<?_, _≤?_, _=?_}
 use Rattle.frame.proofs.Words.{by-test}
 use Rattle.places.specs.Format.{opens, goes}
 use Rattle.places.specs.OneKey.{pauseAlone}
-use Rattle.places.specs.Statements.{Pausing}
-use Rattle.places.specs.Tiny.{Pile, Word, mostPackets, tinyIdleLimit, tinyAsks, tinyFeed, tinyWait, tiny, TinyBusyAsQuiet, TinyFullExactlyWhen, TinySumsOfPauses}
+use Rattle.places.specs.Tiny.{Pile, Word, mostPackets, tinyIdleLimit, tinyAsks, tinyFeed, tinyWait, tiny, TinyBusyAsQuiet, TinyOpenAsRules, TinyToldAsRules, TinyFullExactlyWhen, TinyClosesAsRules, TinyPausing, TinySumsOfPauses}
 use Rattle.places.proofs.Places.{some-none}
-use Rattle.places.proofs.Statements.{busy-as-quiet, full-exactly-when, sums-of-pauses}
+use Rattle.places.proofs.Statements.{busy-as-quiet, open-as-rules, told-as-rules, full-exactly-when, closes-as-rules, sums-of-pauses}
 
 abbrev Fresh : Pile → Type 0
 Fresh p = p .idle ≤ tinyIdleLimit
@@ -52,7 +51,7 @@ wait-more p a b =
     (λ f. let g : tinyIdleLimit < p .idle + (a + b) = omega (arith, ltb-true tinyIdleLimit (p .idle + a) f) in rw (f, lt-ltb _ _ g))
     (λ f. rw f (rw (← add-assoc (p .idle) a b)))
 
-pub tiny-pausing : Pausing tiny
+pub tiny-pausing : TinyPausing
 tiny-pausing = record {
   Kept = Fresh;
   opens-kept = λ c p w e. opens-fresh (c .number) p w e;
@@ -65,8 +64,17 @@ tiny-pausing = record {
 pub tiny-busy-as-quiet : TinyBusyAsQuiet
 tiny-busy-as-quiet = busy-as-quiet tiny
 
+pub tiny-open-as-rules : TinyOpenAsRules
+tiny-open-as-rules = open-as-rules tiny
+
+pub tiny-told-as-rules : TinyToldAsRules
+tiny-told-as-rules = told-as-rules tiny
+
 pub tiny-full-exactly-when : TinyFullExactlyWhen
 tiny-full-exactly-when = full-exactly-when tiny
 
+pub tiny-closes-as-rules : TinyClosesAsRules
+tiny-closes-as-rules = closes-as-rules tiny
+
 pub tiny-sums-of-pauses : TinySumsOfPauses
-tiny-sums-of-pauses = sums-of-pauses tiny tiny-pausing
+tiny-sums-of-pauses = sums-of-pauses tiny

@@ -5,4 +5,5 @@ pub mod Statements
 pub mod Layout
 pub mod Laws
 pub mod Receiver
+pub mod Calls
 pub mod Tiny

@@ -33,3 +33,9 @@ module _ (𝓕 : Format) where
   solo m [] = []
   solo m (frame f ∷ es) = hearAlone f m .answer ∷ solo (hearAlone f m .next) es
   solo m (pause ms ∷ es) = solo (pauseAlone ms m) es
+
+  -- the session that a run leaves open
+  abbrev pub openAfter : Option (𝓕 .Session) → List (Event (𝓕 .Frame)) → Option (𝓕 .Session)
+  openAfter m [] = m
+  openAfter m (frame f ∷ es) = openAfter (hearAlone f m .next) es
+  openAfter m (pause ms ∷ es) = openAfter (pauseAlone ms m) es

@@ -5,7 +5,7 @@ use mathlib.Core.Logic.{_≢_}
 use mathlib.Core.Option.{Option, some, none}
 use Prim.Native.Nat.{ℕ, _+_}
 use lib.ListN.{replicate}
-use Rattle.frame.specs.Words.{if_then_else_, _=?_}
+use Rattle.frame.specs.Words.{if_then_else_, _=?_, Told, gives}
 use Rattle.places.specs.Format.{Asks, fixed, opens, finishes, feeds, Fed, goes, ends, Format, Event, frame, pause, Step, step}
 
 pub data Place (S : Type 0) : Type 0 where
@@ -20,6 +20,11 @@ placeCount = 8
 pub data Out (A : Type 0) : Type 0 where
   full : Out A
   said : A → Out A
+
+-- What happened in a run, as it was told: a frame with its answer; a pause, in milliseconds, with how many sessions it closed, or the refusal.
+pub data Happened (F A : Type 0) : Type 0 where
+  heard : F → Out A → Happened F A
+  paused : ℕ → Told ℕ → Happened F A
 
 -- the session of k, if it has a place
 abbrev pub lookup : {S : Type 0} → ℕ → List (Place S) → Option S
@@ -132,11 +137,27 @@ module _ (𝓕 : Format) where
   after ps (frame f ∷ es) = after (hear f ps .next) es
   after ps (pause ms ∷ es) = after (pass ms ps) es
 
-  -- every answer of a run, with the key that it is told to
-  abbrev pub run : Places → List (Event (𝓕 .Frame)) → List (ℕ × Out (𝓕 .Answer))
+  -- a history: everything that happened in a run
+  abbrev pub History : Type 0
+  History = List (Happened (𝓕 .Frame) (𝓕 .Answer))
+
+  -- the history of a run
+  abbrev pub run : Places → List (Event (𝓕 .Frame)) → History
   run ps [] = []
-  run ps (frame f ∷ es) = (𝓕 .key f, hear f ps .answer) ∷ run (hear f ps .next) es
-  run ps (pause ms ∷ es) = run (pass ms ps) es
+  run ps (frame f ∷ es) = heard f (hear f ps .answer) ∷ run (hear f ps .next) es
+  run ps (pause ms ∷ es) = paused ms (gives (closedBy ms ps)) ∷ run (pass ms ps) es
+
+  -- its frames and pauses alone
+  abbrev pub eventsOf : History → List (Event (𝓕 .Frame))
+  eventsOf [] = []
+  eventsOf (heard f o ∷ h) = frame f ∷ eventsOf h
+  eventsOf (paused ms n ∷ h) = pause ms ∷ eventsOf h
+
+  -- what k was told
+  abbrev pub toldTo : ℕ → History → List (Out (𝓕 .Answer))
+  toldTo k [] = []
+  toldTo k (heard f o ∷ h) = if 𝓕 .key f =? k then o ∷ toldTo k h else toldTo k h
+  toldTo k (paused ms n ∷ h) = toldTo k h
 
   -- the events that a key sees: its own frames, and every pause
   abbrev pub only : ℕ → List (Event (𝓕 .Frame)) → List (Event (𝓕 .Frame))
@@ -144,13 +165,21 @@ module _ (𝓕 : Format) where
   only k (frame f ∷ es) = if 𝓕 .key f =? k then frame f ∷ only k es else only k es
   only k (pause ms ∷ es) = pause ms ∷ only k es
 
--- the answers that are told to k
-abbrev pub toldTo : {A : Type 0} → ℕ → List (ℕ × A) → List A
-toldTo k [] = []
-toldTo k (r ∷ rs) = if r .0 =? k then r .1 ∷ toldTo k rs else toldTo k rs
+  -- the same without its openings that found no place
+  abbrev pub admitted : ℕ → History → List (Event (𝓕 .Frame))
+  admitted k [] = []
+  admitted k (heard f full ∷ h) = admitted k h
+  admitted k (heard f (said a) ∷ h) = if 𝓕 .key f =? k then frame f ∷ admitted k h else admitted k h
+  admitted k (paused ms n ∷ h) = pause ms ∷ admitted k h
 
 -- no opening found all places held
 abbrev pub NeverFull : {A : Type 0} → List (Out A) → Type 0
 NeverFull [] = Unit {0}
 NeverFull (full ∷ os) = ⊥
 NeverFull (said a ∷ os) = NeverFull os
+
+-- what was told, without the openings that found no place
+abbrev pub answered : {A : Type 0} → List (Out A) → List A
+answered [] = []
+answered (full ∷ os) = answered os
+answered (said a ∷ os) = a ∷ answered os

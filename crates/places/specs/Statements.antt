@@ -8,8 +8,8 @@ use mathlib.Core.Option.{Option, some, none}
 use Prim.Native.Nat.{ℕ, _+_}
 use lib.ListN.{length}
 use Rattle.places.specs.Format.{Asks, fixed, opens, finishes, feeds, goes, Format, Event, frame, pause, Step}
-use Rattle.places.specs.OneKey.{hearAlone, pauseAlone, solo}
-use Rattle.places.specs.Places.{Place, free, held, Out, full, said, lookup, keysOf, Distinct, OnePlaceEach, count, isNone, placeCount, Places, hear, pass, closedBy, eightFree, after, run, only, toldTo, NeverFull}
+use Rattle.places.specs.OneKey.{hearAlone, pauseAlone, solo, openAfter}
+use Rattle.places.specs.Places.{Place, free, held, Out, full, said, lookup, keysOf, Absent, Distinct, OnePlaceEach, count, isNone, placeCount, Places, hear, pass, closedBy, eightFree, after, History, run, toldTo, only, admitted, NeverFull, answered}
 
 -- One step of the places, against the machine of k alone: the same answer and session, unless full; then nothing changes. No other key's
 -- session is touched, no key gets a second place, and there are as many places as before.
@@ -39,28 +39,42 @@ RunKeeps 𝓕 =
     (ps : Places 𝓕) (events : List (Event (𝓕 .Frame))) → OnePlaceEach ps
     → (length (after 𝓕 ps events) ≡ length ps) × OnePlaceEach (after 𝓕 ps events)
 
--- what k is told on a bus with others, and on a bus of its own with the same pauses
-abbrev pub onBusyBus : (𝓕 : Format) → ℕ → List (Event (𝓕 .Frame)) → List (Out (𝓕 .Answer))
-onBusyBus 𝓕 k events = toldTo k (run 𝓕 (eightFree 𝓕) events)
+-- On a bus with others: the history of a run from eight free places.
+abbrev pub onBusyBus : (𝓕 : Format) → List (Event (𝓕 .Frame)) → History 𝓕
+onBusyBus 𝓕 events = run 𝓕 (eightFree 𝓕) events
 
+-- On a bus of its own, with the same pauses: what k is told by the machine of one key.
 abbrev pub onQuietBus : (𝓕 : Format) → ℕ → List (Event (𝓕 .Frame)) → List (Out (𝓕 .Answer))
 onQuietBus 𝓕 k events = map said (solo 𝓕 none (only 𝓕 k events))
 
+-- What the machine of one key has open for k after a history, on k's frames without those that found no place, and all the pauses. It knows of no
+-- places: what is open is what was heard on the bus.
+abbrev pub openByRules : (𝓕 : Format) → ℕ → History 𝓕 → Option (𝓕 .Session)
+openByRules 𝓕 k h = openAfter 𝓕 none (admitted 𝓕 k h)
+
+-- What is open is what the rules say, for every key, one that found no place too.
+abbrev pub OpenAsRules : Format → Type 0
+OpenAsRules 𝓕 = (k : ℕ) (events : List (Event (𝓕 .Frame))) → lookup k (after 𝓕 (eightFree 𝓕) events) ≡ openByRules 𝓕 k (onBusyBus 𝓕 events)
+
+-- So is what is told.
+abbrev pub ToldAsRules : Format → Type 0
+ToldAsRules 𝓕 =
+    (k : ℕ) (events : List (Event (𝓕 .Frame)))
+    → answered (toldTo 𝓕 k (onBusyBus 𝓕 events)) ≡ solo 𝓕 none (admitted 𝓕 k (onBusyBus 𝓕 events))
+
+-- The same from any places, from the session that k has there.
+pub record AsRulesFrom (𝓕 : Format) (ps : Places 𝓕) (k : ℕ) (events : List (Event (𝓕 .Frame))) : Type 0 where
+  pub open-as-rules : lookup k (after 𝓕 ps events) ≡ openAfter 𝓕 (lookup k ps) (admitted 𝓕 k (run 𝓕 ps events))
+  pub told-as-rules : answered (toldTo 𝓕 k (run 𝓕 ps events)) ≡ solo 𝓕 (lookup k ps) (admitted 𝓕 k (run 𝓕 ps events))
+
+abbrev pub AsRulesFromAny : Format → Type 0
+AsRulesFromAny 𝓕 = (ps : Places 𝓕) (k : ℕ) (events : List (Event (𝓕 .Frame))) → OnePlaceEach ps → AsRulesFrom 𝓕 ps k events
+
 -- A busy bus is as a quiet one, for a key none of whose openings found all places held.
 abbrev pub BusyAsQuiet : Format → Type 0
-BusyAsQuiet 𝓕 = (k : ℕ) (events : List (Event (𝓕 .Frame))) → NeverFull (onBusyBus 𝓕 k events) → onBusyBus 𝓕 k events ≡ onQuietBus 𝓕 k events
-
--- the same from any places, from the session that k has there
-abbrev pub BusyAsQuietFrom : Format → Type 0
-BusyAsQuietFrom 𝓕 =
-    (ps : Places 𝓕) (k : ℕ) (events : List (Event (𝓕 .Frame))) → OnePlaceEach ps → NeverFull (toldTo k (run 𝓕 ps events))
-    → toldTo k (run 𝓕 ps events) ≡ map said (solo 𝓕 (lookup k ps) (only 𝓕 k events))
-
--- All eight places are held by eight keys, all different and none of them k.
-pub record EightOthers {S : Type 0} (k : ℕ) (ps : List (Place S)) : Type 0 where
-  pub places : length ps ≡ placeCount
-  pub holders : length (keysOf ps) ≡ placeCount
-  pub different : Distinct (k ∷ keysOf ps)
+BusyAsQuiet 𝓕 =
+    (k : ℕ) (events : List (Event (𝓕 .Frame)))
+    → NeverFull (toldTo 𝓕 k (onBusyBus 𝓕 events)) → toldTo 𝓕 k (onBusyBus 𝓕 events) ≡ onQuietBus 𝓕 k events
 
 -- openings, with those that finish at once
 abbrev pub isOpening : {S D A : Type 0} → Asks S D A → Bool
@@ -69,14 +83,38 @@ isOpening (opens s a) = true
 isOpening (finishes a) = true
 isOpening (feeds d a) = false
 
--- A frame is answered `full` exactly when it is an opening and eight others hold the places: at any time of a run,
+-- Eight keys, all different and none of them k, and the rules have a session open for each.
+pub record EightOthersOpen (𝓕 : Format) (k : ℕ) (h : History 𝓕) : Type 0 where
+  pub others : List ℕ
+  pub eight : length others ≡ placeCount
+  pub different : Distinct (k ∷ others)
+  pub all-open : (j : ℕ) → openByRules 𝓕 j h ≡ none → Absent j others
+
+-- A frame is answered `full` exactly when it is an opening and the rules have eight others open, at any time of a run.
 abbrev pub FullExactlyWhen : Format → Type 0
 FullExactlyWhen 𝓕 =
     (events : List (Event (𝓕 .Frame))) (f : 𝓕 .Frame)
     → (hear 𝓕 f (after 𝓕 (eightFree 𝓕) events) .answer ≡ full)
-    ↔ ((isOpening (𝓕 .asks f) ≡ true) × EightOthers (𝓕 .key f) (after 𝓕 (eightFree 𝓕) events))
+    ↔ ((isOpening (𝓕 .asks f) ≡ true) × EightOthersOpen 𝓕 (𝓕 .key f) (onBusyBus 𝓕 events))
 
--- and at any eight places that no key has two of.
+-- How many keys the rules close in a pause: `keys` are those that they have open, each once.
+pub record ClosedByRules (𝓕 : Format) (ms n : ℕ) (h : History 𝓕) : Type 0 where
+  pub keys : List ℕ
+  pub different : Distinct keys
+  pub exactly : (k : ℕ) → Absent k keys ↔ (openByRules 𝓕 k h ≡ none)
+  pub number : n ≡ count (λ k. isNone (pauseAlone 𝓕 ms (openByRules 𝓕 k h))) keys
+
+-- A pause frees as many places as the rules close keys in it, at any time of a run.
+abbrev pub ClosesAsRules : Format → Type 0
+ClosesAsRules 𝓕 =
+    (ms : ℕ) (events : List (Event (𝓕 .Frame))) → ClosedByRules 𝓕 ms (closedBy 𝓕 ms (after 𝓕 (eightFree 𝓕) events)) (onBusyBus 𝓕 events)
+
+-- The same of full places at any places: all eight are held by eight keys, all different and none of them k.
+pub record EightOthers {S : Type 0} (k : ℕ) (ps : List (Place S)) : Type 0 where
+  pub places : length ps ≡ placeCount
+  pub holders : length (keysOf ps) ≡ placeCount
+  pub different : Distinct (k ∷ keysOf ps)
+
 abbrev pub FullExactlyWhenAt : Format → Type 0
 FullExactlyWhenAt 𝓕 =
     (ps : Places 𝓕) (f : 𝓕 .Frame) → length ps ≡ placeCount → OnePlaceEach ps
@@ -103,11 +141,13 @@ spacing [] = []
 spacing (frame f ∷ es) = (0, f) ∷ spaced 0 es
 spacing (pause ms ∷ es) = spacing es
 
--- Two runs that have the same frames of k, with equal sums of pauses between them, tell k the same, whatever else they have.
-abbrev pub SumsOfPauses : Format → Type 0
+-- Where pauses obey this, two runs that have the same frames of k, without those that found no place, and equal sums of pauses between them tell k
+-- the same, whatever else they have.
+abbrev pub SumsOfPauses : Format → Type 1
 SumsOfPauses 𝓕 =
-    (k : ℕ) (events events′ : List (Event (𝓕 .Frame))) → spacing (only 𝓕 k events) ≡ spacing (only 𝓕 k events′)
-    → NeverFull (onBusyBus 𝓕 k events) → NeverFull (onBusyBus 𝓕 k events′) → onBusyBus 𝓕 k events ≡ onBusyBus 𝓕 k events′
+    Pausing 𝓕 → (k : ℕ) (events events′ : List (Event (𝓕 .Frame)))
+    → spacing (admitted 𝓕 k (onBusyBus 𝓕 events)) ≡ spacing (admitted 𝓕 k (onBusyBus 𝓕 events′))
+    → answered (toldTo 𝓕 k (onBusyBus 𝓕 events)) ≡ answered (toldTo 𝓕 k (onBusyBus 𝓕 events′))
 
 -- every session in a place keeps the format's rule
 abbrev pub AllKept : {S : Type 0} → (S → Type 0) → List (Place S) → Type 0

@@ -6,8 +6,8 @@ use mathlib.Core.Option.{Option, some, none}
 use Prim.Native.Nat.{ℕ, _+_, _-_}
 use Rattle.frame.specs.Words.{if_then_else_, _<?_, _≤?_, _=?_}
 use Rattle.places.specs.Format.{Asks, opens, finishes, feeds, Fed, goes, ends, Format, Event, frame, pause}
-use Rattle.places.specs.Places.{free, held, full, said, closedBy, eightFree, after, run}
-use Rattle.places.specs.Statements.{BusyAsQuiet, FullExactlyWhen, SumsOfPauses}
+use Rattle.places.specs.Places.{free, held, Out, full, said, heard, paused, closedBy, eightFree, after, History}
+use Rattle.places.specs.Statements.{onBusyBus, OpenAsRules, ToldAsRules, BusyAsQuiet, FullExactlyWhen, ClosesAsRules, Pausing, SumsOfPauses}
 
 pub record Card : Type 0 where
   pub key : ℕ
@@ -59,9 +59,15 @@ nineKeys =
     card 1 2 ∷ card 2 2 ∷ card 3 2 ∷ card 4 2 ∷ card 5 2 ∷ card 6 2 ∷ card 7 2 ∷ card 8 2 ∷ card 9 0 ∷
     card 3 10 ∷ pause 60 ∷ card 3 10 ∷ card 9 0 ∷ card 6 0 ∷ card 9 4 ∷ []
 
+-- the answers alone, each with the key that it is told to
+abbrev pub answersIn : History tiny → List (ℕ × Out Word)
+answersIn [] = []
+answersIn (heard c o ∷ h) = (c .key, o) ∷ answersIn h
+answersIn (paused ms n ∷ h) = answersIn h
+
 abbrev pub NineKeysTold : Type 0
 NineKeysTold =
-    run tiny (eightFree tiny) nineKeys
+    answersIn (onBusyBus tiny nineKeys)
     ≡ (1, said opened) ∷ (2, said opened) ∷ (3, said opened) ∷ (4, said opened)
     ∷ (5, said opened) ∷ (6, said opened) ∷ (7, said opened) ∷ (8, said opened)
     ∷ (9, full) ∷ (3, said stored) ∷ (3, said finished) ∷ (9, said finished) ∷ (6, said finished) ∷ (9, said opened) ∷ []
@@ -82,8 +88,20 @@ NineKeysPaused = (closedBy tiny 40 (after tiny (eightFree tiny) nineKeys) ≡ 0)
 abbrev pub TinyBusyAsQuiet : Type 0
 TinyBusyAsQuiet = BusyAsQuiet tiny
 
+abbrev pub TinyOpenAsRules : Type 0
+TinyOpenAsRules = OpenAsRules tiny
+
+abbrev pub TinyToldAsRules : Type 0
+TinyToldAsRules = ToldAsRules tiny
+
 abbrev pub TinyFullExactlyWhen : Type 0
 TinyFullExactlyWhen = FullExactlyWhen tiny
 
-abbrev pub TinySumsOfPauses : Type 0
+abbrev pub TinyClosesAsRules : Type 0
+TinyClosesAsRules = ClosesAsRules tiny
+
+abbrev pub TinyPausing : Type 1
+TinyPausing = Pausing tiny
+
+abbrev pub TinySumsOfPauses : Type 1
 TinySumsOfPauses = SumsOfPauses tiny

@@ -2,7 +2,7 @@
 use mathlib.Core.Path.{_≡_, refl, sym, _∙_}
 use borrow.Author.Needs.{needs}
 use lib.ListN.{length}
-use Rattle.message.specs.declared.Answer.the-variants.{Opened, NoPlaceFree}
+use Rattle.message.specs.declared.Answer.the-variants.{NoPlaceFree}
 use Rattle.places.proofs.Search.{length-field}
 use Rattle.message.proofs.Steps.{left, place-for-below, announces-at, announces-nowhere}
 use Rattle.message.proofs.eight_places.announce.Statement.{statement}
@@ -34,7 +34,9 @@ returns : tie.Need-returns
 returns c =
     let b = c .before .before .before .before .before in
     let a = b .before .args in
-    λ s. left _ s _ (announces-at (a .sender) (a .size) (a .dgn) (a .r .places) s _ (sym (b .place-for .ensures) ∙ c .before .before .before .at .given .1)) (c .keeps .result) (c .before .replace .result) Opened (c .keeps .ensures) (c .before .replace .ensures) refl
+    let e = sym (b .place-for .ensures) ∙ c .before .before .before .at .given .1 in
+    λ s. left _ s _ (announces-at (a .sender) (a .size) (a .dgn) (a .r .places) s _ e) (c .keeps .result)
+    (c .before .replace .result) _ (c .keeps .ensures) (c .before .replace .ensures) refl
 
 returns-2 : tie.Need-returns-2
 returns-2 c =

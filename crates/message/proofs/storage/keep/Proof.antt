@@ -1,7 +1,6 @@
 -- `message::storage::keep` meets its contract. Assumes nothing.
 use Prim.Native.Nat.{_*_}
 use borrow.Author.Needs.{needs}
-use lib.ListN.{drop}
 use Rattle.places.proofs.Stretch.{paste-part}
 use Rattle.message.proofs.storage.keep.Statement.{statement}
 use Rattle.message.proofs.storage.keep.Tie as tie
@@ -30,7 +29,7 @@ same-length c = search needs
 returns : tie.Need-returns
 returns c =
     let a = c .before .before .before .before .before .before .args in
-    rw (c .before .before .copy .ensures) (paste-part (a .storage .now) (drop 1 (a .t5)) (1785 * a .at) (a .offset) (a .count))
+    rw (c .before .before .copy .ensures) (paste-part (a .storage .now) _ (1785 * a .at) (a .offset) (a .count))
 
 pub keep-spec : {M : Type 1} → statement M
 keep-spec =
