@@ -111,7 +111,7 @@ module _ (s bytes : List ℕ) (j : ℕ) (p : Place) (enough : room ≤ length s)
       }
 
 -- an answer that tells this
-abbrev Answers : Told Outcome → Type 0
+abbrev pub Answers : Told Outcome → Type 0
 Answers t = (x : Answer) × (toldAnswer x ≡ t)
 
 -- each of the refusals 3 to 7 has an answer
@@ -367,20 +367,20 @@ paused-count ms ps v = rw v
 -- the calls, from a state that keeps its rules: there is one answer and one state after each
 
 module _ (s : Held) (k : Keeps s) where
-  abbrev ps : List Place
+  abbrev pub ps : List Place
   ps = s .receiver .places
 
   module _ (f : Frame) where
-    abbrev left : After
+    abbrev pub left : After
     left = heard (f .id) (f .bytes) ps (s .storage)
 
-    frame-agrees : Agrees f ps (s .storage) (k .eight) (k .rules) (k .enough) left
+    pub frame-agrees : Agrees f ps (s .storage) (k .eight) (k .rules) (k .enough) left
     frame-agrees = agrees f ps (s .storage) (k .eight) (k .rules) (k .enough)
 
-    abbrev heardBy : Held
+    abbrev pub heardBy : Held
     heardBy = record { receiver = record { places = left .places }; storage = left .storage }
 
-    abbrev toldBy : Out (Told Tells)
+    abbrev pub toldBy : Out (Told Tells)
     toldBy = tells (messageIn (left .storage) (left .answer)) (left .answer)
 
     enough-left : room ≤ length (left .storage)
@@ -397,7 +397,7 @@ module _ (s : Held) (k : Keeps s) where
           c .told-so ∙ ap₂ tells m (c .hear .answer),
         )
 
-    heard-kept-rules : Keeps heardBy
+    pub heard-kept-rules : Keeps heardBy
     heard-kept-rules =
         let o = shows-keeps longMessages layout f ps (s .storage) _ _ _ (frame-agrees .shows) (each-alone ps (k .rules)) in
         record { eight = o .1 ∙ k .eight; rules = both-rules (left .places) (frame-agrees .rules) (o .0); enough = enough-left }
@@ -417,7 +417,7 @@ module _ (s : Held) (k : Keeps s) where
         )
 
   module _ (ms : ℕ) where
-    abbrev restedBy : Held
+    abbrev pub restedBy : Held
     restedBy = record { receiver = record { places = map (idled ms) ps }; storage = s .storage }
 
     pauses-is : (t : Held) (n : Told ℕ) → Pauses s ms n t → (t ≡ restedBy) × (n ≡ gives (count (Eight.closes ms) ps))
@@ -428,7 +428,7 @@ module _ (s : Held) (k : Keeps s) where
           c .told-so ∙ c .pause .answer ∙ paused-count ms ps (k .rules),
         )
 
-    rested-kept-rules : Keeps restedBy
+    pub rested-kept-rules : Keeps restedBy
     rested-kept-rules =
         record {
           eight = length-map ps (idled ms) ∙ k .eight;
@@ -450,7 +450,7 @@ module _ (s : Held) (k : Keeps s) where
       },
     )
 
-starts-keep : (s : Held) → Starts s → Keeps s
+pub starts-keep : (s : Held) → Starts s → Keeps s
 unfolding keepsRules placeKeepsRules isZero
 starts-keep s h = record { eight = rw (h .new .places); rules = rw (h .new .places); enough = h .enough }
 

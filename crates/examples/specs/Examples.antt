@@ -6,17 +6,18 @@ use mathlib.Core.List.{List, [], _∷_, _++_}
 use Prim.Native.Nat.{ℕ, _+_}
 use lib.IntN.{ℤ, pos, negsuc}
 use lib.ListN.{replicate}
-use Rattle.frame.specs.Words.{Told, refused, gives}
-use Rattle.frame.specs.Identifier.{identifierOf}
+use Rattle.frame.specs.Words.{if_then_else_, _=?_, Told, refused, gives}
+use Rattle.frame.specs.Identifier.{sourceOf, identifierOf}
 use Rattle.frame.specs.Frame.{formedOf}
 use Rattle.places.specs.Format.{Event, frame, pause}
 use Rattle.places.specs.Places.{Out, full, said}
 use Rattle.message.specs.LongMessage.{Meaning, other, announcement, packet, meaningOf}
 use Rattle.message.specs.OneSender.{Frame, Tells, nothingToDo, opened, stored, finished}
-use Rattle.message.specs.Receiver.{room, freePlace, pausedAnswer}
+use Rattle.message.specs.Receiver.{placeCount, room, freePlace, heard, pausedPlaces, pausedAnswer}
+use Rattle.message.specs.Promises.{messageIn}
+use Rattle.message.specs.Calls.{tells}
 use Rattle.message.specs.declared.Place.{Place}
 use Rattle.message.specs.Splitter.{announcementOf}
-use Rattle.demands.specs.BusyBus.{fresh, toldTo}
 use Rattle.catalogue.specs.Classes.{classAt, belowGreatest}
 use Rattle.catalogue.specs.Scale.{scaledOf}
 use Rattle.catalogue.specs.declared.Unit.the-variants.{Celsius, Ampere}
@@ -71,10 +72,23 @@ abbrev pub sent : Told Acknowledgment.Frame → List ℕ
 sent (refused n) = n ∷ []
 sent (gives f) = 0 ∷ f .id ∷ f .bytes
 
--- the long message of 01, and a receiver over storage of zeros
+-- What a sender is told in a run, as the definition of the receiver gives it: from a new receiver, over storage of zeros, handed on as each frame leaves it.
 
-abbrev pub storage : List ℕ
-storage = replicate room 0
+abbrev pub toldFrom : ℕ → List Place → List ℕ → List (Event Frame) → List (Out (Told Tells))
+toldFrom sender places storage [] = []
+toldFrom sender places storage (frame f ∷ events) =
+    let after = heard (f .id) (f .bytes) places storage in
+    let later = toldFrom sender (after .places) (after .storage) events in
+    if sourceOf (f .id) =? sender then tells (messageIn (after .storage) (after .answer)) (after .answer) ∷ later else later
+toldFrom sender places storage (pause ms ∷ events) = toldFrom sender (pausedPlaces ms places) storage events
+
+abbrev pub storageOfZeros : List ℕ
+storageOfZeros = replicate room 0
+
+abbrev pub toldOf : ℕ → List (Event Frame) → List (Out (Told Tells))
+toldOf sender events = toldFrom sender (replicate placeCount freePlace) storageOfZeros events
+
+-- the long message of 01
 
 -- eight places, the first open by 54h
 abbrev pub oneOpen : List Place
@@ -108,40 +122,92 @@ eightSenders =
 abbrev pub holding9C : Claim
 holding9C = record { name = 1; list = 0x9C ∷ replicate 15 0; count = 1; position = 0; wait = 250; silent = false }
 
+-- The lines, each by a name.
+
+-- (1) DM_RV, priority 6, source 54h
+abbrev pub dmRv : Line
+dmRv = line 1 (number (formedOf 6 0x1FECA 0x54)) (0 ∷ 0x19FECA54 ∷ [])
+
+-- (2) lengths 8 and 9, announced and split
+
+abbrev pub eightAnnounced : Line
+eightAnnounced = line 2 (meaning (announced 8 0 2)) (7 ∷ [])
+
+abbrev pub nineAnnounced : Line
+nineAnnounced = line 2 (meaning (announced 9 0 2)) (0 ∷ 0x54 ∷ 9 ∷ 0xFEEB ∷ [])
+
+abbrev pub eightSplit : Line
+eightSplit = line 2 (bytes (announcementOf (replicate 8 0) 0xFEEB)) (13 ∷ [])
+
+abbrev pub nineSplit : Line
+nineSplit =
+    line 2 (bytes (announcementOf (replicate 9 0) 0xFEEB)) (0 ∷ 0x20 ∷ 9 ∷ 0 ∷ 2 ∷ 0xFF ∷ 0xEB ∷ 0xFE ∷ 0 ∷ [])
+
+-- (3) lengths 1,785 and 1,786, announced and split
+
+abbrev pub longestAnnounced : Line
+longestAnnounced = line 3 (meaning (announced 0xF9 0x06 255)) (0 ∷ 0x54 ∷ 1785 ∷ 0xFEEB ∷ [])
+
+abbrev pub longerAnnounced : Line
+longerAnnounced = line 3 (meaning (announced 0xFA 0x06 255)) (7 ∷ [])
+
+abbrev pub longestSplit : Line
+longestSplit =
+    line 3 (bytes (announcementOf (replicate 1785 0) 0xFEEB)) (0 ∷ 0x20 ∷ 0xF9 ∷ 0x06 ∷ 255 ∷ 0xFF ∷ 0xEB ∷ 0xFE ∷ 0 ∷ [])
+
+abbrev pub longerSplit : Line
+longerSplit = line 3 (bytes (announcementOf (replicate 1786 0) 0xFEEB)) (13 ∷ [])
+
+-- (4) count 1 for 9 bytes
+abbrev pub wrongCount : Line
+wrongCount = line 4 (meaning (announced 9 0 1)) (7 ∷ [])
+
+-- (5) idle 750 and 751: a pause closes none, or one
+
+abbrev pub idleKept : Line
+idleKept = line 5 (number (pausedAnswer 750 oneOpen)) (0 ∷ 0 ∷ [])
+
+abbrev pub idleClosed : Line
+idleClosed = line 5 (number (pausedAnswer 751 oneOpen)) (0 ∷ 1 ∷ [])
+
+-- (6) a ninth sender
+abbrev pub ninthSender : Line
+ninthSender = line 6 (answers (toldOf 9 (eightSenders ++ (announces 9 nineBytes ∷ [])))) (8 ∷ [])
+
+-- (7) the long message
+abbrev pub longMessage : Line
+longMessage =
+    line 7 (answers (toldOf 0x54 (announcement54 ∷ pause 50 ∷ first54 ∷ pause 50 ∷ second54 ∷ [])))
+    (0 ∷ 1 ∷ 0 ∷ 2 ∷ 0 ∷ 0x54 ∷ 0xFEEB ∷ 0x41 ∷ 0x43 ∷ 0x4D ∷ 0x45 ∷ 0x2A ∷ 0x58 ∷ 0x31 ∷ 0x2A ∷ 0x39 ∷ [])
+
+-- (8) 8-bit 252 is a number, 253 reserved: how far below the greatest code the class stands, 3 for a number
+
+abbrev pub lastNumber : Line
+lastNumber = line 8 (belowGreatest (classAt 8 252) ∷ []) (3 ∷ [])
+
+abbrev pub firstReserved : Line
+firstReserved = line 8 (belowGreatest (classAt 8 253) ∷ []) (2 ∷ [])
+
+-- (9) 16-bit amperes, 32000
+abbrev pub zeroAmperes : Line
+zeroAmperes = line 9 (signed (scaledOf Ampere 16 32000)) (0 ∷ 0 ∷ [])
+
+-- (10) 8-bit °C, 0
+abbrev pub lowestCelsius : Line
+lowestCelsius = line 10 (signed (scaledOf Celsius 8 0)) (1 ∷ 1280 ∷ [])
+
+-- (11) holding 9Ch, code 3 to 44h for SLIDE_COMMAND instance 2
+abbrev pub slideAcknowledged : Line
+slideAcknowledged =
+    line 11 (sent (acknowledgedOf holding9C 0x44 3 2 0x1FFE7))
+    (0 ∷ 0x18E8449C ∷ 0x03 ∷ 0x02 ∷ 0xFF ∷ 0xFF ∷ 0x44 ∷ 0xE7 ∷ 0xFF ∷ 0x01 ∷ [])
+
+-- The one table. The crate `ledger` names its lines once more, so that one that is dropped here is missed there.
 abbrev pub table : List Line
 table =
-    -- (1) DM_RV, priority 6, source 54h
-    line 1 (number (formedOf 6 0x1FECA 0x54)) (0 ∷ 0x19FECA54 ∷ [])
-    -- (2) lengths 8 and 9, announced and split
-    ∷ line 2 (meaning (announced 8 0 2)) (7 ∷ [])
-    ∷ line 2 (meaning (announced 9 0 2)) (0 ∷ 0x54 ∷ 9 ∷ 0xFEEB ∷ [])
-    ∷ line 2 (bytes (announcementOf (replicate 8 0) 0xFEEB)) (13 ∷ [])
-    ∷ line 2 (bytes (announcementOf (replicate 9 0) 0xFEEB)) (0 ∷ 0x20 ∷ 9 ∷ 0 ∷ 2 ∷ 0xFF ∷ 0xEB ∷ 0xFE ∷ 0 ∷ [])
-    -- (3) lengths 1,785 and 1,786, announced and split
-    ∷ line 3 (meaning (announced 0xF9 0x06 255)) (0 ∷ 0x54 ∷ 1785 ∷ 0xFEEB ∷ [])
-    ∷ line 3 (meaning (announced 0xFA 0x06 255)) (7 ∷ [])
-    ∷ line 3 (bytes (announcementOf (replicate 1785 0) 0xFEEB)) (0 ∷ 0x20 ∷ 0xF9 ∷ 0x06 ∷ 255 ∷ 0xFF ∷ 0xEB ∷ 0xFE ∷ 0 ∷ [])
-    ∷ line 3 (bytes (announcementOf (replicate 1786 0) 0xFEEB)) (13 ∷ [])
-    -- (4) count 1 for 9 bytes
-    ∷ line 4 (meaning (announced 9 0 1)) (7 ∷ [])
-    -- (5) idle 750 and 751: a pause closes none, or one
-    ∷ line 5 (number (pausedAnswer 750 oneOpen)) (0 ∷ 0 ∷ [])
-    ∷ line 5 (number (pausedAnswer 751 oneOpen)) (0 ∷ 1 ∷ [])
-    -- (6) a ninth sender
-    ∷ line 6 (answers (toldTo 9 (fresh storage) (eightSenders ++ (announces 9 nineBytes ∷ [])))) (8 ∷ [])
-    -- (7) the long message
-    ∷ line 7 (answers (toldTo 0x54 (fresh storage) (announcement54 ∷ pause 50 ∷ first54 ∷ pause 50 ∷ second54 ∷ [])))
-    (0 ∷ 1 ∷ 0 ∷ 2 ∷ 0 ∷ 0x54 ∷ 0xFEEB ∷ 0x41 ∷ 0x43 ∷ 0x4D ∷ 0x45 ∷ 0x2A ∷ 0x58 ∷ 0x31 ∷ 0x2A ∷ 0x39 ∷ [])
-    -- (8) 8-bit 252 is a number, 253 reserved: how far below the greatest code the class stands, 3 for a number
-    ∷ line 8 (belowGreatest (classAt 8 252) ∷ []) (3 ∷ [])
-    ∷ line 8 (belowGreatest (classAt 8 253) ∷ []) (2 ∷ [])
-    -- (9) 16-bit amperes, 32000
-    ∷ line 9 (signed (scaledOf Ampere 16 32000)) (0 ∷ 0 ∷ [])
-    -- (10) 8-bit °C, 0
-    ∷ line 10 (signed (scaledOf Celsius 8 0)) (1 ∷ 1280 ∷ [])
-    -- (11) holding 9Ch, code 3 to 44h for SLIDE_COMMAND instance 2
-    ∷ line 11 (sent (acknowledgedOf holding9C 0x44 3 2 0x1FFE7)) (0 ∷ 0x18E8449C ∷ 0x03 ∷ 0x02 ∷ 0xFF ∷ 0xFF ∷ 0x44 ∷ 0xE7 ∷ 0xFF ∷ 0x01 ∷ [])
-    ∷ []
+    dmRv ∷ eightAnnounced ∷ nineAnnounced ∷ eightSplit ∷ nineSplit ∷ longestAnnounced ∷ longerAnnounced ∷ longestSplit ∷ longerSplit
+    ∷ wrongCount ∷ idleKept ∷ idleClosed ∷ ninthSender ∷ longMessage ∷ lastNumber ∷ firstReserved ∷ zeroAmperes ∷ lowestCelsius
+    ∷ slideAcknowledged ∷ []
 
 -- Each line is as printed.
 

@@ -1,0 +1,80 @@
+-- The ledger: each entry is the field or the line itself.
+-- Assumes nothing.
+use mathlib.Core.Path.{refl}
+use Rattle.demands.proofs.Demands.{demand-one, demand-two, demand-three}
+use Rattle.demands.proofs.EveryLaw.{every-law}
+use Rattle.examples.proofs.Examples.{all-as-printed}
+use Rattle.ledger.specs.Ledger.{FieldsOfOne, FieldsOfTwo, FieldsOfThree, Ledger}
+
+fields-of-one : FieldsOfOne
+fields-of-one =
+    record {
+      calls = demand-one .calls;
+      frame = demand-one .frame;
+      hear = demand-one .hear;
+      ten-closes = demand-one .ten-closes;
+      pause = demand-one .pause;
+      write = demand-one .write;
+      claim-start = demand-one .claim-start;
+      claim-hear = demand-one .claim-hear;
+      claim-pause = demand-one .claim-pause;
+      our-claim = demand-one .our-claim;
+      nodes = demand-one .nodes;
+      host-start = demand-one .host-start;
+      route = demand-one .route;
+      request = demand-one .request;
+      acknowledge = demand-one .acknowledge;
+      line = demand-one .line;
+    }
+
+fields-of-two : FieldsOfTwo
+fields-of-two =
+    record {
+      parts-back = demand-two .parts-back;
+      identifier-back = demand-two .identifier-back;
+      number-back = demand-two .number-back;
+      bytes-back = demand-two .bytes-back;
+      rising = demand-two .rising;
+      ends = demand-two .ends;
+      apart = demand-two .apart;
+      bit-of-byte = demand-two .bit-of-byte;
+      code-back = demand-two .code-back;
+      value-back = demand-two .value-back;
+      reads-back = demand-two .reads-back;
+      reads-others = demand-two .reads-others;
+      bits-kept = demand-two .bits-kept;
+      splitter-announces = demand-two .splitter-announces;
+      splitter-cuts = demand-two .splitter-cuts;
+      split-and-join = demand-two .split-and-join;
+      joined-by-rules = demand-two .joined-by-rules;
+      written-taken-apart = demand-two .written-taken-apart;
+      taken-apart-written = demand-two .taken-apart-written;
+      blocks-do-not-matter = demand-two .blocks-do-not-matter;
+    }
+
+fields-of-three : FieldsOfThree
+fields-of-three =
+    record {
+      busy-bus = demand-three .busy-bus;
+      open-on-bus = demand-three .open-on-bus;
+      told-on-bus = demand-three .told-on-bus;
+      no-place-free = demand-three .no-place-free;
+      pause-count = demand-three .pause-count;
+      sums-of-pauses = demand-three .sums-of-pauses;
+      start-kept = demand-three .start-kept;
+      rules-kept = demand-three .rules-kept;
+      every-run-runs = demand-three .every-run-runs;
+      no-place-free-at = demand-three .no-place-free-at;
+      pause-count-at = demand-three .pause-count-at;
+    }
+
+pub ledger : Ledger
+ledger =
+    record {
+      one = fields-of-one;
+      two = fields-of-two;
+      three = fields-of-three;
+      every-law = every-law;
+      lines = refl;
+      as-printed = all-as-printed;
+    }

@@ -1,0 +1,84 @@
+-- The ledger: every field of the three demands and every line of the table of examples, each named once more from outside the crates that state and
+-- prove them. A demand that loses a field, or a table that loses a line, no longer fits it.
+use mathlib.Core.Path.{_≡_}
+use mathlib.Core.List.{[], _∷_}
+use Rattle.frame.specs.Laws as Frame
+use Rattle.message.specs.Laws as Message
+use Rattle.catalogue.specs.Laws as Catalogue
+use Rattle.claim.specs.Laws as Claim
+use Rattle.nodes.specs.Laws as Nodes
+use Rattle.command.specs.Laws as Command
+use Rattle.capture.specs.Laws as Capture
+use Rattle.demands.specs.EveryCall.{EveryCall}
+use Rattle.demands.specs.EveryLaw.{EveryLaw}
+use Rattle.demands.specs.BusyBus.{BusyBus, OpenOnBus, ToldOnBus, NoPlaceFree, PauseCount, SumsOfPauses, StartKept, RulesKept, EveryRunRuns, NoPlaceFreeAt, PauseCountAt}
+use Rattle.demands.specs.SplitAndJoin.{SplitAndJoin, JoinedByRules}
+use Rattle.examples.specs.Examples.{dmRv, eightAnnounced, nineAnnounced, eightSplit, nineSplit, longestAnnounced, longerAnnounced, longestSplit, longerSplit, wrongCount, idleKept, idleClosed, ninthSender, longMessage, lastNumber, firstReserved, zeroAmperes, lowestCelsius, slideAcknowledged, table, AllAsPrinted}
+
+pub record FieldsOfOne : Type 2 where
+  pub calls : EveryCall
+  pub frame : Frame.RefusedKeeps
+  pub hear : Message.RefusedKeeps
+  pub ten-closes : Message.TenCloses
+  pub pause : Message.PauseRefusedKeeps
+  pub write : Catalogue.RefusedKeeps
+  pub claim-start : Claim.StartRefusedKeeps
+  pub claim-hear : Claim.HearRefusedKeeps
+  pub claim-pause : Claim.PauseRefusedKeeps
+  pub our-claim : Claim.OurClaimRefusedKeeps
+  pub nodes : Nodes.HearRefusedKeeps
+  pub host-start : Command.StartRefusedKeeps
+  pub route : Command.RouteRefusedKeeps
+  pub request : Command.RequestRefusedKeeps
+  pub acknowledge : Command.AcknowledgeRefusedKeeps
+  pub line : Capture.MalformedKeeps
+
+pub record FieldsOfTwo : Type 0 where
+  pub parts-back : Frame.PartsBack
+  pub identifier-back : Frame.IdentifierBack
+  pub number-back : Frame.NumberBack
+  pub bytes-back : Frame.BytesBack
+  pub rising : Catalogue.Rising
+  pub ends : Catalogue.Ends
+  pub apart : Catalogue.Apart
+  pub bit-of-byte : Catalogue.BitOfByte
+  pub code-back : Catalogue.CodeBack
+  pub value-back : Catalogue.ValueBack
+  pub reads-back : Catalogue.ReadsBack
+  pub reads-others : Catalogue.ReadsOthers
+  pub bits-kept : Catalogue.BitsKept
+  pub splitter-announces : Message.SplitterAnnounces
+  pub splitter-cuts : Message.SplitterCuts
+  pub split-and-join : SplitAndJoin
+  pub joined-by-rules : JoinedByRules
+  pub written-taken-apart : Capture.WrittenTakenApart
+  pub taken-apart-written : Capture.TakenApartWritten
+  pub blocks-do-not-matter : Capture.BlocksDoNotMatter
+
+pub record FieldsOfThree : Type 0 where
+  pub busy-bus : BusyBus
+  pub open-on-bus : OpenOnBus
+  pub told-on-bus : ToldOnBus
+  pub no-place-free : NoPlaceFree
+  pub pause-count : PauseCount
+  pub sums-of-pauses : SumsOfPauses
+  pub start-kept : StartKept
+  pub rules-kept : RulesKept
+  pub every-run-runs : EveryRunRuns
+  pub no-place-free-at : NoPlaceFreeAt
+  pub pause-count-at : PauseCountAt
+
+abbrev pub LinesOfTable : Type 0
+LinesOfTable =
+    table
+    ≡ dmRv ∷ eightAnnounced ∷ nineAnnounced ∷ eightSplit ∷ nineSplit ∷ longestAnnounced ∷ longerAnnounced
+    ∷ longestSplit ∷ longerSplit ∷ wrongCount ∷ idleKept ∷ idleClosed ∷ ninthSender ∷ longMessage ∷ lastNumber
+    ∷ firstReserved ∷ zeroAmperes ∷ lowestCelsius ∷ slideAcknowledged ∷ []
+
+pub record Ledger : Type 2 where
+  pub one : FieldsOfOne
+  pub two : FieldsOfTwo
+  pub three : FieldsOfThree
+  pub every-law : EveryLaw
+  pub lines : LinesOfTable
+  pub as-printed : AllAsPrinted
