@@ -15,7 +15,7 @@ use Rattle.frame.proofs.Words.{by-test}
 use Rattle.places.specs.Format.{Asks, fixed, opens, finishes, feeds, Fed, goes, ends, Format, Event, frame, pause, step}
 use Rattle.places.specs.OneKey.{fedAlone, packetAlone, askedAlone, hearAlone, pauseAlone, solo, openAfter}
 use Rattle.places.specs.Places.{free, held, Out, full, said, heard, paused, lookup, keyed, update, anyFree, keysOf, Absent, Distinct, OnePlaceEach, count, isNone, placeCount, Places, opened, finished, fed, packet, asked, hear, rest, pass, closes, closedBy, eightFree, after, History, run, eventsOf, toldTo, only, admitted, NeverFull, answered}
-use Rattle.places.specs.Statements.{StepAgrees, PauseCloses, RunKeeps, onBusyBus, AsRulesFrom, AsRulesFromAny, OpenAsRules, ToldAsRules, BusyAsQuiet, EightOthers, isOpening, FullExactlyWhen, FullExactlyWhenAt, ClosesAsRules, Pausing, spaced, spacing, SumsOfPauses, AllKept, PausesAdd}
+use Rattle.places.specs.Statements.{StepAgrees, PauseCloses, RunKeeps, onBusyBus, AsRulesFrom, AsRulesFromAny, OpenAsRules, ToldAsRules, BusyAsQuiet, EightOthersOpen, EightOthers, isOpening, FullExactlyWhen, FullExactlyWhenAt, ClosesAsRules, Pausing, spaced, spacing, SumsOfPauses, AllKept, PausesAdd}
 use Rattle.places.proofs.Places.{by-equal, some-none, absent-lookup, lookup-absent, update-other, update-each, freed-holders, holders-below, holders-full, full-holders}
 use Rattle.places.proofs.Steps.{said-full, no-place, one-step, pass-lookup, pass-each, closed-count}
 
@@ -191,26 +191,30 @@ module _ (𝓕 : Format) where
           let covers : (j : ℕ) → lookup j ps ≡ none → Absent j (k ∷ others) = λ j f. ((λ x. some-none (sym e ∙ ap (λ i. lookup i ps) x ∙ f)), c j f) in
           absurd (omega (arith, holders-cover ps (k ∷ others) u d covers, holders-below ps))
 
+  -- eight others that the rules have open hold the eight places
+  eight-hold : (k : ℕ) (events : List (Event (𝓕 .Frame))) → EightOthersOpen 𝓕 k (onBusyBus 𝓕 events) → EightOthers k (after 𝓕 (eightFree 𝓕) events)
+  eight-hold k events o =
+      let r = run-keeps (eightFree 𝓕) events tt in
+      others-hold k (after 𝓕 (eightFree 𝓕) events) (o .others) (r .0) (r .1) (o .eight) (o .different)
+      (λ j n. o .all-open j (sym (open-as-rules j events) ∙ n))
+
+  -- and the other way round
+  eight-open : (k : ℕ) (events : List (Event (𝓕 .Frame))) → EightOthers k (after 𝓕 (eightFree 𝓕) events) → EightOthersOpen 𝓕 k (onBusyBus 𝓕 events)
+  eight-open k events o =
+      let ps = after 𝓕 (eightFree 𝓕) events in
+      record {
+        others = keysOf ps;
+        eight = o .holders;
+        different = o .different;
+        all-open = λ j n. lookup-absent j ps (open-as-rules j events ∙ n);
+      }
+
   pub full-exactly-when : FullExactlyWhen 𝓕
   full-exactly-when events f =
-      let ps = after 𝓕 (eightFree 𝓕) events in
       let r = run-keeps (eightFree 𝓕) events tt in
-      let i = full-exactly-when-at ps f (r .0) (r .1) in
-      let k = 𝓕 .key f in (
-        (λ e.
-            let o = i .0 e in (
-              o .0,
-              record {
-                others = keysOf ps;
-                eight = o .1 .holders;
-                different = o .1 .different;
-                all-open = λ j n. lookup-absent j ps (open-as-rules j events ∙ n);
-              },
-            )),
-        (λ e.
-            let o = e .1 in
-            let covers : (j : ℕ) → lookup j ps ≡ none → Absent j (o .others) = λ j n. o .all-open j (sym (open-as-rules j events) ∙ n) in
-            i .1 (e .0, others-hold k ps (o .others) (r .0) (r .1) (o .eight) (o .different) covers)),
+      let i = full-exactly-when-at (after 𝓕 (eightFree 𝓕) events) f (r .0) (r .1) in (
+        (λ e. let o = i .0 e in (o .0, eight-open (𝓕 .key f) events (o .1))),
+        (λ e. i .1 (e .0, eight-hold (𝓕 .key f) events (e .1))),
       )
 
   pub closes-as-rules : ClosesAsRules 𝓕
