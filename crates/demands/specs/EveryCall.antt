@@ -13,8 +13,10 @@ use contract.Lifetimes.{Lfts}
 use contract.Notation.{connectives}
 use contract.Running.{GhostRules, Running}
 use denote.Signature.{Signature}
-use denote.Triple.Entry.{Args}
-use denote.Triple.Spec.{Spec, Meets}
+use denote.Ref.{now}
+use denote.Triple.Clauses.{Ended, Lasts, AtExit, atExit}
+use denote.Triple.Entry.{Args, Res}
+use denote.Triple.Spec.{Spec, Meets, exits}
 use Rattle.frame.specs.Laws as Frame
 use Rattle.frame.proofs.take_apart as frame-take-apart
 use Rattle.frame.proofs.form as frame-form
@@ -66,102 +68,122 @@ pub record AsksNothing {M : Type 1} (𝓤 : URA M) {Ghost : Type 0} (requires : 
   pub bound : Ghost
   pub required : (ghost : Ghost) → requires ghost ≡ connectives 𝓤 .⊤ₛ
 
--- M is what the logic's resources are made of, and 𝓤 H 𝓜 𝓖 𝓡 a model over it of memory, ghost state and running: a
--- contract is met at every one.
+-- M is what the logic's resources are made of, and 𝓤 H 𝓜 𝓖 𝓡 a model over it of memory, ghost state and running: what
+-- is said of a contract is said at every one. T has the call's signature; κs are the lifetimes of what it is lent.
 module _ (M : Type 1) where
-  -- A contract at every model: what is bound, required and ensured at each choice of lifetimes and arguments.
-  abbrev pub Contract : Signature → Type 2
-  Contract S = (𝓤 : URA M) (H : Heap 𝓤) → Atoms 𝓤 → (Memory → SProp 𝓤) → (Routine → Fun 𝓤) → Spec 𝓤 S
+  module _ (T : Ended) where
+    abbrev S : Signature
+    S = T .signature
 
-  -- A call, by its signature, its code and its contract: the code meets the contract, so that it ends with an answer
-  -- that keeps the promise; the same contract asks nothing of its caller, whatever it is handed; and no second answer
-  -- keeps the promise. That the contract's `ensures` is this promise alone, tools/calls sees to.
-  pub record Answers (S : Signature) (routine : Routine) (contract : Contract S) (Only : Type 0) : Type 2 where
-    pub meets : (𝓤 : URA M) (H : Heap 𝓤) (𝓜 : Model 𝓤 H) (𝓖 : GhostRules 𝓤 H) (𝓡 : Running 𝓤 H 𝓜)
-        → Meets 𝓤 H (𝓖 .A) S (𝓡 .run routine) (contract 𝓤 H (𝓖 .A) (𝓜 .mem) (𝓡 .run))
-    pub asks-nothing : {𝓤 : URA M} {H : Heap 𝓤} {A : Atoms 𝓤} {mem : Memory → SProp 𝓤} {run : Routine → Fun 𝓤}
-        {κs : Lfts (S .lifetimes)} {args : Args S κs}
-        → AsksNothing 𝓤 (contract 𝓤 H A mem run κs args .requires)
-    pub only : Only
+    abbrev pub Contract : Type 2
+    Contract = (𝓤 : URA M) (H : Heap 𝓤) → Atoms 𝓤 → (Memory → SProp 𝓤) → (Routine → Fun 𝓤) → Spec 𝓤 S
+
+    -- A call, by its code and its contract, where `Same` says when two answers are the same one.
+    pub record AnswersBy (routine : Routine) (contract : Contract)
+        (Same : (κs : Lfts (S .lifetimes)) (r s : Res S κs) → Type 0) (Only : Type 0) : Type 2 where
+      -- The code meets the contract: it ends with an answer for which the contract's `ensures` holds.
+      pub meets : (𝓤 : URA M) (H : Heap 𝓤) (𝓜 : Model 𝓤 H) (𝓖 : GhostRules 𝓤 H) (𝓡 : Running 𝓤 H 𝓜)
+          → Meets 𝓤 H (𝓖 .A) S (𝓡 .run routine) (contract 𝓤 H (𝓖 .A) (𝓜 .mem) (𝓡 .run))
+      -- The contract asks nothing of its caller, whatever it is handed.
+      pub asks-nothing : {𝓤 : URA M} {H : Heap 𝓤} {A : Atoms 𝓤} {mem : Memory → SProp 𝓤} {run : Routine → Fun 𝓤}
+          {κs : Lfts (S .lifetimes)} {args : Args S κs}
+          → AsksNothing 𝓤 (contract 𝓤 H A mem run κs args .requires)
+      -- Its `ensures` is one promise: of the arguments, of the answer, and of the parameters as the call leaves them.
+      pub Promise : (κs : Lfts (S .lifetimes)) → Args S κs → Res S κs → AtExit T κs → Type 0
+      pub promises : (𝓤 : URA M) (H : Heap 𝓤) (A : Atoms 𝓤) (mem : Memory → SProp 𝓤) (run : Routine → Fun 𝓤)
+          (κs : Lfts (S .lifetimes)) (args : Args S κs) (ghost : contract 𝓤 H A mem run κs args .ghost) (r : Res S κs)
+          → contract 𝓤 H A mem run κs args .ensures ghost r
+          ≡ exits 𝓤 H A S (T .kept) κs args (λ end. connectives 𝓤 .⌜_⌝ (Promise κs args r end))
+      -- No second answer keeps the promise, and nothing else is left in what was lent to be written.
+      pub one-answer : (κs : Lfts (S .lifetimes)) (args : Args S κs) (r s : Res S κs) (left left′ : Lasts T κs args)
+          → Promise κs args r (atExit T κs args left) → Promise κs args s (atExit T κs args left′)
+          → Same κs r s × (left ≡ left′)
+      -- The same, in the words of the part's own laws.
+      pub only : Only
+
+    abbrev pub Answers : Routine → Contract → Type 0 → Type 2
+    Answers routine contract Only = AnswersBy routine contract (λ κs r s. r ≡ s) Only
 
   pub record EveryCallOver : Type 2 where
     -- Identifier
     pub frame-take-apart :
-        Answers frame-take-apart.signature frame-take-apart.Symbol.routine frame-take-apart.spec Frame.TakeApartOnly
-    pub frame-form : Answers frame-form.signature frame-form.Symbol.routine frame-form.spec Frame.FormOnly
-    pub frame-check : Answers frame-check.signature frame-check.Symbol.routine frame-check.spec Frame.CheckOnly
+        Answers frame-take-apart.ended frame-take-apart.Symbol.routine frame-take-apart.spec Frame.TakeApartOnly
+    pub frame-form : Answers frame-form.ended frame-form.Symbol.routine frame-form.spec Frame.FormOnly
+    pub frame-check : Answers frame-check.ended frame-check.Symbol.routine frame-check.spec Frame.CheckOnly
     pub frame-destination-of :
-        Answers frame-destination-of.signature frame-destination-of.Symbol.routine frame-destination-of.spec
+        Answers frame-destination-of.ended frame-destination-of.Symbol.routine frame-destination-of.spec
         Frame.DestinationOfOnly
     pub frame-catalogue-form :
-        Answers frame-catalogue-form.signature frame-catalogue-form.Symbol.routine frame-catalogue-form.spec
+        Answers frame-catalogue-form.ended frame-catalogue-form.Symbol.routine frame-catalogue-form.spec
         Frame.CatalogueFormOnly
     pub frame-number-of :
-        Answers frame-number-of.signature frame-number-of.Symbol.routine frame-number-of.spec Frame.NumberOfOnly
+        Answers frame-number-of.ended frame-number-of.Symbol.routine frame-number-of.spec Frame.NumberOfOnly
     pub frame-bytes-of :
-        Answers frame-bytes-of.signature frame-bytes-of.Symbol.routine frame-bytes-of.spec Frame.BytesOfOnly
+        Answers frame-bytes-of.ended frame-bytes-of.Symbol.routine frame-bytes-of.spec Frame.BytesOfOnly
     -- Long messages, eight senders at once
-    pub message-new : Answers message-new.signature message-new.Symbol.routine message-new.spec Message.NewOnly
-    pub message-hear : Answers message-hear.signature message-hear.Symbol.routine message-hear.spec Message.HearOnly
+    pub message-new : Answers message-new.ended message-new.Symbol.routine message-new.spec Message.NewOnly
+    pub message-hear : Answers message-hear.ended message-hear.Symbol.routine message-hear.spec Message.HearOnly
     pub message-pause :
-        Answers message-pause.signature message-pause.Symbol.routine message-pause.spec Message.PauseOnly
+        Answers message-pause.ended message-pause.Symbol.routine message-pause.spec Message.PauseOnly
+    -- the answer is a part of the storage: two are the same that have the same bytes
     pub message-message :
-        Answers message-message.signature message-message.Symbol.routine message-message.spec Message.MessageOnly
+        AnswersBy message-message.ended message-message.Symbol.routine message-message.spec (λ κs r s. now r ≡ now s)
+        Message.MessageOnly
     pub message-announcement :
-        Answers message-announcement.signature message-announcement.Symbol.routine message-announcement.spec
+        Answers message-announcement.ended message-announcement.Symbol.routine message-announcement.spec
         Message.AnnouncementOnly
     pub message-packet :
-        Answers message-packet.signature message-packet.Symbol.routine message-packet.spec Message.PacketOnly
+        Answers message-packet.ended message-packet.Symbol.routine message-packet.spec Message.PacketOnly
     -- Field catalogue
     pub catalogue-rows :
-        Answers catalogue-rows.signature catalogue-rows.Symbol.routine catalogue-rows.spec Catalogue.RowsOnly
+        Answers catalogue-rows.ended catalogue-rows.Symbol.routine catalogue-rows.spec Catalogue.RowsOnly
     pub catalogue-row-at :
-        Answers catalogue-row-at.signature catalogue-row-at.Symbol.routine catalogue-row-at.spec Catalogue.RowAtOnly
+        Answers catalogue-row-at.ended catalogue-row-at.Symbol.routine catalogue-row-at.spec Catalogue.RowAtOnly
     pub catalogue-rows-of :
-        Answers catalogue-rows-of.signature catalogue-rows-of.Symbol.routine catalogue-rows-of.spec Catalogue.RowsOfOnly
+        Answers catalogue-rows-of.ended catalogue-rows-of.Symbol.routine catalogue-rows-of.spec Catalogue.RowsOfOnly
     pub catalogue-classify :
-        Answers catalogue-classify.signature catalogue-classify.Symbol.routine catalogue-classify.spec
+        Answers catalogue-classify.ended catalogue-classify.Symbol.routine catalogue-classify.spec
         Catalogue.ClassifyOnly
     pub catalogue-read :
-        Answers catalogue-read.signature catalogue-read.Symbol.routine catalogue-read.spec Catalogue.ReadOnly
+        Answers catalogue-read.ended catalogue-read.Symbol.routine catalogue-read.spec Catalogue.ReadOnly
     pub catalogue-read-scaled :
-        Answers catalogue-read-scaled.signature catalogue-read-scaled.Symbol.routine catalogue-read-scaled.spec
+        Answers catalogue-read-scaled.ended catalogue-read-scaled.Symbol.routine catalogue-read-scaled.spec
         Catalogue.ReadScaledOnly
     pub catalogue-write :
-        Answers catalogue-write.signature catalogue-write.Symbol.routine catalogue-write.spec Catalogue.WriteOnly
+        Answers catalogue-write.ended catalogue-write.Symbol.routine catalogue-write.spec Catalogue.WriteOnly
     -- Claiming an address
-    pub claim-start : Answers claim-start.signature claim-start.Symbol.routine claim-start.spec Claim.StartOnly
-    pub claim-hear : Answers claim-hear.signature claim-hear.Symbol.routine claim-hear.spec Claim.HearOnly
-    pub claim-pause : Answers claim-pause.signature claim-pause.Symbol.routine claim-pause.spec Claim.PauseOnly
-    pub claim-stands : Answers claim-stands.signature claim-stands.Symbol.routine claim-stands.spec Claim.StandsOnly
+    pub claim-start : Answers claim-start.ended claim-start.Symbol.routine claim-start.spec Claim.StartOnly
+    pub claim-hear : Answers claim-hear.ended claim-hear.Symbol.routine claim-hear.spec Claim.HearOnly
+    pub claim-pause : Answers claim-pause.ended claim-pause.Symbol.routine claim-pause.spec Claim.PauseOnly
+    pub claim-stands : Answers claim-stands.ended claim-stands.Symbol.routine claim-stands.spec Claim.StandsOnly
     pub claim-our-claim :
-        Answers claim-our-claim.signature claim-our-claim.Symbol.routine claim-our-claim.spec Claim.OurClaimOnly
+        Answers claim-our-claim.ended claim-our-claim.Symbol.routine claim-our-claim.spec Claim.OurClaimOnly
     pub claim-keeps-rules :
-        Answers claim-keeps-rules.signature claim-keeps-rules.Symbol.routine claim-keeps-rules.spec Claim.KeepsRulesOnly
+        Answers claim-keeps-rules.ended claim-keeps-rules.Symbol.routine claim-keeps-rules.spec Claim.KeepsRulesOnly
     pub claim-holds-list :
-        Answers claim-holds-list.signature claim-holds-list.Symbol.routine claim-holds-list.spec Claim.HoldsListOnly
+        Answers claim-holds-list.ended claim-holds-list.Symbol.routine claim-holds-list.spec Claim.HoldsListOnly
     -- Node table
-    pub nodes-hear : Answers nodes-hear.signature nodes-hear.Symbol.routine nodes-hear.spec Nodes.HearOnly
-    pub nodes-look-up : Answers nodes-look-up.signature nodes-look-up.Symbol.routine nodes-look-up.spec Nodes.LookUpOnly
+    pub nodes-hear : Answers nodes-hear.ended nodes-hear.Symbol.routine nodes-hear.spec Nodes.HearOnly
+    pub nodes-look-up : Answers nodes-look-up.ended nodes-look-up.Symbol.routine nodes-look-up.spec Nodes.LookUpOnly
     -- Commands, requests, replies
     pub command-start :
-        Answers command-start.signature command-start.Symbol.routine command-start.spec Command.StartOnly
+        Answers command-start.ended command-start.Symbol.routine command-start.spec Command.StartOnly
     pub command-route :
-        Answers command-route.signature command-route.Symbol.routine command-route.spec Command.RouteOnly
+        Answers command-route.ended command-route.Symbol.routine command-route.spec Command.RouteOnly
     pub command-request :
-        Answers command-request.signature command-request.Symbol.routine command-request.spec Command.RequestOnly
+        Answers command-request.ended command-request.Symbol.routine command-request.spec Command.RequestOnly
     pub command-acknowledge :
-        Answers command-acknowledge.signature command-acknowledge.Symbol.routine command-acknowledge.spec
+        Answers command-acknowledge.ended command-acknowledge.Symbol.routine command-acknowledge.spec
         Command.AcknowledgeOnly
     -- The capture reader
     pub capture-take-apart :
-        Answers capture-take-apart.signature capture-take-apart.Symbol.routine capture-take-apart.spec
+        Answers capture-take-apart.ended capture-take-apart.Symbol.routine capture-take-apart.spec
         Capture.TakeApartOnly
     pub capture-write :
-        Answers capture-write.signature capture-write.Symbol.routine capture-write.spec Capture.WriteOnly
-    pub capture-new : Answers capture-new.signature capture-new.Symbol.routine capture-new.spec Capture.NewOnly
-    pub capture-next : Answers capture-next.signature capture-next.Symbol.routine capture-next.spec Capture.NextOnly
-    pub capture-last : Answers capture-last.signature capture-last.Symbol.routine capture-last.spec Capture.LastOnly
+        Answers capture-write.ended capture-write.Symbol.routine capture-write.spec Capture.WriteOnly
+    pub capture-new : Answers capture-new.ended capture-new.Symbol.routine capture-new.spec Capture.NewOnly
+    pub capture-next : Answers capture-next.ended capture-next.Symbol.routine capture-next.spec Capture.NextOnly
+    pub capture-last : Answers capture-last.ended capture-last.Symbol.routine capture-last.spec Capture.LastOnly
 
 abbrev pub EveryCall : Type 2
 EveryCall = (M : Type 1) → EveryCallOver M
