@@ -12,8 +12,8 @@ use Rattle.demands.specs.EveryCall.{EveryCall}
 use Rattle.demands.specs.BusyBus.{BusyBus, OpenOnBus, ToldOnBus, NoPlaceFree, PauseCount, SumsOfPauses, StartKept, RulesKept, EveryRunRuns, NoPlaceFreeAt, PauseCountAt}
 use Rattle.demands.specs.SplitAndJoin.{SplitAndJoin, JoinedByRules}
 
--- 1. Every public call ends with an answer for every input. No call relies on an earlier check. Each refusal carries document 01's number and changes
--- nothing lent or held, but 10 closes that sender's message.
+-- 1. Every public call ends with an answer for every input. No call relies on an earlier check. Each refusal carries
+-- document 01's number and changes nothing lent or held, but 10 closes that sender's message.
 pub record DemandOne : Type 2 where
   pub calls : EveryCall
   -- zeros, the state that was handed in, and the lent bytes stand beside a refusal
@@ -33,15 +33,17 @@ pub record DemandOne : Type 2 where
   pub acknowledge : Command.AcknowledgeRefusedKeeps
   pub line : Capture.MalformedKeeps
 
--- 2. Frames, fields and long messages are read and written as RV-C and J1939 define them; what the splitter splits, the receiver joins to the same bytes.
--- The promises of demand 1 say that the calls read and write what the definitions say; these laws say that reading and writing undo each other.
+-- 2. Frames, fields and long messages are read and written as RV-C and J1939 define them; what the splitter splits, the
+-- receiver joins to the same bytes. The promises of demand 1 say that the calls read and write what the definitions
+-- say; these laws say that reading and writing undo each other.
 pub record DemandTwo : Type 0 where
   -- identifiers, and bytes as one number
   pub parts-back : Frame.PartsBack
   pub identifier-back : Frame.IdentifierBack
   pub number-back : Frame.NumberBack
   pub bytes-back : Frame.BytesBack
-  -- fields: every row lies in the frame and shares no bit, bit 8b+k is bit k of byte b, and what is written is read back and alters nothing else
+  -- fields: every row lies in the frame and shares no bit, bit 8b+k is bit k of byte b, and what is written is read
+  -- back and alters nothing else
   pub rising : Catalogue.Rising
   pub ends : Catalogue.Ends
   pub apart : Catalogue.Apart
@@ -61,11 +63,12 @@ pub record DemandTwo : Type 0 where
   pub taken-apart-written : Capture.TakenApartWritten
   pub blocks-do-not-matter : Capture.BlocksDoNotMatter
 
--- 3. A busy bus reads like a quiet one: for a sender that never met "no place free", every answer, bytes included, is the one that the single-sender
--- rules give. In every run of calls.
+-- 3. A busy bus reads like a quiet one: for a sender that never met "no place free", every answer, bytes included, is
+-- the one that the single-sender rules give. In every run of calls.
 pub record DemandThree : Type 0 where
   pub busy-bus : BusyBus
-  -- more: whoever met it, what is open, what is told, who meets "no place free" and what a pause closes is what those rules say of the bus
+  -- more: whoever met it, what is open, what is told, who meets "no place free" and what a pause closes is what those
+  -- rules say of the bus
   pub open-on-bus : OpenOnBus
   pub told-on-bus : ToldOnBus
   pub no-place-free : NoPlaceFree

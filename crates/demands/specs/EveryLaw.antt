@@ -65,7 +65,8 @@ pub record LayoutLaws (P S : Type 0) (L : Layout P S) : Type 0 where
   pub blank-view : Places.BlankView L
 
 -- any step of a receiver of any format and layout,
-pub record StepLaws (P : Type 0) (𝓕 : Format) (L : Layout P (𝓕 .Session)) (f : 𝓕 .Frame) (ps : List P) (s : List ℕ) : Type 0 where
+pub record StepLaws (P : Type 0) (𝓕 : Format) (L : Layout P (𝓕 .Session)) (f : 𝓕 .Frame) (ps : List P) (s : List ℕ)
+    : Type 0 where
   pub shows-fixed : PlacesReceiver.ShowsFixed 𝓕 L f ps s
   pub shows-opens-held : PlacesReceiver.ShowsOpensHeld 𝓕 L f ps s
   pub shows-opens-free : PlacesReceiver.ShowsOpensFree 𝓕 L f ps s
@@ -116,7 +117,9 @@ pub record PlacesLaws : Type 1 where
   pub stretch-same : Places.StretchSame
   pub stretch-other : Places.StretchOther
   pub layouts : (P S : Type 0) (L : Layout P S) → LayoutLaws P S L
-  pub steps : (P : Type 0) (𝓕 : Format) (L : Layout P (𝓕 .Session)) (f : 𝓕 .Frame) (ps : List P) (s : List ℕ) → StepLaws P 𝓕 L f ps s
+  pub steps :
+      (P : Type 0) (𝓕 : Format) (L : Layout P (𝓕 .Session)) (f : 𝓕 .Frame) (ps : List P) (s : List ℕ)
+      → StepLaws P 𝓕 L f ps s
   pub pauses : (P : Type 0) (𝓕 : Format) (L : Layout P (𝓕 .Session)) → PauseLaws P 𝓕 L
   pub formats : (𝓕 : Format) → FormatLaws 𝓕
   pub calls : (𝓕 : Format) (𝓒 : Calls 𝓕) → KeepsPlaces 𝓒 → CallLaws 𝓕 𝓒
@@ -150,7 +153,8 @@ pub record MessageLaws : Type 0 where
   pub not-beyond : Message.NotBeyond
   pub splitter-announces : Message.SplitterAnnounces
   pub splitter-cuts : Message.SplitterCuts
-  pub lowest-wins : (id : ℕ) (bytes : List ℕ) (places : List Place) (storage : List ℕ) → Message.LowestWins id bytes places storage
+  pub lowest-wins :
+      (id : ℕ) (bytes : List ℕ) (places : List Place) (storage : List ℕ) → Message.LowestWins id bytes places storage
 
 pub record CatalogueLaws : Type 0 where
   pub told-looked-same : Catalogue.ToldLookedSame
@@ -284,7 +288,8 @@ pub record CommandLaws : Type 0 where
   pub acknowledge-sends-ours : Command.AcknowledgeSendsOurs
   pub example-eleven : Command.ExampleEleven
   pub lowest-wins : (id : ℕ) (bytes : List ℕ) (h : Host) (c : Claim) → Command.LowestWins id bytes h c
-  pub acknowledge-lowest-wins : (c : Claim) (requester code instance dgn : ℕ) → Command.AcknowledgeLowestWins c requester code instance dgn
+  pub acknowledge-lowest-wins :
+      (c : Claim) (requester code instance dgn : ℕ) → Command.AcknowledgeLowestWins c requester code instance dgn
 
 pub record CaptureLaws : Type 0 where
   pub told-reading-same : Capture.ToldReadingSame

@@ -1,6 +1,7 @@
--- The second demand, of long messages: what the splitter splits, the receiver joins to the same sender, DGN and bytes. For every message of 9
--- to 1,785 bytes and every DGN up to 1FFFFh; pauses between two consecutive frames of the message sum to at most 750 ms; and other frames of that
--- sender may come in between, but data packets and announcements.
+-- The second demand, of long messages: what the splitter splits, the receiver joins to the same sender, DGN and bytes.
+-- For every message of 9 to 1,785 bytes and every DGN up to 1FFFFh; pauses between two consecutive frames of the
+-- message sum to at most 750 ms; and other frames of that sender may come in between, but data packets and
+-- announcements.
 use mathlib.Core.Path.{_≡_}
 use mathlib.Core.Bool.{Bool, true, false}
 use mathlib.Core.List.{List, [], _∷_, _++_}
@@ -32,8 +33,8 @@ isApart (gives other) = true
 isApart (gives (announcement sender size dgn)) = false
 isApart (gives (packet sender number)) = false
 
--- What a sender does that is to send packet `number` next, when `sum` ms have passed since the message's last frame: it pauses, sends something
--- else, sends what `packet` answers for that number, and ends with the last one.
+-- What a sender does that is to send packet `number` next, when `sum` ms have passed since the message's last frame: it
+-- pauses, sends something else, sends what `packet` answers for that number, and ends with the last one.
 pub data Sending (message : List ℕ) (dgn sender : ℕ) : ℕ → ℕ → List (Event Frame) → Type 0 where
   pauses : {number sum : ℕ} {events : List (Event Frame)} (ms : ℕ) → sum + ms ≤ idleLimit
       → Sending message dgn sender number (sum + ms) events → Sending message dgn sender number sum (pause ms ∷ events)
@@ -49,8 +50,10 @@ pub data Sending (message : List ℕ) (dgn sender : ℕ) : ℕ → ℕ → List 
 
 -- The whole message: what `announcement` answers, and then its packets.
 pub data Sent (message : List ℕ) (dgn sender : ℕ) : List (Event Frame) → Type 0 where
-  announces : {events : List (Event Frame)} (priority : ℕ) (r : Announced) → priority ≤ lowestPriority → Announcement message dgn r
-      → Sending message dgn sender 1 0 events → Sent message dgn sender (frame (sent priority announcementDgn sender (r .bytes)) ∷ events)
+  announces : {events : List (Event Frame)} (priority : ℕ) (r : Announced) → priority ≤ lowestPriority
+      → Announcement message dgn r
+      → Sending message dgn sender 1 0 events
+      → Sent message dgn sender (frame (sent priority announcementDgn sender (r .bytes)) ∷ events)
 
 -- a message, a DGN and a sender within document 01's limits
 pub record Sendable (message : List ℕ) (dgn sender : ℕ) : Type 0 where
@@ -59,17 +62,21 @@ pub record Sendable (message : List ℕ) (dgn sender : ℕ) : Type 0 where
   pub about : dgn ≤ greatestDgn
   pub named : sender ≤ greatestSender
 
--- On any bus, in any run of calls: where the sender's own frames without those answered 8, and the pauses, end with such a message, the last thing that
--- it is told is that message.
+-- On any bus, in any run of calls: where the sender's own frames without those answered 8, and the pauses, end with
+-- such a message, the last thing that it is told is that message.
 abbrev pub SplitAndJoin : Type 0
 SplitAndJoin =
     (message : List ℕ) (dgn sender : ℕ) (h : History longMessages) (s : Held) (earlier own : List (Event Frame))
-    → Sendable message dgn sender → FromStart receiverCalls h s → admitted longMessages sender h ≡ earlier ++ own → Sent message dgn sender own
-    → (answers : List (Told Tells)) × (answered (toldTo longMessages sender h) ≡ answers ++ (gives (finished sender dgn message) ∷ []))
+    → Sendable message dgn sender → FromStart receiverCalls h s → admitted longMessages sender h ≡ earlier ++ own
+    → Sent message dgn sender own
+    → (answers : List (Told Tells))
+    × (answered (toldTo longMessages sender h) ≡ answers ++ (gives (finished sender dgn message) ∷ []))
 
 -- By the single-sender rules: whatever was open, the last answer hands over the message.
 abbrev pub JoinedByRules : Type 0
 JoinedByRules =
-    (message : List ℕ) (dgn sender : ℕ) (events : List (Event Frame)) → Sendable message dgn sender → Sent message dgn sender events
+    (message : List ℕ) (dgn sender : ℕ) (events : List (Event Frame)) → Sendable message dgn sender
+    → Sent message dgn sender events
     → (before : Option Open)
-    → (answers : List (Told Tells)) × (solo longMessages before events ≡ answers ++ (gives (finished sender dgn message) ∷ []))
+    → (answers : List (Told Tells))
+    × (solo longMessages before events ≡ answers ++ (gives (finished sender dgn message) ∷ []))

@@ -1,5 +1,5 @@
--- Document 01's proved examples: one table, one statement. A line has the example's number, what the promise's own definition gives, and what 01
--- prints, both as numbers: a refusal is its number alone, what is given begins with 0.
+-- Document 01's proved examples: one table, one statement. A line has the example's number, what the promise's own
+-- definition gives, and what 01 prints, both as numbers: a refusal is its number alone, what is given begins with 0.
 use mathlib.Core.Path.{_≡_}
 use mathlib.Core.Bool.{false}
 use mathlib.Core.List.{List, [], _∷_, _++_}
@@ -72,14 +72,17 @@ abbrev pub sent : Told Acknowledgment.Frame → List ℕ
 sent (refused n) = n ∷ []
 sent (gives f) = 0 ∷ f .id ∷ f .bytes
 
--- What a sender is told in a run, as the definition of the receiver gives it: from a new receiver, over storage of zeros, handed on as each frame leaves it.
+-- What a sender is told in a run, as the definition of the receiver gives it: from a new receiver, over storage of
+-- zeros, handed on as each frame leaves it.
 
 abbrev pub toldFrom : ℕ → List Place → List ℕ → List (Event Frame) → List (Out (Told Tells))
 toldFrom sender places storage [] = []
 toldFrom sender places storage (frame f ∷ events) =
     let after = heard (f .id) (f .bytes) places storage in
     let later = toldFrom sender (after .places) (after .storage) events in
-    if sourceOf (f .id) =? sender then tells (messageIn (after .storage) (after .answer)) (after .answer) ∷ later else later
+    if sourceOf (f .id) =? sender
+    then tells (messageIn (after .storage) (after .answer)) (after .answer) ∷ later
+    else later
 toldFrom sender places storage (pause ms ∷ events) = toldFrom sender (pausedPlaces ms places) storage events
 
 abbrev pub storageOfZeros : List ℕ
@@ -115,8 +118,8 @@ announced low high packets = meaningOf 0x1CECFF54 (0x20 ∷ low ∷ high ∷ pac
 
 abbrev pub eightSenders : List (Event Frame)
 eightSenders =
-    announces 1 nineBytes ∷ announces 2 nineBytes ∷ announces 3 nineBytes ∷ announces 4 nineBytes ∷ announces 5 nineBytes ∷ announces 6 nineBytes
-    ∷ announces 7 nineBytes ∷ announces 8 nineBytes ∷ []
+    announces 1 nineBytes ∷ announces 2 nineBytes ∷ announces 3 nineBytes ∷ announces 4 nineBytes ∷ announces 5 nineBytes
+    ∷ announces 6 nineBytes ∷ announces 7 nineBytes ∷ announces 8 nineBytes ∷ []
 
 -- a node that holds 9Ch
 abbrev pub holding9C : Claim
@@ -153,7 +156,8 @@ longerAnnounced = line 3 (meaning (announced 0xFA 0x06 255)) (7 ∷ [])
 
 abbrev pub longestSplit : Line
 longestSplit =
-    line 3 (bytes (announcementOf (replicate 1785 0) 0xFEEB)) (0 ∷ 0x20 ∷ 0xF9 ∷ 0x06 ∷ 255 ∷ 0xFF ∷ 0xEB ∷ 0xFE ∷ 0 ∷ [])
+    line 3 (bytes (announcementOf (replicate 1785 0) 0xFEEB))
+    (0 ∷ 0x20 ∷ 0xF9 ∷ 0x06 ∷ 255 ∷ 0xFF ∷ 0xEB ∷ 0xFE ∷ 0 ∷ [])
 
 abbrev pub longerSplit : Line
 longerSplit = line 3 (bytes (announcementOf (replicate 1786 0) 0xFEEB)) (13 ∷ [])
@@ -205,9 +209,9 @@ slideAcknowledged =
 -- The one table. The crate `ledger` names its lines once more, so that one that is dropped here is missed there.
 abbrev pub table : List Line
 table =
-    dmRv ∷ eightAnnounced ∷ nineAnnounced ∷ eightSplit ∷ nineSplit ∷ longestAnnounced ∷ longerAnnounced ∷ longestSplit ∷ longerSplit
-    ∷ wrongCount ∷ idleKept ∷ idleClosed ∷ ninthSender ∷ longMessage ∷ lastNumber ∷ firstReserved ∷ zeroAmperes ∷ lowestCelsius
-    ∷ slideAcknowledged ∷ []
+    dmRv ∷ eightAnnounced ∷ nineAnnounced ∷ eightSplit ∷ nineSplit ∷ longestAnnounced ∷ longerAnnounced ∷ longestSplit
+    ∷ longerSplit ∷ wrongCount ∷ idleKept ∷ idleClosed ∷ ninthSender ∷ longMessage ∷ lastNumber ∷ firstReserved
+    ∷ zeroAmperes ∷ lowestCelsius ∷ slideAcknowledged ∷ []
 
 -- Each line is as printed.
 

@@ -1,5 +1,6 @@
--- Runs of calls: a receiver from `Receiver::new`, told by nothing but the promises of its calls. Each `hear` and `pause` is handed the state that the
--- call before it gave back, each `hear` the storage as the one before it left it, and after each `hear` the message is read by `message`.
+-- Runs of calls: a receiver from `Receiver::new`, told by nothing but the promises of its calls. Each `hear` and
+-- `pause` is handed the state that the call before it gave back, each `hear` the storage as the one before it left it,
+-- and after each `hear` the message is read by `message`.
 use mathlib.Core.Path.{_≡_}
 use mathlib.Core.Bool.{true}
 use mathlib.Core.List.{List}
@@ -33,8 +34,8 @@ pub record Keeps (s : Held) : Type 0 where
   pub rules : keepsRules (s .receiver .places) ≡ true
   pub enough : room ≤ length (s .storage)
 
--- What is told of a frame: refusal 8 is `full`, any other refusal its number; of a finished message the sender, the DGN, and the message that is read
--- then.
+-- What is told of a frame: refusal 8 is `full`, any other refusal its number; of a finished message the sender, the
+-- DGN, and the message that is read then.
 abbrev pub tells : List ℕ → Told Outcome → Out (Told Tells)
 tells message (refused n) = if n =? 8 then full else said (refused n)
 tells message (gives Receiver.nothingToDo) = said (gives nothingToDo)
@@ -46,7 +47,9 @@ tells message (gives (Receiver.finished place sender dgn size)) = said (gives (f
 pub record Hears (s : Held) (f : Frame) (told : Out (Told Tells)) (t : Held) : Type 0 where
   pub answer : Answer
   pub message : List ℕ
-  pub hear : Hear (f .id) (f .bytes) (s .receiver .places) (s .storage) (record { receiver = t .receiver; answer = answer }) (t .storage)
+  pub hear :
+      Hear (f .id) (f .bytes) (s .receiver .places) (s .storage) (record { receiver = t .receiver; answer = answer })
+      (t .storage)
   pub read : Message (t .storage) answer message
   pub told-so : told ≡ tells message (toldAnswer answer)
 

@@ -1,5 +1,6 @@
--- The laws of this crate, each a named statement. proofs/Laws.antt has a proof of each, under the same name written small. The larger theorems,
--- that a busy bus reads like a quiet one and that what is split is joined, stand in the crate `demands`.
+-- The laws of this crate, each a named statement. proofs/Laws.antt has a proof of each, under the same name written
+-- small. The larger theorems, that a busy bus reads like a quiet one and that what is split is joined, stand in the
+-- crate `demands`.
 use mathlib.Core.Path.{_≡_}
 use mathlib.Core.Bool.{true, false}
 use mathlib.Core.List.{List}
@@ -57,13 +58,16 @@ abbrev pub PauseOnly : Type 0
 PauseOnly = (ms : ℕ) (places : List Place) (r s : Paused) → Pause ms places r → Pause ms places s → r ≡ s
 
 abbrev pub MessageOnly : Type 0
-MessageOnly = (storage : List ℕ) (answer : Answer) (r s : List ℕ) → Message storage answer r → Message storage answer s → r ≡ s
+MessageOnly =
+    (storage : List ℕ) (answer : Answer) (r s : List ℕ) → Message storage answer r → Message storage answer s → r ≡ s
 
 abbrev pub AnnouncementOnly : Type 0
-AnnouncementOnly = (message : List ℕ) (dgn : ℕ) (r s : Announced) → Announcement message dgn r → Announcement message dgn s → r ≡ s
+AnnouncementOnly =
+    (message : List ℕ) (dgn : ℕ) (r s : Announced) → Announcement message dgn r → Announcement message dgn s → r ≡ s
 
 abbrev pub PacketOnly : Type 0
-PacketOnly = (message : List ℕ) (dgn number : ℕ) (r s : Cut) → Packet message dgn number r → Packet message dgn number s → r ≡ s
+PacketOnly =
+    (message : List ℕ) (dgn number : ℕ) (r s : Cut) → Packet message dgn number r → Packet message dgn number s → r ≡ s
 
 -- A refusal keeps state and storage; 10 closes the sender's place, and keeps every other place and all bytes.
 
@@ -90,14 +94,17 @@ PauseRefusedKeeps =
     (ms : ℕ) (places : List Place) (r : Paused) (n : ℕ)
     → Pause ms places r → toldPausing (r .answer) ≡ refused n → r .receiver .places ≡ places
 
--- The lowest number wins: the storage, then the state, then what the frame alone earns, then a malformed announcement; 8, 9 and 10 come after.
+-- The lowest number wins: the storage, then the state, then what the frame alone earns, then a malformed announcement;
+-- 8, 9 and 10 come after.
 pub record LowestWins (id : ℕ) (bytes : List ℕ) (places : List Place) (storage : List ℕ) : Type 0 where
   pub storage-first : length storage < room → heard id bytes places storage .answer ≡ refused 1
   pub state-next : room ≤ length storage → keepsRules places ≡ false → heard id bytes places storage .answer ≡ refused 2
   pub frame-next :
-      (n : ℕ) → room ≤ length storage → keepsRules places ≡ true → checkedOf id (length bytes) ≡ refused n → heard id bytes places storage .answer ≡ refused n
+      (n : ℕ) → room ≤ length storage → keepsRules places ≡ true → checkedOf id (length bytes) ≡ refused n
+      → heard id bytes places storage .answer ≡ refused n
   pub announcement-next :
-      (n : ℕ) → room ≤ length storage → keepsRules places ≡ true → meaningOf id bytes ≡ refused n → heard id bytes places storage .answer ≡ refused n
+      (n : ℕ) → room ≤ length storage → keepsRules places ≡ true → meaningOf id bytes ≡ refused n
+      → heard id bytes places storage .answer ≡ refused n
 
 -- A stored packet writes its own bytes and no others: byte k of the storage is the expected packet's own where it is
 -- among the bytes that place i, holding p, still needs from it.
@@ -130,7 +137,9 @@ WritesItsOwn =
 
 -- Its own bytes lie within the message's length: none beyond it is ever written.
 abbrev pub NotBeyond : Type 0
-NotBeyond = (p : Place) (i k : ℕ) → 1 ≤ p .expected → p .expected ≤ packetsOf (p .length) → ItsOwn p i k → k < longest * i + p .length
+NotBeyond =
+    (p : Place) (i k : ℕ) → 1 ≤ p .expected → p .expected ≤ packetsOf (p .length) → ItsOwn p i k
+    → k < longest * i + p .length
 
 -- What the announcement of a message answers: 12 for a DGN above 1FFFFh, else 13 for a length outside 9 to 1,785, and
 -- otherwise the bytes.

@@ -1,5 +1,6 @@
--- The single-sender rules (document 01, "Long messages, one sender"): what an announcement, a data packet and a pause do to the one message
--- that a sender may have open. No places and no storage: an open message is what has been collected of it.
+-- The single-sender rules (document 01, "Long messages, one sender"): what an announcement, a data packet and a pause
+-- do to the one message that a sender may have open. No places and no storage: an open message is what has been
+-- collected of it.
 use mathlib.Core.List.{List, [], _++_}
 use mathlib.Core.Option.{Option, some, none}
 use Prim.Native.Nat.{ℕ, _+_}

@@ -1,5 +1,5 @@
--- What each public call of this crate promises: one proposition over answer, state and every lent byte. The answers are read in document
--- 01's terms.
+-- What each public call of this crate promises: one proposition over answer, state and every lent byte. The answers are
+-- read in document 01's terms.
 use mathlib.Core.Path.{_≡_}
 use mathlib.Core.Bool.{Bool, true, false}
 use mathlib.Core.List.{List, [], map}
@@ -67,7 +67,8 @@ pub record Pause (ms : ℕ) (state : List Place) (r : Paused) : Type 0 where
   pub places : r .receiver .places ≡ pausedPlaces ms state
   pub answer : toldPausing (r .answer) ≡ pausedAnswer ms state
 
--- message: the finished message is that part of the storage, and empty where no message was finished, or no such answer is ever given
+-- message: the finished message is that part of the storage, and empty where no message was finished, or no such answer
+-- is ever given
 
 abbrev pub partOf : List ℕ → ℕ → ℕ → List ℕ
 partOf storage place size = if (placeCount ≤? place) or (longest <? size) then [] else take size (drop (longest * place) storage)

@@ -34,7 +34,8 @@ freePlace = record { sender = 0; length = 0; dgn = 0; expected = 0; idle = 0 }
 abbrev pub isFree : Place → Bool
 isFree p = p .length =? 0
 
--- A place and its stretch of the storage are the open message: what is collected stands at the beginning of the stretch.
+-- A place and its stretch of the storage are the open message: what is collected stands at the beginning of the
+-- stretch.
 abbrev pub openMessage : Place → List ℕ → Open
 openMessage p stretch =
     record {
@@ -100,7 +101,8 @@ unfoldable pub announces : ℕ → ℕ → ℕ → List Place → List ℕ → A
 announces sender size dgn places storage =
     openedAt (placeFor sender places) (record { sender = sender; length = size; dgn = dgn; expected = 1; idle = 0 }) places storage
 
--- A data packet: the expected number is stored in its place's own stretch, from 7 (number - 1) on, and only what the length still needs.
+-- A data packet: the expected number is stored in its place's own stretch, from 7 (number - 1) on, and only what the
+-- length still needs.
 
 abbrev pub keptAt : ℕ → Place → List ℕ → List ℕ → List ℕ
 keptAt i p bytes storage =

@@ -1,4 +1,5 @@
--- The splitter: a message as an announcement and numbered data packets (document 01, "Eight senders at once", last paragraph).
+-- The splitter: a message as an announcement and numbered data packets (document 01, "Eight senders at once", last
+-- paragraph).
 use mathlib.Core.List.{List, [], _∷_, _++_}
 use Prim.Native.Nat.{ℕ, _+_, _-_, _*_}
 use lib.ListN.{length, take, drop, replicate}

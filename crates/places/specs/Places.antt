@@ -21,7 +21,8 @@ pub data Out (A : Type 0) : Type 0 where
   full : Out A
   said : A → Out A
 
--- What happened in a run, as it was told: a frame with its answer; a pause, in milliseconds, with how many sessions it closed, or the refusal.
+-- What happened in a run, as it was told: a frame with its answer; a pause, in milliseconds, with how many sessions it
+-- closed, or the refusal.
 pub data Happened (F A : Type 0) : Type 0 where
   heard : F → Out A → Happened F A
   paused : ℕ → Told ℕ → Happened F A

@@ -1,5 +1,5 @@
--- One step of a receiver on its place structs and its storage: what it has to do with the places of its format, case by case. proofs/Receiver.antt
--- has a proof of each.
+-- One step of a receiver on its place structs and its storage: what it has to do with the places of its format, case by
+-- case. proofs/Receiver.antt has a proof of each.
 use mathlib.Core.Path.{_≡_}
 use mathlib.Core.Bool.{true}
 use mathlib.Core.List.{List, map}
@@ -11,7 +11,8 @@ use Rattle.places.specs.Statements.{isOpening}
 use Rattle.places.specs.Layout.{first, stretch, AgreeBut, Layout, openBy, seat, view, oneEach}
 use Rattle.places.specs.declared.Found.the-variants.{At, Nowhere}
 
--- One step of a receiver: structs ps and storage s become qs and t with the answer o, and the places that they are seen as do the same.
+-- One step of a receiver: structs ps and storage s become qs and t with the answer o, and the places that they are seen
+-- as do the same.
 pub record Shows {P : Type 0} (𝓕 : Format) (L : Layout P (𝓕 .Session)) (f : 𝓕 .Frame) (ps : List P) (s : List ℕ) (qs : List P) (t : List ℕ)
     (o : Out (𝓕 .Answer)) : Type 0 where
   pub places : view L qs t ≡ hear 𝓕 f (view L ps s) .next
@@ -25,14 +26,17 @@ module _ {P : Type 0} (𝓕 : Format) (L : Layout P (𝓕 .Session)) (f : 𝓕 .
   -- an opening: in the key's place, in the lowest free place, or nowhere
   abbrev pub ShowsOpensHeld : Type 0
   ShowsOpensHeld =
-      (x : 𝓕 .Session) (a : 𝓕 .Answer) (j : ℕ) (q : P) (t : List ℕ) → 𝓕 .asks f ≡ opens x a → first (openBy L (𝓕 .key f)) ps ≡ At j
+      (x : 𝓕 .Session) (a : 𝓕 .Answer) (j : ℕ) (q : P) (t : List ℕ) → 𝓕 .asks f ≡ opens x a
+      → first (openBy L (𝓕 .key f)) ps ≡ At j
       → openBy L (𝓕 .key f) q ≡ true → L .session q (stretch (L .stride) j t) ≡ x → AgreeBut (L .stride) j s t
       → Shows 𝓕 L f ps s (set ps j q) t (said a)
 
   abbrev pub ShowsOpensFree : Type 0
   ShowsOpensFree =
-      (x : 𝓕 .Session) (a : 𝓕 .Answer) (j : ℕ) (q : P) (t : List ℕ) → 𝓕 .asks f ≡ opens x a → first (openBy L (𝓕 .key f)) ps ≡ Nowhere
-      → first (L .isFree) ps ≡ At j → openBy L (𝓕 .key f) q ≡ true → L .session q (stretch (L .stride) j t) ≡ x → AgreeBut (L .stride) j s t
+      (x : 𝓕 .Session) (a : 𝓕 .Answer) (j : ℕ) (q : P) (t : List ℕ) → 𝓕 .asks f ≡ opens x a
+      → first (openBy L (𝓕 .key f)) ps ≡ Nowhere
+      → first (L .isFree) ps ≡ At j → openBy L (𝓕 .key f) q ≡ true → L .session q (stretch (L .stride) j t) ≡ x
+      → AgreeBut (L .stride) j s t
       → Shows 𝓕 L f ps s (set ps j q) t (said a)
 
   -- an opening that finishes at once: the key's place is freed, or a free one stays free, whatever its stretch now has
@@ -43,7 +47,8 @@ module _ {P : Type 0} (𝓕 : Format) (L : Layout P (𝓕 .Session)) (f : 𝓕 .
 
   abbrev pub ShowsFinishesFree : Type 0
   ShowsFinishesFree =
-      (a : 𝓕 .Answer) (j : ℕ) (t : List ℕ) → 𝓕 .asks f ≡ finishes a → first (openBy L (𝓕 .key f)) ps ≡ Nowhere → first (L .isFree) ps ≡ At j
+      (a : 𝓕 .Answer) (j : ℕ) (t : List ℕ) → 𝓕 .asks f ≡ finishes a → first (openBy L (𝓕 .key f)) ps ≡ Nowhere
+      → first (L .isFree) ps ≡ At j
       → AgreeBut (L .stride) j s t → Shows 𝓕 L f ps s ps t (said a)
 
   -- either opening, where no place is free
@@ -54,19 +59,22 @@ module _ {P : Type 0} (𝓕 : Format) (L : Layout P (𝓕 .Session)) (f : 𝓕 .
   -- a packet: of no open session, of one that goes on, of one that ends
   abbrev pub ShowsFeedsNowhere : Type 0
   ShowsFeedsNowhere =
-      (d : 𝓕 .Data) (a : 𝓕 .Answer) → 𝓕 .asks f ≡ feeds d a → first (openBy L (𝓕 .key f)) ps ≡ Nowhere → Shows 𝓕 L f ps s ps s (said a)
+      (d : 𝓕 .Data) (a : 𝓕 .Answer) → 𝓕 .asks f ≡ feeds d a → first (openBy L (𝓕 .key f)) ps ≡ Nowhere
+      → Shows 𝓕 L f ps s ps s (said a)
 
   abbrev pub ShowsFeedsGoes : Type 0
   ShowsFeedsGoes =
       (d : 𝓕 .Data) (a b : 𝓕 .Answer) (x : 𝓕 .Session) (j : ℕ) (e q : P) (t : List ℕ)
-      → 𝓕 .asks f ≡ feeds d a → first (openBy L (𝓕 .key f)) ps ≡ At j → 𝓕 .feed (L .session (getD ps j e) (stretch (L .stride) j s)) d ≡ goes x b
+      → 𝓕 .asks f ≡ feeds d a → first (openBy L (𝓕 .key f)) ps ≡ At j
+      → 𝓕 .feed (L .session (getD ps j e) (stretch (L .stride) j s)) d ≡ goes x b
       → openBy L (𝓕 .key f) q ≡ true → L .session q (stretch (L .stride) j t) ≡ x → AgreeBut (L .stride) j s t
       → Shows 𝓕 L f ps s (set ps j q) t (said b)
 
   abbrev pub ShowsFeedsEnds : Type 0
   ShowsFeedsEnds =
       (d : 𝓕 .Data) (a b : 𝓕 .Answer) (j : ℕ) (e q : P) (t : List ℕ)
-      → 𝓕 .asks f ≡ feeds d a → first (openBy L (𝓕 .key f)) ps ≡ At j → 𝓕 .feed (L .session (getD ps j e) (stretch (L .stride) j s)) d ≡ ends b
+      → 𝓕 .asks f ≡ feeds d a → first (openBy L (𝓕 .key f)) ps ≡ At j
+      → 𝓕 .feed (L .session (getD ps j e) (stretch (L .stride) j s)) d ≡ ends b
       → L .isFree q ≡ true → AgreeBut (L .stride) j s t → Shows 𝓕 L f ps s (set ps j q) t (said b)
 
   -- after any of these no key has two places, and there are as many as before

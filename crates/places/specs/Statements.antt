@@ -1,5 +1,5 @@
--- What holds of places, for every packet format, each a named statement (the third demand on the receiver: no sender is disturbed by others).
--- proofs/Steps.antt and Statements.antt have a proof of each, under the same name written small.
+-- What holds of places, for every packet format, each a named statement (the third demand on the receiver: no sender is
+-- disturbed by others). proofs/Steps.antt and Statements.antt have a proof of each, under the same name written small.
 use mathlib.Core.Path.{_≡_}
 use mathlib.Core.Bool.{Bool, true, false}
 use mathlib.Core.List.{List, [], _∷_, map}
@@ -11,8 +11,8 @@ use Rattle.places.specs.Format.{Asks, fixed, opens, finishes, feeds, goe
 use Rattle.places.specs.OneKey.{hearAlone, pauseAlone, solo, openAfter}
 use Rattle.places.specs.Places.{Place, free, held, Out, full, said, lookup, keysOf, Absent, Distinct, OnePlaceEach, count, isNone, placeCount, Places, hear, pass, closedBy, eightFree, after, History, run, toldTo, only, admitted, NeverFull, answered}
 
--- One step of the places, against the machine of k alone: the same answer and session, unless full; then nothing changes. No other key's
--- session is touched, no key gets a second place, and there are as many places as before.
+-- One step of the places, against the machine of k alone: the same answer and session, unless full; then nothing
+-- changes. No other key's session is touched, no key gets a second place, and there are as many places as before.
 pub record StepAgrees {S A : Type 0} (k : ℕ) (ps : List (Place S)) (busy : Step (List (Place S)) (Out A)) (quiet : Step (Option S) A) : Type 0 where
   pub answered : busy .answer ≢ full → busy .answer ≡ said (quiet .answer)
   pub session : busy .answer ≢ full → lookup k (busy .next) ≡ quiet .next
@@ -22,10 +22,12 @@ pub record StepAgrees {S A : Type 0} (k : ℕ) (ps : List (Place S)) (busy : Ste
   pub as-many : length (busy .next) ≡ length ps
 
 abbrev pub OneStep : Format → Type 0
-OneStep 𝓕 = (f : 𝓕 .Frame) (ps : Places 𝓕) → OnePlaceEach ps → StepAgrees (𝓕 .key f) ps (hear 𝓕 f ps) (hearAlone 𝓕 f (lookup (𝓕 .key f) ps))
+OneStep 𝓕 =
+    (f : 𝓕 .Frame) (ps : Places 𝓕) → OnePlaceEach ps
+    → StepAgrees (𝓕 .key f) ps (hear 𝓕 f ps) (hearAlone 𝓕 f (lookup (𝓕 .key f) ps))
 
--- One pause: each key's session is what the machine of that key alone has after it, and as many places are freed as there are keys whose
--- machine closes.
+-- One pause: each key's session is what the machine of that key alone has after it, and as many places are freed as
+-- there are keys whose machine closes.
 pub record PauseClosesAt (𝓕 : Format) (ms : ℕ) (ps : Places 𝓕) : Type 0 where
   pub session : (k : ℕ) → lookup k (pass 𝓕 ms ps) ≡ pauseAlone 𝓕 ms (lookup k ps)
   pub closed : closedBy 𝓕 ms ps ≡ count (λ k. isNone (pauseAlone 𝓕 ms (lookup k ps))) (keysOf ps)
@@ -47,14 +49,16 @@ onBusyBus 𝓕 events = run 𝓕 (eightFree 𝓕) events
 abbrev pub onQuietBus : (𝓕 : Format) → ℕ → List (Event (𝓕 .Frame)) → List (Out (𝓕 .Answer))
 onQuietBus 𝓕 k events = map said (solo 𝓕 none (only 𝓕 k events))
 
--- What the machine of one key has open for k after a history, on k's frames without those that found no place, and all the pauses. It knows of no
--- places: what is open is what was heard on the bus.
+-- What the machine of one key has open for k after a history, on k's frames without those that found no place, and all
+-- the pauses. It knows of no places: what is open is what was heard on the bus.
 abbrev pub openByRules : (𝓕 : Format) → ℕ → History 𝓕 → Option (𝓕 .Session)
 openByRules 𝓕 k h = openAfter 𝓕 none (admitted 𝓕 k h)
 
 -- What is open is what the rules say, for every key, one that found no place too.
 abbrev pub OpenAsRules : Format → Type 0
-OpenAsRules 𝓕 = (k : ℕ) (events : List (Event (𝓕 .Frame))) → lookup k (after 𝓕 (eightFree 𝓕) events) ≡ openByRules 𝓕 k (onBusyBus 𝓕 events)
+OpenAsRules 𝓕 =
+    (k : ℕ) (events : List (Event (𝓕 .Frame)))
+    → lookup k (after 𝓕 (eightFree 𝓕) events) ≡ openByRules 𝓕 k (onBusyBus 𝓕 events)
 
 -- So is what is told.
 abbrev pub ToldAsRules : Format → Type 0
@@ -68,7 +72,8 @@ pub record AsRulesFrom (𝓕 : Format) (ps : Places 𝓕) (k : ℕ) (events : Li
   pub told-as-rules : answered (toldTo 𝓕 k (run 𝓕 ps events)) ≡ solo 𝓕 (lookup k ps) (admitted 𝓕 k (run 𝓕 ps events))
 
 abbrev pub AsRulesFromAny : Format → Type 0
-AsRulesFromAny 𝓕 = (ps : Places 𝓕) (k : ℕ) (events : List (Event (𝓕 .Frame))) → OnePlaceEach ps → AsRulesFrom 𝓕 ps k events
+AsRulesFromAny 𝓕 =
+    (ps : Places 𝓕) (k : ℕ) (events : List (Event (𝓕 .Frame))) → OnePlaceEach ps → AsRulesFrom 𝓕 ps k events
 
 -- A busy bus is as a quiet one, for a key none of whose openings found all places held.
 abbrev pub BusyAsQuiet : Format → Type 0
@@ -107,7 +112,8 @@ pub record ClosedByRules (𝓕 : Format) (ms n : ℕ) (h : History 𝓕) : Type 
 -- A pause frees as many places as the rules close keys in it, at any time of a run.
 abbrev pub ClosesAsRules : Format → Type 0
 ClosesAsRules 𝓕 =
-    (ms : ℕ) (events : List (Event (𝓕 .Frame))) → ClosedByRules 𝓕 ms (closedBy 𝓕 ms (after 𝓕 (eightFree 𝓕) events)) (onBusyBus 𝓕 events)
+    (ms : ℕ) (events : List (Event (𝓕 .Frame)))
+    → ClosedByRules 𝓕 ms (closedBy 𝓕 ms (after 𝓕 (eightFree 𝓕) events)) (onBusyBus 𝓕 events)
 
 -- The same of full places at any places: all eight are held by eight keys, all different and none of them k.
 pub record EightOthers {S : Type 0} (k : ℕ) (ps : List (Place S)) : Type 0 where
@@ -120,7 +126,8 @@ FullExactlyWhenAt 𝓕 =
     (ps : Places 𝓕) (f : 𝓕 .Frame) → length ps ≡ placeCount → OnePlaceEach ps
     → (hear 𝓕 f ps .answer ≡ full) ↔ ((isOpening (𝓕 .asks f) ≡ true) × EightOthers (𝓕 .key f) ps)
 
--- What a format's pauses are to obey, for sessions that keep the format's rule: a pause of 0 changes nothing, and a pause after a pause is their sum.
+-- What a format's pauses are to obey, for sessions that keep the format's rule: a pause of 0 changes nothing, and a
+-- pause after a pause is their sum.
 pub record Pausing (𝓕 : Format) : Type 1 where
   pub Kept : 𝓕 .Session → Type 0
   pub opens-kept : (f : 𝓕 .Frame) (s : 𝓕 .Session) (a : 𝓕 .Answer) → 𝓕 .asks f ≡ opens s a → Kept s
@@ -141,8 +148,8 @@ spacing [] = []
 spacing (frame f ∷ es) = (0, f) ∷ spaced 0 es
 spacing (pause ms ∷ es) = spacing es
 
--- Where pauses obey this, two runs that have the same frames of k, without those that found no place, and equal sums of pauses between them tell k
--- the same, whatever else they have.
+-- Where pauses obey this, two runs that have the same frames of k, without those that found no place, and equal sums of
+-- pauses between them tell k the same, whatever else they have.
 abbrev pub SumsOfPauses : Format → Type 1
 SumsOfPauses 𝓕 =
     Pausing 𝓕 → (k : ℕ) (events events′ : List (Event (𝓕 .Frame)))

@@ -1,5 +1,6 @@
--- A made-up format, small enough to run by hand: the statements hold for more than one format, and an opening that finishes at once is seen at work.
--- A frame has a key and a number. Number 0 is a message by itself; 1 to 9 opens one that needs so many packets; any other is a packet.
+-- A made-up format, small enough to run by hand: the statements hold for more than one format, and an opening that
+-- finishes at once is seen at work. A frame has a key and a number. Number 0 is a message by itself; 1 to 9 opens one
+-- that needs so many packets; any other is a packet.
 use mathlib.Core.Path.{_≡_}
 use mathlib.Core.List.{List, [], _∷_}
 use mathlib.Core.Option.{Option, some, none}
@@ -53,7 +54,8 @@ tiny = record {
 abbrev pub card : ℕ → ℕ → Event Card
 card key number = frame (record { key = key; number = number })
 
--- Nine keys: eight open, the ninth's message by itself finds no place. Packets finish the third's, and then the ninth is heard; the place is left free.
+-- Nine keys: eight open, the ninth's message by itself finds no place. Packets finish the third's, and then the ninth
+-- is heard; the place is left free.
 abbrev pub nineKeys : List (Event Card)
 nineKeys =
     card 1 2 ∷ card 2 2 ∷ card 3 2 ∷ card 4 2 ∷ card 5 2 ∷ card 6 2 ∷ card 7 2 ∷ card 8 2 ∷ card 9 0 ∷
@@ -72,7 +74,8 @@ NineKeysTold =
     ∷ (5, said opened) ∷ (6, said opened) ∷ (7, said opened) ∷ (8, said opened)
     ∷ (9, full) ∷ (3, said stored) ∷ (3, said finished) ∷ (9, said finished) ∷ (6, said finished) ∷ (9, said opened) ∷ []
 
--- The ninth's last opening took the lowest free place, the third's. A pause of 41 closes those that have been idle for 60.
+-- The ninth's last opening took the lowest free place, the third's. A pause of 41 closes those that have been idle for
+-- 60.
 abbrev pub NineKeysAfter : Type 0
 NineKeysAfter =
     let waited : Pile = record { missing = 2; idle = 60 } in
