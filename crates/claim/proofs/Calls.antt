@@ -10,6 +10,7 @@ use lib.ListN.{length, replicate}
 use Rattle.frame.specs.Words.{_=?_, Told, refused, gives, given_then_}
 use Rattle.frame.specs.Bytes.{numberOf}
 use Rattle.frame.specs.Frame.{frameBytes, checkedOf}
+use Rattle.frame.specs.Standard.{claimDgn}
 use Rattle.frame.specs.Promises.{toldVerdict, refusalOf, bytesIf}
 use Rattle.frame.specs.declared.Parts.{Parts}
 use Rattle.frame.specs.declared.BadFrame.{BadFrame}
@@ -17,7 +18,7 @@ use Rattle.frame.specs.declared.Verdict.{Verdict}
 use Rattle.frame.specs.declared.Verdict.the-variants.{Sound, Bad}
 use Rattle.frame.proofs.Words.{past-refusal, refused-gives, gives-same, not-flips, by-test}
 use Rattle.claim.specs.Candidates.{padded}
-use Rattle.claim.specs.Claim.{keepsRules, holdsList, claimDgn, claimId, claimBytes, begun, Outcome, nothingToDo, ownName, repeated, moved, fellSilent, outcomeOf, after}
+use Rattle.claim.specs.Claim.{keepsRules, holdsList, claimId, claimBytes, begun, Outcome, nothingToDo, ownName, repeated, moved, fellSilent, outcomeOf, after}
 use Rattle.claim.specs.Promises.{Hear, toldHearing, meetsFrame, metOf, heardOf, afterTold, isSentTold, done, isSound, soundOf}
 use Rattle.claim.specs.declared.Claim.{Claim}
 use Rattle.claim.specs.declared.Hearing.{Hearing}

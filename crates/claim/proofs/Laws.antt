@@ -12,6 +12,7 @@ use Rattle.frame.specs.Words.{if_then_else_, _=?_, Told, refused, gives, given_
 use Rattle.frame.specs.Bytes.{bytesOf}
 use Rattle.frame.specs.Identifier.{identifierOf, identifiers, priorityOf, reservedOf, dgnOf, sourceOf}
 use Rattle.frame.specs.Frame.{frameBytes, sourceAllowed, checkedOf}
+use Rattle.frame.specs.Standard.{claimDgn, noAddress}
 use Rattle.frame.specs.Laws.{toldButPriority}
 use Rattle.frame.specs.declared.Parts.{Parts}
 use Rattle.frame.specs.declared.BadFrame.{BadFrame}
@@ -20,7 +21,7 @@ use Rattle.frame.proofs.Words.{past-refusal, before-refusal, refused-gives, not
 use Rattle.frame.proofs.Bytes.{length-bytes}
 use Rattle.frame.proofs.Laws as frame-laws
 use Rattle.claim.specs.Candidates.{longestList, isWellFormed, padded}
-use Rattle.claim.specs.Claim.{claimDgn, claimPriority, noAddress, keepsRules, holdsList, address, claimSource, claimId, claimBytes, Stand, held, claiming, silent, begun, Outcome, nothingToDo, ownName, repeated, moved, fellSilent, outcomeOf, after, pause}
+use Rattle.claim.specs.Claim.{claimPriority, keepsRules, holdsList, address, claimSource, claimId, claimBytes, Stand, held, claiming, silent, begun, Outcome, nothingToDo, ownName, repeated, moved, fellSilent, outcomeOf, after, pause}
 use Rattle.claim.specs.History.{Event, heard, paused, step, run}
 use Rattle.claim.specs.Promises.{Pause, Done, done, toldStarting, toldHearing, toldPausing, toldStanding, toldSending, startedOf, meetsFrame, metOf, heardOf, afterTold, isSentTold, isSound, soundOf}
 use Rattle.claim.specs.Calls.{no-call, a-hear, a-pause, claimIn, eventsOf, eventsIn}

@@ -8,8 +8,9 @@ use borrow.Author.Tests.{eq-eqb, lt-ltb, le-leb, ltb-true, leb-true, eqb-true}
 use lib.ListN.{take}
 use lib.Seq.{getD-take}
 use Rattle.frame.specs.Words.{_<?_, _≤?_, _=?_, _and_}
+use Rattle.frame.specs.Standard.{greatestAddress}
 use Rattle.frame.proofs.Words.{both-true, by-test}
-use Rattle.claim.specs.Candidates.{greatestAddress, longestList, isWellFormed}
+use Rattle.claim.specs.Candidates.{longestList, isWellFormed}
 use Rattle.claim.specs.Claim.{heldAfter, keepsRules, holdsList, address, waited, pause}
 use Rattle.claim.specs.declared.Claim.{Claim}
 use Rattle.claim.proofs.Candidates.{well-formed, address-at}

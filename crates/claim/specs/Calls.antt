@@ -5,8 +5,8 @@ use lib.ListN.{length}
 use Rattle.frame.specs.Words.{if_then_else_, _=?_, Told, refused, gives}
 use Rattle.frame.specs.Bytes.{numberOf}
 use Rattle.frame.specs.Frame.{checkedOf}
+use Rattle.frame.specs.Standard.{claimDgn}
 use Rattle.frame.specs.declared.Parts.{Parts}
-use Rattle.claim.specs.Claim.{claimDgn}
 use Rattle.claim.specs.History.{Event, heard, paused}
 use Rattle.claim.specs.Promises.{Hear, Pause}
 use Rattle.claim.specs.declared.Claim.{Claim}

@@ -4,10 +4,7 @@ use mathlib.Core.List.{List, [], _∷_, _++_}
 use Prim.Native.Nat.{ℕ, _-_}
 use lib.ListN.{length, replicate}
 use Rattle.frame.specs.Words.{_≤?_, _=?_, _and_}
-
--- 254 is no address, 255 is all
-abbrev pub greatestAddress : ℕ
-greatestAddress = 253
+use Rattle.frame.specs.Standard.{greatestAddress}
 
 abbrev pub longestList : ℕ
 longestList = 16

@@ -8,6 +8,7 @@ use Rattle.frame.specs.Words.{if_then_else_, _<?_, _≤?_, _=?_, _and_}
 use Rattle.frame.specs.Bytes.{bytesOf}
 use Rattle.frame.specs.Identifier.{identifierOf}
 use Rattle.frame.specs.Frame.{frameBytes}
+use Rattle.frame.specs.Standard.{claimDgn, noAddress}
 use Rattle.claim.specs.Candidates.{longestList, isWellFormed, padded}
 use Rattle.claim.specs.declared.Claim.{Claim}
 
@@ -15,16 +16,8 @@ use Rattle.claim.specs.declared.Claim.{Claim}
 abbrev pub heldAfter : ℕ
 heldAfter = 250
 
--- a claim: to all, priority 6
-abbrev pub claimDgn : ℕ
-claimDgn = 0xEEFF
-
 abbrev pub claimPriority : ℕ
 claimPriority = 6
-
--- the source of a node without an address
-abbrev pub noAddress : ℕ
-noAddress = 254
 
 -- a state that breaks its rules is refused with 2: a position outside its list, a wait above 250, or silent with either not 0
 unfoldable pub keepsRules : Claim → Bool

@@ -9,9 +9,9 @@ use Rattle.frame.specs.Words.{refused, gives}
 use Rattle.frame.specs.Bytes.{numberOf, bytesOf}
 use Rattle.frame.specs.Identifier.{identifierOf, identifiers}
 use Rattle.frame.specs.Frame.{frameBytes, checkedOf}
+use Rattle.frame.specs.Standard.{claimDgn, greatestAddress, noAddress}
 use Rattle.frame.specs.declared.Parts.{Parts}
-use Rattle.claim.specs.Candidates.{greatestAddress}
-use Rattle.claim.specs.Claim.{heldAfter, claimDgn, claimPriority, noAddress, keepsRules, holdsList, address, claimSource, claimId, claimBytes, held, standOf, begun, nothingToDo, outcomeOf, after}
+use Rattle.claim.specs.Claim.{heldAfter, claimPriority, keepsRules, holdsList, address, claimSource, claimId, claimBytes, held, standOf, begun, nothingToDo, outcomeOf, after}
 use Rattle.claim.specs.History.{Event, run, history, waitedSince}
 use Rattle.claim.specs.Promises.{Start, Hear, Pause, Stands, OurClaim, KeepsRules, HoldsList, done, toldStarting, toldHearing, toldPausing, toldStanding, toldSending, meetsFrame, heardOf, isSentTold, isSound, blank}
 use Rattle.claim.specs.Calls.{Call, Ran, eventsIn}

@@ -7,10 +7,11 @@ use lib.ListN.{length, replicate}
 use Rattle.frame.specs.Words.{if_then_else_, _=?_, _and_, Told, refused, gives, given_then_}
 use Rattle.frame.specs.Bytes.{numberOf}
 use Rattle.frame.specs.Frame.{frameBytes, checkedOf}
+use Rattle.frame.specs.Standard.{claimDgn}
 use Rattle.frame.specs.Promises.{refusalOf}
 use Rattle.frame.specs.declared.Parts.{Parts}
 use Rattle.claim.specs.Candidates.{longestList, isWellFormed}
-use Rattle.claim.specs.Claim.{keepsRules, holdsList, claimDgn, claimId, claimBytes, Stand, held, claiming, silent, standOf, begun, Outcome, nothingToDo, ownName, repeated, moved, fellSilent, outcomeOf, after, isSent, pause}
+use Rattle.claim.specs.Claim.{keepsRules, holdsList, claimId, claimBytes, Stand, held, claiming, silent, standOf, begun, Outcome, nothingToDo, ownName, repeated, moved, fellSilent, outcomeOf, after, isSent, pause}
 use Rattle.claim.specs.declared.Claim.{Claim}
 use Rattle.claim.specs.declared.Starting.{Starting}
 use Rattle.claim.specs.declared.Starting.the-variants as Starting

@@ -10,12 +10,12 @@ use borrow.Author.Tests.{eq-eqb, ne-eqb, lt-ltb, le-ltb}
 use lib.ListN.{take, getD}
 use Rattle.frame.specs.Words.{if_then_else_, Told, refused, gives, given_then_}
 use Rattle.frame.specs.Bytes.{numberOf}
-use Rattle.frame.specs.Identifier.{greatestDgn, destinationOf, everyone, catalogueForm}
+use Rattle.frame.specs.Identifier.{greatestDgn, destinationOf, catalogueForm}
+use Rattle.frame.specs.Standard.{Frame, addressClaimed, everyone, greatestAddress, noAddress, noFrame, requestDgn, unused}
 use Rattle.frame.specs.Promises.{destined}
 use Rattle.frame.specs.declared.Parts.{Parts}
 use Rattle.places.specs.Layout.{any}
-use Rattle.claim.specs.Candidates.{greatestAddress}
-use Rattle.claim.specs.Claim.{noAddress, keepsRules, holdsList, Stand, held, standOf}
+use Rattle.claim.specs.Claim.{keepsRules, holdsList, Stand, held, standOf}
 use Rattle.claim.specs.Promises.{isSound, soundOf, toldStanding}
 use Rattle.claim.specs.declared.Claim.{Claim}
 use Rattle.claim.specs.declared.Standing.{Standing}
@@ -24,11 +24,11 @@ use Rattle.frame.proofs.Words.{both-true}
 use Rattle.command.specs.Hosted.{hosted}
 use Rattle.command.specs.Positions.{positionsWhere, filled, listed}
 use Rattle.command.specs.Handed.{handedIn, addressHeld}
-use Rattle.command.specs.Acknowledgment.{Frame, noFrame, claimFrame, unused, acknowledgment, acknowledgedOf}
+use Rattle.command.specs.Acknowledgment.{claimFrame, acknowledgment, acknowledgedOf}
 use Rattle.command.specs.Commands as Commands
 use Rattle.command.specs.Commands.{hasCommand, isMeant, isElsewhere, Outcome, picks, routeOf, routedOf}
 use Rattle.command.specs.Requests as Requests
-use Rattle.command.specs.Requests.{requestDgn, requestedDgn, addressClaimed, nakCode, supports, isOurs, Reply, claims, supported, nak, unsupported, statusOf, replyOf, askedOf, requestedOf}
+use Rattle.command.specs.Requests.{requestedDgn, nakCode, supports, isOurs, Reply, claims, supported, nak, unsupported, statusOf, replyOf, askedOf, requestedOf}
 use Rattle.command.specs.Promises.{toldRouting, pickedIn, RoutedBy, toldRequesting, supportedIn, sentIn, RequestedBy, toldAcknowledging, formedIn, AcknowledgedBy}
 use Rattle.command.specs.Private.{bareRouted, bareRequested, bareAcknowledged}
 use Rattle.command.specs.declared.Entry.{Entry}

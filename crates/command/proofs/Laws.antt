@@ -12,6 +12,7 @@ use lib.Seq.{take-at, length-take-le}
 use Rattle.frame.specs.Words.{if_then_else_, _≤?_, _=?_, _and_, Told, refused, gives, given_then_}
 use Rattle.frame.specs.Identifier.{greatestDgn, destinationOf, catalogueForm}
 use Rattle.frame.specs.Frame.{checkedOf}
+use Rattle.frame.specs.Standard.{Frame}
 use Rattle.frame.specs.Laws.{toldButPriority}
 use Rattle.frame.specs.declared.Parts.{Parts}
 use Rattle.frame.specs.declared.BadFrame.the-variants.{IdentifierTooLarge, NotEightBytes, ReservedBitSet, SourceNotAllowed}
@@ -25,7 +26,7 @@ use Rattle.command.specs.Hosted.{mostEntries, blankEntry, isHostedDgn, i
 use Rattle.command.specs.Handed.{handedIn}
 use Rattle.command.specs.Commands as Commands
 use Rattle.command.specs.Commands.{hasCommand, isElsewhere, Outcome, picks, routeOf, routedOf}
-use Rattle.command.specs.Acknowledgment.{Frame, acknowledgedOf}
+use Rattle.command.specs.Acknowledgment.{acknowledgedOf}
 use Rattle.command.specs.Requests as Requests
 use Rattle.command.specs.Requests.{requestedDgn, Reply, claims, supported, nak, unsupported, askedOf, requestedOf}
 use Rattle.command.specs.Promises.{toldStarting, startedOf, toldRouting, toldRequesting, toldAcknowledging}

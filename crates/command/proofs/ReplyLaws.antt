@@ -9,15 +9,15 @@ use borrow.Author.Tests.{ne-eqb, eqb-true, eqb-false, ltb-false}
 use lib.ListN.{length}
 use Rattle.frame.specs.Words.{_≤?_, _<?_, _=?_, gives}
 use Rattle.frame.specs.Bytes.{bytesOf}
-use Rattle.frame.specs.Identifier.{identifierOf, identifiers, greatestDgn, priorityOf, reservedOf, dgnOf, sourceOf, destinationOf, everyone, catalogueForm}
+use Rattle.frame.specs.Identifier.{identifierOf, identifiers, greatestDgn, priorityOf, reservedOf, dgnOf, sourceOf, destinationOf, catalogueForm}
 use Rattle.frame.specs.Frame.{frameBytes, sourceAllowed, checkedOf}
+use Rattle.frame.specs.Standard.{Frame, acknowledgmentDgn, addressClaimed, everyone, greatestAddress, noAddress, noFrame, requestDgn, unused}
 use Rattle.frame.specs.declared.Parts.{Parts}
 use Rattle.frame.proofs.Words.{by-test, both-true, true-false, past-refusal, before-refusal, refused-gives, gives-same, not-flips}
 use Rattle.frame.proofs.Frame.{checked-given}
 use Rattle.frame.proofs.Laws as frame-laws
 use Rattle.places.specs.Layout.{any}
-use Rattle.claim.specs.Candidates.{greatestAddress}
-use Rattle.claim.specs.Claim.{heldAfter, noAddress, keepsRules, holdsList, address, claimSource, claimId, Stand, held, claiming, silent, standOf}
+use Rattle.claim.specs.Claim.{heldAfter, keepsRules, holdsList, address, claimSource, claimId, Stand, held, claiming, silent, standOf}
 use Rattle.claim.specs.Promises.{isSound}
 use Rattle.claim.specs.declared.Claim.{Claim}
 use Rattle.claim.proofs.Sound.{rules-of, holds-of, address-low}
@@ -27,9 +27,9 @@ use Rattle.command.specs.Positions.{positionsWhere, listed}
 use Rattle.command.specs.Handed.{handedIn, addressHeld}
 use Rattle.command.specs.Commands as Commands
 use Rattle.command.specs.Commands.{hasCommand, picks, routeOf, routedOf}
-use Rattle.command.specs.Acknowledgment.{Frame, noFrame, claimFrame, unused, acknowledgmentDgn, acknowledgmentPriority, acknowledgmentId, acknowledgmentBytes, acknowledgment, acknowledgedOf}
+use Rattle.command.specs.Acknowledgment.{claimFrame, acknowledgmentPriority, acknowledgmentId, acknowledgmentBytes, acknowledgment, acknowledgedOf}
 use Rattle.command.specs.Requests as Requests
-use Rattle.command.specs.Requests.{requestDgn, requestedDgn, addressClaimed, nakCode, supports, isOurAddress, isOurs, Reply, claims, supported, nak, unsupported, statusOf, replyOf, askedOf, requestedOf}
+use Rattle.command.specs.Requests.{requestedDgn, nakCode, supports, isOurAddress, isOurs, Reply, claims, supported, nak, unsupported, statusOf, replyOf, askedOf, requestedOf}
 use Rattle.command.specs.Promises.{sentIn, toldRequesting, toldAcknowledging}
 use Rattle.command.specs.Laws as the
 use Rattle.command.specs.declared.Entry.{Entry}

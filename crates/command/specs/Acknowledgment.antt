@@ -7,34 +7,17 @@ use Rattle.frame.specs.Words.{if_then_else_, _<?_, Told, refused, gives, given_
 use Rattle.frame.specs.Bytes.{bytesOf}
 use Rattle.frame.specs.Identifier.{identifierOf, greatestDgn}
 use Rattle.frame.specs.Frame.{frameBytes}
-use Rattle.claim.specs.Candidates.{greatestAddress}
+use Rattle.frame.specs.Standard.{Frame, acknowledgmentDgn, greatestAddress, unused}
 use Rattle.claim.specs.Claim.{keepsRules, holdsList, claimId, claimBytes, standOf}
 use Rattle.claim.specs.declared.Claim.{Claim}
 use Rattle.command.specs.Handed.{addressHeld}
-
--- a frame to send
-pub record Frame : Type 0 where
-  pub id : ℕ
-  pub bytes : List ℕ
-
--- zeros, where nothing is sent
-abbrev pub noFrame : Frame
-noFrame = record { id = 0; bytes = replicate frameBytes 0 }
 
 -- the frame of our claim, from our address, or from 254 when silent
 abbrev pub claimFrame : Claim → Frame
 claimFrame c = record { id = claimId c; bytes = claimBytes c }
 
--- E8xxh, xx the requester
-abbrev pub acknowledgmentDgn : ℕ
-acknowledgmentDgn = 0xE800
-
 abbrev pub acknowledgmentPriority : ℕ
 acknowledgmentPriority = 6
-
--- a byte that says nothing; for an instance, that there is none
-abbrev pub unused : ℕ
-unused = 0xFF
 
 unfoldable pub acknowledgmentId : ℕ → ℕ → ℕ
 acknowledgmentId address requester = identifierOf acknowledgmentPriority (acknowledgmentDgn + requester) address

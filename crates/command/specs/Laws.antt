@@ -7,13 +7,13 @@ use mathlib.Core.Logic.{_↔_}
 use Prim.Native.Nat.{ℕ, _+_, _≤_, _<_, _%_, _^_}
 use lib.ListN.{length, take, getD}
 use Rattle.frame.specs.Words.{refused, gives}
-use Rattle.frame.specs.Identifier.{identifiers, greatestDgn, dgnOf, sourceOf, isAddressed, destinationOf, everyone, catalogueForm}
+use Rattle.frame.specs.Identifier.{identifiers, greatestDgn, dgnOf, sourceOf, isAddressed, destinationOf, catalogueForm}
 use Rattle.frame.specs.Frame.{checkedOf}
+use Rattle.frame.specs.Standard.{Frame, acknowledgmentDgn, addressClaimed, everyone, greatestAddress, requestDgn}
 use Rattle.frame.specs.Promises.{destined}
 use Rattle.frame.specs.declared.Parts.{Parts}
 use Rattle.frame.specs.declared.Destination.the-variants.{One}
 use Rattle.places.specs.Layout.{any}
-use Rattle.claim.specs.Candidates.{greatestAddress}
 use Rattle.claim.specs.Claim.{keepsRules, holdsList, claimSource, held, claiming, silent, standOf}
 use Rattle.claim.specs.Promises.{done, isSound}
 use Rattle.claim.specs.Laws.{NoFrame}
@@ -23,9 +23,9 @@ use Rattle.command.specs.Positions.{positionsWhere, filled, listed}
 use Rattle.command.specs.Handed.{handedIn, addressHeld}
 use Rattle.command.specs.Commands as Commands
 use Rattle.command.specs.Commands.{hasCommand, isMeant, picks, routedOf}
-use Rattle.command.specs.Acknowledgment.{Frame, acknowledgmentDgn, acknowledgmentPriority, acknowledgedOf}
+use Rattle.command.specs.Acknowledgment.{acknowledgmentPriority, acknowledgedOf}
 use Rattle.command.specs.Requests as Requests
-use Rattle.command.specs.Requests.{requestDgn, requestedDgn, addressClaimed, supports, supported, nak, unsupported, replyOf, requestedOf}
+use Rattle.command.specs.Requests.{requestedDgn, supports, supported, nak, unsupported, replyOf, requestedOf}
 use Rattle.command.specs.Promises.{Start, Route, Request, Acknowledge, toldStarting, toldRouting, toldRequesting, toldAcknowledging}
 use Rattle.command.specs.declared.Entry.{Entry}
 use Rattle.command.specs.declared.Host.{Host}

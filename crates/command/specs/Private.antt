@@ -5,13 +5,13 @@ use mathlib.Core.List.{List, []}
 use Prim.Native.Nat.{ℕ, _+_}
 use lib.ListN.{set}
 use Rattle.frame.specs.Words.{Told, refused, gives}
+use Rattle.frame.specs.Standard.{noFrame}
 use Rattle.frame.specs.Promises.{refusalOf, bytesIf}
 use Rattle.frame.specs.declared.Parts.{Parts}
 use Rattle.claim.specs.Claim.{Stand, held, claiming, silent}
 use Rattle.command.specs.Commands.{hasCommand, isMeant}
 use Rattle.command.specs.Positions.{filled}
 use Rattle.command.specs.Requests.{supports}
-use Rattle.command.specs.Acknowledgment.{noFrame}
 use Rattle.command.specs.declared.Entry.{Entry}
 use Rattle.command.specs.declared.Positions.{Positions}
 use Rattle.command.specs.declared.Routing.{Routing}

@@ -3,6 +3,7 @@ use mathlib.Core.Path.{_≡_}
 use mathlib.Core.List.{List, []}
 use Prim.Native.Nat.{ℕ}
 use Rattle.frame.specs.Words.{if_then_else_, Told, refused, gives}
+use Rattle.frame.specs.Standard.{Frame, noFrame}
 use Rattle.frame.specs.Promises.{refusalOf}
 use Rattle.claim.specs.Promises.{Done, done}
 use Rattle.claim.specs.declared.Claim.{Claim}
@@ -10,7 +11,7 @@ use Rattle.command.specs.Hosted.{isWellFormed, begun, empty}
 use Rattle.command.specs.Positions.{filled, listed}
 use Rattle.command.specs.Commands as Commands
 use Rattle.command.specs.Commands.{Outcome, picks, routedOf}
-use Rattle.command.specs.Acknowledgment.{Frame, noFrame, acknowledgedOf}
+use Rattle.command.specs.Acknowledgment.{acknowledgedOf}
 use Rattle.command.specs.Requests as Requests
 use Rattle.command.specs.Requests.{Reply, claims, supported, nak, unsupported, requestedOf}
 use Rattle.command.specs.declared.Entry.{Entry}

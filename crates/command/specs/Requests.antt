@@ -5,29 +5,22 @@ use Prim.Native.Nat.{ℕ}
 use lib.ListN.{take}
 use Rattle.frame.specs.Words.{if_then_else_, _<?_, _=?_, _and_, _or_, Told, refused, gives, given_then_}
 use Rattle.frame.specs.Bytes.{numberOf}
-use Rattle.frame.specs.Identifier.{greatestDgn, destinationOf, everyone, catalogueForm}
+use Rattle.frame.specs.Identifier.{greatestDgn, destinationOf, catalogueForm}
+use Rattle.frame.specs.Standard.{Frame, addressClaimed, everyone, noAddress, requestDgn, unused}
 use Rattle.frame.specs.declared.Parts.{Parts}
 use Rattle.places.specs.Layout.{any}
-use Rattle.claim.specs.Claim.{noAddress, Stand, held, claiming, silent, standOf}
+use Rattle.claim.specs.Claim.{Stand, held, claiming, silent, standOf}
 use Rattle.claim.specs.declared.Claim.{Claim}
 use Rattle.command.specs.Hosted.{hosted}
 use Rattle.command.specs.Positions.{positionsWhere}
 use Rattle.command.specs.Handed.{handedIn, addressHeld}
-use Rattle.command.specs.Acknowledgment.{Frame, claimFrame, acknowledgment, unused}
+use Rattle.command.specs.Acknowledgment.{claimFrame, acknowledgment}
 use Rattle.command.specs.declared.Entry.{Entry}
 use Rattle.command.specs.declared.Host.{Host}
-
--- a request is EAxxh, xx its destination; all 17 bits count
-abbrev pub requestDgn : ℕ
-requestDgn = 0xEA00
 
 -- the DGN in its bytes 0 to 2, low byte first
 unfoldable pub requestedDgn : List ℕ → ℕ
 requestedDgn bytes = numberOf (take 3 bytes)
-
--- EE00h, the address claim, is answered by our claim
-abbrev pub addressClaimed : ℕ
-addressClaimed = 0xEE00
 
 -- the code for an unsupported DGN: table 7.5 names none, so it is J1939-21's negative answer
 abbrev pub nakCode : ℕ

@@ -14,6 +14,7 @@ use lib.Seq.{paste, length-paste, take-paste, take-take}
 use Rattle.frame.specs.Words.{if_then_else_, _≤?_, _<?_, _=?_, _and_, Told, refused, gives}
 use Rattle.frame.specs.Identifier.{sourceOf, greatestDgn}
 use Rattle.frame.specs.Frame.{frameBytes}
+use Rattle.frame.specs.Standard.{Frame}
 use Rattle.frame.specs.declared.BadFrame.the-variants.{IdentifierTooLarge, NotEightBytes, ReservedBitSet, SourceNotAllowed}
 use Rattle.frame.proofs.Words.{by-test, both-true}
 use Rattle.places.specs.Format.{fixed, opens, feeds, goes, ends}
@@ -28,7 +29,7 @@ use Rattle.places.proofs.Stretch.{stretch-same, stretch-other}
 use Rattle.places.proofs.View.{one-each-view, length-view, blank-view, view-pass, view-closes}
 use Rattle.places.proofs.Receiver.{shows-fixed, shows-opens-held, shows-opens-free, shows-full, shows-feeds-nowhere, shows-feeds-goes, shows-feeds-ends, shows-keeps, pass-keeps}
 use Rattle.message.specs.LongMessage.{shortest, longest, packetBytes, packetsOf, idleLimit, needed, Meaning, other, announcement, packet, meaningOf}
-use Rattle.message.specs.OneSender.{Open, Frame, Part, Tells, announcedBy, joined, expectingNext, fedBy, waits, asksBy, longMessages}
+use Rattle.message.specs.OneSender.{Open, Part, Tells, announcedBy, joined, expectingNext, fedBy, waits, asksBy, longMessages}
 use Rattle.message.specs.OneSender as OneSender
 use Rattle.message.specs.Receiver.{greatestSender, placeCount, room, freePlace, isFree, openMessage, layout, isOpenBy, isZero, placeKeepsRules, keepsRules, Outcome, After, leaves, placeFor, announces, keptAt, expecting, advanced, packetAt, carries, byMeaning, heard, idled, pausedPlaces, pausedAnswer}
 use Rattle.message.specs.Receiver as Eight

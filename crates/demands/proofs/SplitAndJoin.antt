@@ -13,15 +13,16 @@ use Rattle.frame.specs.Words.{if_then_else_, _=?_, _<?_, _≤?_, _or_, _and_, T
 use Rattle.frame.specs.Bytes.{bytesOf}
 use Rattle.frame.specs.Identifier.{sourceOf, dgnOf, reservedOf, identifierOf, identifiers, greatestDgn, lowestPriority}
 use Rattle.frame.specs.Frame.{frameBytes, sourceAllowed}
+use Rattle.frame.specs.Standard.{Frame, announcementDgn, packetDgn, unused}
 use Rattle.frame.proofs.Words.{true-false}
 use Rattle.frame.proofs.Bytes.{number-of-bytes}
 use Rattle.frame.proofs.Laws.{lowest-wins}
 use Rattle.places.specs.Format.{Event, frame, pause, step, fixed}
 use Rattle.places.specs.OneKey.{solo, hearAlone, pauseAlone, openAfter}
-use Rattle.message.specs.LongMessage.{shortest, longest, packetBytes, packetsOf, idleLimit, announcementDgn, packetDgn, toAll, byteAt, bytesTo, needed, Meaning, other, announcement, packet, announced, meant, meaningOf}
-use Rattle.message.specs.OneSender.{Open, Frame, Tells, joined, asksBy, longMessages, nothingToDo, finished, opened, stored}
+use Rattle.message.specs.LongMessage.{shortest, longest, packetBytes, packetsOf, idleLimit, toAll, byteAt, bytesTo, needed, Meaning, other, announcement, packet, announced, meant, meaningOf}
+use Rattle.message.specs.OneSender.{Open, Tells, joined, asksBy, longMessages, nothingToDo, finished, opened, stored}
 use Rattle.message.specs.Receiver.{greatestSender}
-use Rattle.message.specs.Splitter.{unused, announcementBytes, packetBytesOf}
+use Rattle.message.specs.Splitter.{announcementBytes, packetBytesOf}
 use Rattle.message.specs.Promises.{Announcement, Packet}
 use Rattle.message.specs.declared.Announced.{Announced}
 use Rattle.message.specs.declared.Cut.{Cut}

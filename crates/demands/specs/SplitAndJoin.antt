@@ -10,12 +10,13 @@ use Prim.Native.Nat.{ℕ, _+_, _≤_, _<_}
 use lib.ListN.{length}
 use Rattle.frame.specs.Words.{Told, refused, gives}
 use Rattle.frame.specs.Identifier.{identifierOf, greatestDgn, lowestPriority}
+use Rattle.frame.specs.Standard.{Frame, announcementDgn, packetDgn}
 use Rattle.places.specs.Format.{Event, frame, pause}
 use Rattle.places.specs.OneKey.{solo}
 use Rattle.places.specs.Places.{History, toldTo, admitted, answered}
 use Rattle.places.specs.Calls.{FromStart}
-use Rattle.message.specs.LongMessage.{shortest, longest, packetsOf, idleLimit, announcementDgn, packetDgn, Meaning, other, announcement, packet, meaningOf}
-use Rattle.message.specs.OneSender.{Open, Frame, Tells, finished, longMessages}
+use Rattle.message.specs.LongMessage.{shortest, longest, packetsOf, idleLimit, Meaning, other, announcement, packet, meaningOf}
+use Rattle.message.specs.OneSender.{Open, Tells, finished, longMessages}
 use Rattle.message.specs.Receiver.{greatestSender}
 use Rattle.message.specs.Promises.{Announcement, Packet}
 use Rattle.message.specs.Calls.{Held, receiverCalls}

@@ -13,7 +13,7 @@ use Rattle.frame.specs.Words.{if_then_else_, _≤?_, _<?_, _=?_, Told, r
 use Rattle.frame.specs.Identifier.{priorityOf, reservedOf, dgnOf, sourceOf, partsOf, identifierOf, identifiers, greatestDgn, lowestPriority}
 use Rattle.frame.specs.Frame.{frameBytes, sourceAllowed, apartOf, formedOf, checkedOf}
 use Rattle.frame.specs.Promises.{toldApart, toldFormed, toldVerdict, refusalOf, bytesIf}
-use Rattle.frame.specs.Laws.{ToldApartSame, ToldFormedSame, ToldVerdictSame, TakeApartOnly, FormOnly, CheckOnly, DestinationOfOnly, CatalogueFormOnly, NumberOfOnly, BytesOfOnly, RefusedKeeps, PartsBack, IdentifierBack, LowestWins, toldButPriority, PriorityIgnored, NumberBack, BytesBack, ExampleOne}
+use Rattle.frame.specs.Laws.{ToldApartSame, ToldFormedSame, ToldVerdictSame, TakeApartOnly, FormOnly, CheckOnly, DestinationOfOnly, CatalogueFormOnly, NumberOfOnly, BytesOfOnly, DgnBytesOnly, DgnOfOnly, ApartRefusalOnly, FormedRefusalOnly, BadFrameRefusalOnly, VerdictRefusalOnly, DgnBack, NoFrameRefused, RefusedKeeps, PartsBack, IdentifierBack, LowestWins, toldButPriority, PriorityIgnored, NumberBack, BytesBack, ExampleOne}
 use Rattle.frame.specs.declared.Parts.{Parts}
 use Rattle.frame.specs.declared.Apart.{Apart}
 use Rattle.frame.specs.declared.Apart.the-variants as Apart
@@ -103,6 +103,24 @@ number-of-only bytes r s p q = p .answer ∙ sym (q .answer)
 pub bytes-of-only : BytesOfOnly
 bytes-of-only number r s p q = p .answer ∙ sym (q .answer)
 
+pub dgn-bytes-only : DgnBytesOnly
+dgn-bytes-only dgn r s p q = p .answer ∙ sym (q .answer)
+
+pub dgn-of-only : DgnOfOnly
+dgn-of-only low middle high r s p q = p .answer ∙ sym (q .answer)
+
+pub apart-refusal-only : ApartRefusalOnly
+apart-refusal-only answer r s p q = p .number ∙ sym (q .number)
+
+pub formed-refusal-only : FormedRefusalOnly
+formed-refusal-only answer r s p q = p .number ∙ sym (q .number)
+
+pub bad-frame-refusal-only : BadFrameRefusalOnly
+bad-frame-refusal-only why r s p q = p .number ∙ sym (q .number)
+
+pub verdict-refusal-only : VerdictRefusalOnly
+verdict-refusal-only answer r s p q = p .number ∙ sym (q .number)
+
 pub refused-keeps : RefusedKeeps
 refused-keeps id bytes r why p e =
     let t : checkedOf id (length bytes) ≡ refused (refusalOf why) = sym (p .answer) ∙ ap toldVerdict e in
@@ -184,6 +202,13 @@ number-back = number-of-bytes
 
 pub bytes-back : BytesBack
 bytes-back = bytes-of-number
+
+pub dgn-back : DgnBack
+dgn-back dgn h = number-of-bytes 3 dgn (omega arith)
+
+pub no-frame-refused : NoFrameRefused
+unfolding checkedOf
+no-frame-refused = refl
 
 pub example-one : ExampleOne
 unfolding formedOf identifierOf

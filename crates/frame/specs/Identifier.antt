@@ -42,10 +42,6 @@ isAddressed dgn = bits 15 8 dgn <? 0xF0
 unfoldable pub destinationOf : ℕ → ℕ
 destinationOf dgn = bits 7 0 dgn
 
--- the destination that means all
-abbrev pub everyone : ℕ
-everyone = 0xFF
-
 -- the DGN as catalogue and hosted list have it: an addressed one with 00h for its destination
 unfoldable pub catalogueForm : ℕ → ℕ
 catalogueForm dgn = if isAddressed dgn then dgn - destinationOf dgn else dgn

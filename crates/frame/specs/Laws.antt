@@ -8,7 +8,8 @@ use Rattle.frame.specs.Words.{Told, refused, gives}
 use Rattle.frame.specs.Bytes.{numberOf, bytesOf, AreBytes}
 use Rattle.frame.specs.Identifier.{reservedOf, dgnOf, sourceOf, partsOf, identifierOf, identifiers, greatestDgn, lowestPriority}
 use Rattle.frame.specs.Frame.{frameBytes, sourceAllowed, apartOf, formedOf, checkedOf}
-use Rattle.frame.specs.Promises.{toldApart, toldFormed, toldVerdict, TakeApart, Form, Check, DestinationOf, CatalogueForm, NumberOf, BytesOf}
+use Rattle.frame.specs.Standard.{noFrame, dgnBytes}
+use Rattle.frame.specs.Promises.{toldApart, toldFormed, toldVerdict, TakeApart, Form, Check, DestinationOf, CatalogueForm, NumberOf, BytesOf, DgnBytes, DgnOf, ApartRefusal, FormedRefusal, BadFrameRefusal, VerdictRefusal}
 use Rattle.frame.specs.declared.Parts.{Parts}
 use Rattle.frame.specs.declared.Apart.{Apart}
 use Rattle.frame.specs.declared.Formed.{Formed}
@@ -52,6 +53,24 @@ NumberOfOnly = (bytes : List ℕ) (r s : ℕ) → NumberOf bytes r → NumberOf 
 abbrev pub BytesOfOnly : Type 0
 BytesOfOnly = (number : ℕ) (r s : List ℕ) → BytesOf number r → BytesOf number s → r ≡ s
 
+abbrev pub DgnBytesOnly : Type 0
+DgnBytesOnly = (dgn : ℕ) (r s : List ℕ) → DgnBytes dgn r → DgnBytes dgn s → r ≡ s
+
+abbrev pub DgnOfOnly : Type 0
+DgnOfOnly = (low middle high r s : ℕ) → DgnOf low middle high r → DgnOf low middle high s → r ≡ s
+
+abbrev pub ApartRefusalOnly : Type 0
+ApartRefusalOnly = (answer : Apart) (r s : ℕ) → ApartRefusal answer r → ApartRefusal answer s → r ≡ s
+
+abbrev pub FormedRefusalOnly : Type 0
+FormedRefusalOnly = (answer : Formed) (r s : ℕ) → FormedRefusal answer r → FormedRefusal answer s → r ≡ s
+
+abbrev pub BadFrameRefusalOnly : Type 0
+BadFrameRefusalOnly = (why : BadFrame) (r s : ℕ) → BadFrameRefusal why r → BadFrameRefusal why s → r ≡ s
+
+abbrev pub VerdictRefusalOnly : Type 0
+VerdictRefusalOnly = (answer : Verdict) (r s : ℕ) → VerdictRefusal answer r → VerdictRefusal answer s → r ≡ s
+
 -- A refusal returns its number and nothing else: the bytes beside it are zeros.
 abbrev pub RefusedKeeps : Type 0
 RefusedKeeps = (id : ℕ) (bytes : List ℕ) (r : Checked) (why : BadFrame) → Check id bytes r → r .verdict ≡ Bad why → r .bytes ≡ replicate frameBytes 0
@@ -91,6 +110,14 @@ NumberBack = (count n : ℕ) → n < 256 ^ count → numberOf (bytesOf count n) 
 
 abbrev pub BytesBack : Type 0
 BytesBack = (bytes : List ℕ) → AreBytes bytes → bytesOf (length bytes) (numberOf bytes) ≡ bytes
+
+-- A DGN of 17 bits is read back from its three bytes.
+abbrev pub DgnBack : Type 0
+DgnBack = (dgn : ℕ) → dgn ≤ greatestDgn → numberOf (dgnBytes dgn) ≡ dgn
+
+-- What stands where nothing is to be sent is no frame: its identifier is refused.
+abbrev pub NoFrameRefused : Type 0
+NoFrameRefused = checkedOf (noFrame .id) (length (noFrame .bytes)) ≡ refused 3
 
 -- Document 01's example (1): DM_RV, priority 6, source 54h.
 abbrev pub ExampleOne : Type 0

@@ -2,5 +2,6 @@ pub mod Words
 pub mod Bytes
 pub mod Identifier
 pub mod Frame
+pub mod Standard
 pub mod Promises
 pub mod Laws

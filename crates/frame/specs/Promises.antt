@@ -1,13 +1,14 @@
 -- What each public call of this crate promises: one proposition over all that it answers. The answers are read in document 01's terms.
 use mathlib.Core.Path.{_≡_}
 use mathlib.Core.Bool.{Bool, true, false}
-use mathlib.Core.List.{List}
+use mathlib.Core.List.{List, [], _∷_}
 use Prim.Native.Nat.{ℕ}
 use lib.ListN.{length, replicate}
-use Rattle.frame.specs.Words.{if_then_else_, _=?_, Told, refused, gives}
+use Rattle.frame.specs.Words.{if_then_else_, _=?_, Told, refused, gives, numberIn}
 use Rattle.frame.specs.Bytes.{numberOf, bytesOf}
-use Rattle.frame.specs.Identifier.{isAddressed, destinationOf, everyone, catalogueForm}
+use Rattle.frame.specs.Identifier.{isAddressed, destinationOf, catalogueForm}
 use Rattle.frame.specs.Frame.{apartOf, formedOf, checkedOf, frameBytes}
+use Rattle.frame.specs.Standard.{everyone, dgnBytes}
 use Rattle.frame.specs.declared.Parts.{Parts}
 use Rattle.frame.specs.declared.Apart.{Apart}
 use Rattle.frame.specs.declared.Apart.the-variants as Apart
@@ -31,6 +32,9 @@ toldApart Apart.ReservedBitSet = refused 5
 pub record TakeApart (id : ℕ) (r : Apart) : Type 0 where
   pub answer : toldApart r ≡ apartOf id
 
+pub record ApartRefusal (answer : Apart) (r : ℕ) : Type 0 where
+  pub number : r ≡ numberIn (toldApart answer)
+
 -- form
 
 abbrev pub toldFormed : Formed → Told ℕ
@@ -39,6 +43,9 @@ toldFormed NoCode = refused 12
 
 pub record Form (priority dgn source : ℕ) (r : Formed) : Type 0 where
   pub answer : toldFormed r ≡ formedOf priority dgn source
+
+pub record FormedRefusal (answer : Formed) (r : ℕ) : Type 0 where
+  pub number : r ≡ numberIn (toldFormed answer)
 
 -- check: the verdict, and the frame's bytes beside it
 
@@ -51,6 +58,12 @@ refusalOf SourceNotAllowed = 6
 abbrev pub toldVerdict : Verdict → Told Parts
 toldVerdict (Sound parts) = gives parts
 toldVerdict (Bad why) = refused (refusalOf why)
+
+pub record BadFrameRefusal (why : BadFrame) (r : ℕ) : Type 0 where
+  pub number : r ≡ refusalOf why
+
+pub record VerdictRefusal (answer : Verdict) (r : ℕ) : Type 0 where
+  pub number : r ≡ numberIn (toldVerdict answer)
 
 -- the bytes of a frame that is given, and zeros beside a refusal
 abbrev pub bytesIf : Told Parts → List ℕ → List ℕ
@@ -87,3 +100,13 @@ pub record NumberOf (bytes : List ℕ) (r : ℕ) : Type 0 where
 
 pub record BytesOf (number : ℕ) (r : List ℕ) : Type 0 where
   pub answer : r ≡ bytesOf frameBytes number
+
+-- dgn_bytes
+
+pub record DgnBytes (dgn : ℕ) (r : List ℕ) : Type 0 where
+  pub answer : r ≡ dgnBytes dgn
+
+-- dgn_of
+
+pub record DgnOf (low middle high r : ℕ) : Type 0 where
+  pub answer : r ≡ numberOf (low ∷ middle ∷ high ∷ [])

@@ -41,6 +41,11 @@ pub data Told (A : Type 0) : Type 0 where
   refused : ℕ → Told A
   gives : A → Told A
 
+-- the number of a refusal, and 0 where there is none
+abbrev pub numberIn : {A : Type 0} → Told A → ℕ
+numberIn (refused n) = n
+numberIn (gives a) = 0
+
 -- a refusal is passed on; what was given goes on
 abbrev pub given_then_ : {A B : Type 0} → Told A → (A → Told B) → Told B
 given refused n then f = refused n

@@ -4,7 +4,9 @@ ghost use Prim.Native.Nat.{_<_, _%_};
 ghost use lib.ListN.{length};
 ghost use Rattle.frame.specs.Identifier.{reservedOf, partsOf};
 ghost use Rattle.frame.specs.Frame.{sourceAllowed, checkedOf};
-ghost use Rattle.frame.specs.Promises.{TakeApart, Form, Check, DestinationOf, CatalogueForm, NumberOf, BytesOf, toldVerdict};
+ghost use Rattle.frame.specs.Promises.{TakeApart, Form, Check, DestinationOf, CatalogueForm, NumberOf, BytesOf, DgnBytes, DgnOf, ApartRefusal, FormedRefusal, BadFrameRefusal, VerdictRefusal, toldVerdict};
+
+pub mod standard;
 
 // The parts of an identifier: bits 28-26, 24-8 and 7-0.
 pub struct Parts {
@@ -52,11 +54,66 @@ pub enum Destination {
     One(u8),
 }
 
+impl Apart {
+    // The number of the refusal; 0 where the identifier is taken apart.
+    pub fn refusal(self) -> u8
+        ensures { λ r. ⌜ ApartRefusal self r ⌝ }
+    {
+        let answer = self;
+        match answer {
+            Apart::Into(_) => 0,
+            Apart::IdentifierTooLarge => 3,
+            Apart::ReservedBitSet => 5,
+        }
+    }
+}
+
+impl Formed {
+    // The number of the refusal; 0 where the identifier is formed.
+    pub fn refusal(self) -> u8
+        ensures { λ r. ⌜ FormedRefusal self r ⌝ }
+    {
+        let answer = self;
+        match answer {
+            Formed::Identifier(_) => 0,
+            Formed::NoCode => 12,
+        }
+    }
+}
+
+impl BadFrame {
+    // The number of the refusal.
+    pub fn refusal(self) -> u8
+        ensures { λ r. ⌜ BadFrameRefusal self r ⌝ }
+    {
+        let why = self;
+        match why {
+            BadFrame::IdentifierTooLarge => 3,
+            BadFrame::NotEightBytes => 4,
+            BadFrame::ReservedBitSet => 5,
+            BadFrame::SourceNotAllowed => 6,
+        }
+    }
+}
+
+impl Verdict {
+    // The number of the refusal; 0 where the frame is sound.
+    pub fn refusal(self) -> u8
+        ensures { λ r. ⌜ VerdictRefusal self r ⌝ }
+    {
+        let answer = self;
+        match answer {
+            Verdict::Sound(_) => 0,
+            Verdict::Bad(why) => why.refusal(),
+        }
+    }
+}
+
 // Takes an identifier apart.
 pub fn take_apart(id: u32) -> Apart
     ensures { λ r. ⌜ TakeApart id r ⌝ }
 {
-    if 0x20000000 <= id {
+    if standard::IDENTIFIERS <= id {
         return Apart::IdentifierTooLarge;
     }
     if reserved_bit(id) == 1 {
@@ -69,10 +126,10 @@ pub fn take_apart(id: u32) -> Apart
 pub fn form(priority: u8, dgn: u32, source: u8) -> Formed
     ensures { λ r. ⌜ Form priority dgn source r ⌝ }
 {
-    if 7 < priority {
+    if standard::LOWEST_PRIORITY < priority {
         return Formed::NoCode;
     }
-    if 0x1FFFF < dgn {
+    if standard::GREATEST_DGN < dgn {
         return Formed::NoCode;
     }
     Formed::Identifier((priority as u32) * 0x4000000 + dgn * 256 + source as u32)
@@ -103,7 +160,7 @@ pub fn destination_of(dgn: u32) -> Destination
         return Destination::NotAddressed;
     }
     let to = (dgn % 256) as u8;
-    if to == 0xFF {
+    if to == standard::EVERYONE {
         return Destination::All;
     }
     Destination::One(to)
@@ -148,6 +205,24 @@ pub fn bytes_of(number: u64) -> [u8; 8]
     bytes
 }
 
+// A DGN as three bytes, low byte first; of a larger number its three lowest.
+pub fn dgn_bytes(dgn: u32) -> [u8; 3]
+    ensures { λ r. ⌜ DgnBytes dgn r ⌝ }
+{
+    [
+        (dgn % 256) as u8,
+        (dgn / 256 % 256) as u8,
+        (dgn / 256 / 256 % 256) as u8,
+    ]
+}
+
+// The number in three bytes, the low one first: a DGN, where it has no more than 17 bits.
+pub fn dgn_of(low: u8, middle: u8, high: u8) -> u32
+    ensures { λ r. ⌜ DgnOf low middle high r ⌝ }
+{
+    low as u32 + 256 * middle as u32 + 65536 * high as u32
+}
+
 fn reserved_bit(id: u32) -> u32
     ensures { λ r. ⌜ r ≡ reservedOf id ⌝ }
 {
@@ -170,22 +245,22 @@ fn parts_of(id: u32) -> Parts
 fn source_allowed(source: u8, dgn: u32) -> bool
     ensures { λ r. ⌜ r ≡ sourceAllowed source dgn ⌝ }
 {
-    if source == 255 {
+    if source == standard::EVERYONE {
         return false;
     }
-    if source != 254 {
+    if source != standard::NO_ADDRESS {
         return true;
     }
-    if dgn / 256 % 512 == 0xEA {
+    if dgn / 256 % 512 == standard::REQUEST / 256 {
         return true;
     }
-    dgn / 256 % 512 == 0xEE
+    dgn / 256 % 512 == standard::CLAIM / 256
 }
 
 fn judge(id: u32, size: usize) -> Verdict
     ensures { λ r. ⌜ toldVerdict r ≡ checkedOf id size ⌝ }
 {
-    if 0x20000000 <= id {
+    if standard::IDENTIFIERS <= id {
         return Verdict::Bad(BadFrame::IdentifierTooLarge);
     }
     if size != 8 {

@@ -12,9 +12,10 @@ use lib.ListN.{length}
 use Rattle.frame.specs.Words.{if_then_else_, _≤?_, _<?_, _=?_, _and_, _or_, bits, Told, refused, gives}
 use Rattle.frame.specs.Identifier.{sourceOf, dgnOf, reservedOf, partsOf, identifiers, greatestDgn}
 use Rattle.frame.specs.Frame.{sourceAllowed, checkedOf, frameBytes}
+use Rattle.frame.specs.Standard.{announcementDgn, packetDgn}
 use Rattle.frame.specs.declared.Parts.{Parts}
 use Rattle.frame.proofs.Words.{both-true, by-test, not-flips, true-false}
-use Rattle.message.specs.LongMessage.{shortest, longest, packetsOf, packetDgn, announcementDgn, toAll, byteAt, bytesTo, Meaning, other, announcement, packet, announced, meant, meaningOf}
+use Rattle.message.specs.LongMessage.{shortest, longest, packetsOf, toAll, byteAt, bytesTo, Meaning, other, announcement, packet, announced, meant, meaningOf}
 use Rattle.message.specs.Receiver.{greatestSender}
 
 by-if : {A : Type 0} (P : A → Type 0) (b : Bool) (x y : A) → (b ≡ true → P x) → (b ≡ false → P y) → P (if b then x else y)

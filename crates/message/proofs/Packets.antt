@@ -12,9 +12,10 @@ use lib.Seq.{paste, take-all, take-append-le, take-append-add}
 use Rattle.frame.specs.Words.{if_then_else_, _=?_, _<?_, _≤?_, _or_, Told, refused, gives}
 use Rattle.frame.specs.Frame.{frameBytes}
 use Rattle.frame.specs.Identifier.{greatestDgn}
+use Rattle.frame.specs.Standard.{unused}
 use Rattle.frame.proofs.Words.{by-test, past-refusal, gives-same}
 use Rattle.message.specs.LongMessage.{shortest, longest, packetBytes, packetsOf}
-use Rattle.message.specs.Splitter.{unused, mostPackets, splits, numbered, announcementBytes, packetBytesOf, announcementOf, packetOf}
+use Rattle.message.specs.Splitter.{mostPackets, splits, numbered, announcementBytes, packetBytesOf, announcementOf, packetOf}
 use Rattle.message.specs.Promises.{CutBy, cuttingNumber}
 use Rattle.message.specs.declared.Cutting.{Cutting}
 use Rattle.message.specs.declared.Cut.{Cut}

@@ -7,10 +7,11 @@ use mathlib.Core.List.{List}
 use Prim.Native.Nat.{ℕ, _≤_}
 use lib.ListN.{length}
 use Rattle.frame.specs.Words.{if_then_else_, _=?_, Told, refused, gives}
+use Rattle.frame.specs.Standard.{Frame}
 use Rattle.places.specs.Places.{Place as Seat, Out, full, said}
 use Rattle.places.specs.Layout.{view}
 use Rattle.places.specs.Calls.{Calls}
-use Rattle.message.specs.OneSender.{Open, Frame, Tells, nothingToDo, opened, stored, finished, longMessages}
+use Rattle.message.specs.OneSender.{Open, Tells, nothingToDo, opened, stored, finished, longMessages}
 use Rattle.message.specs.Receiver as Receiver
 use Rattle.message.specs.Receiver.{Outcome, placeCount, room, layout, keepsRules}
 use Rattle.message.specs.Promises.{toldAnswer, toldPausing, New, Hear, Message, Pause}

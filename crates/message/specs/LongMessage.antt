@@ -9,6 +9,7 @@ use Rattle.frame.specs.Bytes.{numberOf}
 use Rattle.frame.specs.Identifier.{greatestDgn}
 use Rattle.frame.specs.Frame.{checkedOf}
 use Rattle.frame.specs.declared.Parts.{Parts}
+use Rattle.frame.specs.Standard.{announcementDgn, packetDgn}
 
 -- the lengths of a long message, in bytes
 abbrev pub shortest : ℕ
@@ -28,12 +29,6 @@ packetsOf size = (size + 6) / 7
 -- a message whose frames pause for longer, in milliseconds, is closed
 abbrev pub idleLimit : ℕ
 idleLimit = 750
-
-abbrev pub announcementDgn : ℕ
-announcementDgn = 0xECFF
-
-abbrev pub packetDgn : ℕ
-packetDgn = 0xEBFF
 
 -- byte 0 of an announcement to all
 abbrev pub toAll : ℕ

@@ -7,6 +7,7 @@ use Prim.Native.Nat.{ℕ, _+_}
 use lib.ListN.{take, drop}
 use Rattle.frame.specs.Words.{if_then_else_, _<?_, _=?_, Told, refused, gives}
 use Rattle.frame.specs.Identifier.{sourceOf}
+use Rattle.frame.specs.Standard.{Frame}
 use Rattle.places.specs.Format.{Asks, fixed, opens, feeds, Fed, goes, ends, Format}
 use Rattle.message.specs.LongMessage.{packetsOf, idleLimit, needed, Meaning, other, announcement, packet, meaningOf}
 
@@ -18,11 +19,6 @@ pub record Open : Type 0 where
   pub expected : ℕ
   pub idle : ℕ
   pub collected : List ℕ
-
--- A frame as it comes off the bus, and what a data packet brings.
-pub record Frame : Type 0 where
-  pub id : ℕ
-  pub bytes : List ℕ
 
 pub record Part : Type 0 where
   pub number : ℕ

@@ -6,11 +6,8 @@ use lib.ListN.{length, take, drop, replicate}
 use Rattle.frame.specs.Words.{if_then_else_, _<?_, _≤?_, _=?_, _or_, Told, refused, gives, given_then_}
 use Rattle.frame.specs.Bytes.{bytesOf}
 use Rattle.frame.specs.Identifier.{greatestDgn}
+use Rattle.frame.specs.Standard.{unused}
 use Rattle.message.specs.LongMessage.{shortest, longest, packetBytes, packetsOf, toAll}
-
--- the byte that fills what is not used
-abbrev pub unused : ℕ
-unused = 0xFF
 
 abbrev pub mostPackets : ℕ
 mostPackets = 255

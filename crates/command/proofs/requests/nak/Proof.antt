@@ -1,6 +1,7 @@
 -- `command::requests::nak` meets its contract. Assumes nothing.
 use borrow.Author.Needs.{needs}
-use Rattle.command.specs.Acknowledgment.{unused, acknowledgment}
+use Rattle.frame.specs.Standard.{unused}
+use Rattle.command.specs.Acknowledgment.{acknowledgment}
 use Rattle.command.specs.Requests.{nakCode}
 use Rattle.command.proofs.Answers.{nak-requested}
 use Rattle.command.proofs.requests.nak.Statement.{statement}
