@@ -14,7 +14,7 @@ use Rattle.capture.specs.Digits.{numberRead, areDigits, number}
 use Rattle.capture.specs.Line.{Frame, lineOf, lineRead, IsLineOf, hasShape, gapRead, bytesRead, gapWidth, gapIn, idIn, dataIn, byteDigits}
 use Rattle.capture.specs.Stream.{newline, longestLine, mostLines, linesFrom, Piece, pieceOf, linesOf, pieceRead}
 use Rattle.capture.specs.Promises.{toldReading, frameIn, frameIf, Write}
-use Rattle.capture.specs.Laws.{ToldReadingSame, TakeApartOnly, WriteOnly, NewOnly, NextOnly, LastOnly, MalformedKeeps, NumberBack, DigitsBack, NoLeadingZeros, SoundExactly, MalformedExactly, OnlyNineteen, OneLine, OneFrame, SoundLength, WrittenLength, textOf, WrittenTakenApart, TakenApartWritten, NoBytesNoLines, FinalNewline, NoMoreLines, PieceSays}
+use Rattle.capture.specs.Laws.{ToldReadingSame, TakeApartOnly, WriteOnly, NewOnly, NextOnly, LastOnly, ReadingRefusalOnly, MalformedKeeps, NumberBack, DigitsBack, NoLeadingZeros, SoundExactly, MalformedExactly, OnlyNineteen, OneLine, OneFrame, SoundLength, WrittenLength, textOf, WrittenTakenApart, TakenApartWritten, NoBytesNoLines, FinalNewline, NoMoreLines, PieceSays}
 use Rattle.capture.specs.declared.Reading.{Reading}
 use Rattle.capture.specs.declared.Reading.the-variants as Reading
 use Rattle.capture.specs.declared.Line.{Line}
@@ -70,6 +70,9 @@ next-only block at c r s p q =
 
 pub last-only : LastOnly
 last-only c r s p q = p .answer ∙ sym (q .answer)
+
+pub reading-refusal-only : ReadingRefusalOnly
+reading-refusal-only answer r s p q = p .number ∙ sym (q .number)
 
 -- what a refusal leaves
 pub malformed-keeps : MalformedKeeps

@@ -10,7 +10,7 @@ use Rattle.capture.specs.Digits.{greatestBase, digits, numberRead}
 use Rattle.capture.specs.Line.{Frame, lineOf, lineRead, IsFrame, IsLineOf, gapWidth, greatestGap, shortestLine, longestSound}
 use Rattle.capture.specs.Stream.{newline, longestLine, mostLines, Piece, pieceOf, linesOf, pieceRead}
 use Rattle.capture.specs.Cutter.{fresh}
-use Rattle.capture.specs.Promises.{toldReading, frameIn, noFrame, TakeApart, Write, New, Next, Last}
+use Rattle.capture.specs.Promises.{toldReading, frameIn, noFrame, TakeApart, Write, New, Next, Last, ReadingRefusal}
 use Rattle.capture.specs.Feeding.{joined, yieldOf, brings, between, Fed}
 use Rattle.capture.specs.declared.Reading.{Reading}
 use Rattle.capture.specs.declared.Reading.the-variants as Reading
@@ -42,6 +42,9 @@ NextOnly = (block : List ℕ) (at : ℕ) (c : Cutter) (r s : Cut) → Next block
 
 abbrev pub LastOnly : Type 0
 LastOnly = (c : Cutter) (r s : Ending) → Last c r → Last c s → r ≡ s
+
+abbrev pub ReadingRefusalOnly : Type 0
+ReadingRefusalOnly = (answer : Reading) (r s : ℕ) → ReadingRefusal answer r → ReadingRefusal answer s → r ≡ s
 
 -- A refusal returns its number and nothing else: zeros stand beside it.
 abbrev pub MalformedKeeps : Type 0

@@ -3,7 +3,7 @@ use mathlib.Core.Path.{_≡_}
 use mathlib.Core.List.{List, _++_}
 use Prim.Native.Nat.{ℕ, _-_}
 use lib.ListN.{length, drop, replicate}
-use Rattle.frame.specs.Words.{Told, refused, gives}
+use Rattle.frame.specs.Words.{Told, refused, gives, numberIn}
 use Rattle.frame.specs.Frame.{frameBytes}
 use Rattle.capture.specs.Line.{Frame, lineOf, lineRead, longestSound}
 use Rattle.capture.specs.Cutter.{fresh, cuttingOf, cutterAfter, nextAfter, endingOf}
@@ -35,6 +35,10 @@ frameIf (refused n) = noFrame
 pub record TakeApart (line : List ℕ) (r : Line) : Type 0 where
   pub answer : toldReading (r .answer) (frameIn r) ≡ lineRead line
   pub frame : frameIn r ≡ frameIf (lineRead line)
+
+-- the number of the refusal is told whatever stands beside it
+pub record ReadingRefusal (answer : Reading) (r : ℕ) : Type 0 where
+  pub number : r ≡ numberIn (toldReading answer noFrame)
 
 -- write: the line, and zeros behind it
 

@@ -6,6 +6,7 @@ ghost use Rattle.capture.specs.Stream.{lineIn, mostLines};
 ghost use Rattle.capture.specs.Cutter.{isTooLong, carriedOn, closed, lineAt};
 use crate::Cutter;
 use crate::Cutting;
+use crate::LONGEST_LINE;
 use crate::writing;
 
 // The position of the first newline from `from` on, or the block's length.
@@ -42,10 +43,10 @@ pub fn line(length: usize, from: usize, to: usize) -> Cutting
 fn too_long(length: usize, more: usize) -> bool
     ensures { λ r. ⌜ r ≡ isTooLong length more ⌝ }
 {
-    if 80 < length {
+    if LONGEST_LINE < length {
         return true;
     }
-    80 - length < more
+    LONGEST_LINE - length < more
 }
 
 // The cutter after a block whose end is no end of the line.

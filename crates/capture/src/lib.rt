@@ -4,9 +4,19 @@ mod spelling;
 mod writing;
 
 ghost use mathlib.Core.Path.{_≡_};
-ghost use Rattle.capture.specs.Promises.{TakeApart, Write, New, Next, Last};
+ghost use Rattle.capture.specs.Promises.{TakeApart, Write, New, Next, Last, ReadingRefusal};
 ghost use Rattle.capture.specs.Private.{blank};
 use spelling::Spelled;
+
+// A line has at most so many bytes before its newline, and so many lines are read.
+pub const LONGEST_LINE: usize = 80;
+
+pub const MOST_LINES: u32 = 1000000;
+
+// The longest line of a frame, and what of it is not the decimals of its gap.
+pub const TEXT_BYTES: usize = 43;
+
+const KEYS_AND_DIGITS: usize = 38;
 
 // Whether a line is that of a frame; refusal 19 otherwise.
 pub enum Reading {
@@ -24,14 +34,14 @@ pub struct Line {
 
 // The line of a frame, without its newline: the first `count` bytes. The rest are zeros.
 pub struct Text {
-    pub bytes: [u8; 43],
+    pub bytes: [u8; TEXT_BYTES],
     pub count: usize,
 }
 
 // Cuts a stream into lines: how many it has cut, and what the blocks so far hold of a line whose end has not come.
 // A length above 80 means a line that is too long, of which nothing is kept.
 pub struct Cutter {
-    pub carry: [u8; 80],
+    pub carry: [u8; LONGEST_LINE],
     pub length: usize,
     pub lines: u32,
 }
@@ -67,6 +77,19 @@ pub enum Ending {
     Nothing,
 }
 
+impl Reading {
+    // The number of the refusal; 0 where the line is that of a frame.
+    pub fn refusal(self) -> u8
+        ensures { λ r. ⌜ ReadingRefusal self r ⌝ }
+    {
+        let answer = self;
+        match answer {
+            Reading::Sound => 0,
+            Reading::Malformed => 19,
+        }
+    }
+}
+
 // Takes a line apart, given without its newline.
 pub fn take_apart(line: &[u8]) -> Line
     ensures { λ r. ⌜ TakeApart (now (line .entry)) r ⌝ }
@@ -74,7 +97,7 @@ pub fn take_apart(line: &[u8]) -> Line
     if !spelling::has_shape(line) {
         return malformed();
     }
-    let width = line.len() - 38;
+    let width = line.len() - KEYS_AND_DIGITS;
     let gap_end = width + 4;
     let id_start = width + 8;
     let id_end = width + 16;
@@ -103,7 +126,7 @@ pub fn write(gap: u16, id: u32, bytes: [u8; 8]) -> Text
     ensures { λ r. ⌜ Write gap id bytes r ⌝ }
 {
     let width = spelling::width_of(gap as u32);
-    let mut text = [0u8; 43];
+    let mut text = [0u8; TEXT_BYTES];
     writing::put(&mut text, 0, b"gap=");
     writing::put_number(&mut text, 4, 10, gap as u32, width);
     writing::put(&mut text, width + 4, b" id=");
@@ -112,7 +135,7 @@ pub fn write(gap: u16, id: u32, bytes: [u8; 8]) -> Text
     writing::put_bytes(&mut text, width + 22, bytes);
     Text {
         bytes: text,
-        count: width + 38,
+        count: width + KEYS_AND_DIGITS,
     }
 }
 
@@ -122,7 +145,7 @@ impl Cutter {
         ensures { λ r. ⌜ New r ⌝ }
     {
         Cutter {
-            carry: [0u8; 80],
+            carry: [0u8; LONGEST_LINE],
             length: 0,
             lines: 0,
         }
@@ -132,7 +155,7 @@ impl Cutter {
     pub fn next(self, block: &[u8], at: usize) -> Cut
         ensures { λ r. ⌜ Next (now (block .entry)) at self r ⌝ }
     {
-        if 1000000 <= self.lines {
+        if MOST_LINES <= self.lines {
             return Cut {
                 cutter: self,
                 answer: Cutting::AllRead,
@@ -165,13 +188,13 @@ impl Cutter {
     pub fn last(self) -> Ending
         ensures { λ r. ⌜ Last self r ⌝ }
     {
-        if 1000000 <= self.lines {
+        if MOST_LINES <= self.lines {
             return Ending::Nothing;
         }
         if self.length == 0 {
             return Ending::Nothing;
         }
-        if 80 < self.length {
+        if LONGEST_LINE < self.length {
             return Ending::TooLong;
         }
         Ending::Carried(self.length)

@@ -6,6 +6,8 @@ ghost use lib.ListN.{length, drop};
 ghost use Rattle.capture.specs.Digits.{valueOf, numberRead};
 ghost use Rattle.capture.specs.Line.{hasShape, beginsWith, gapWidth, gapRead, bytesRead};
 ghost use Rattle.capture.specs.Private.{toldSpelled, toldEight};
+use crate::KEYS_AND_DIGITS;
+use crate::TEXT_BYTES;
 
 // The number that digits spell, if all are digits.
 pub enum Spelled {
@@ -26,10 +28,10 @@ pub fn has_shape(line: &[u8]) -> bool
     if line.len() < 39 {
         return false;
     }
-    if 43 < line.len() {
+    if TEXT_BYTES < line.len() {
         return false;
     }
-    let width = line.len() - 38;
+    let width = line.len() - KEYS_AND_DIGITS;
     if !begins(b"gap=", line, 0) {
         return false;
     }

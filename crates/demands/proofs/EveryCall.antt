@@ -13,6 +13,12 @@ use Rattle.frame.proofs.destination_of.Met as frame-destination-of
 use Rattle.frame.proofs.catalogue_form.Met as frame-catalogue-form
 use Rattle.frame.proofs.number_of.Met as frame-number-of
 use Rattle.frame.proofs.bytes_of.Met as frame-bytes-of
+use Rattle.frame.proofs.Apart.refusal.Met as frame-apart-refusal
+use Rattle.frame.proofs.Formed.refusal.Met as frame-formed-refusal
+use Rattle.frame.proofs.Verdict.refusal.Met as frame-verdict-refusal
+use Rattle.frame.proofs.BadFrame.refusal.Met as frame-bad-frame-refusal
+use Rattle.frame.proofs.dgn_bytes.Met as frame-dgn-bytes
+use Rattle.frame.proofs.dgn_of.Met as frame-dgn-of
 use Rattle.message.specs.Promises as message-promises
 use Rattle.message.proofs.Laws as Message
 use Rattle.message.proofs.Receiver.new.Met as message-new
@@ -21,6 +27,11 @@ use Rattle.message.proofs.Receiver.pause.Met as message-pause
 use Rattle.message.proofs.message.Met as message-message
 use Rattle.message.proofs.announcement.Met as message-announcement
 use Rattle.message.proofs.packet.Met as message-packet
+use Rattle.message.proofs.Answer.refusal.Met as message-answer-refusal
+use Rattle.message.proofs.Pausing.refusal.Met as message-pausing-refusal
+use Rattle.message.proofs.Announcing.refusal.Met as message-announcing-refusal
+use Rattle.message.proofs.Cutting.refusal.Met as message-cutting-refusal
+use Rattle.message.proofs.Unsplittable.refusal.Met as message-unsplittable-refusal
 use Rattle.catalogue.specs.Promises as catalogue-promises
 use Rattle.catalogue.proofs.Laws as Catalogue
 use Rattle.catalogue.proofs.rows.Met as catalogue-rows
@@ -56,6 +67,7 @@ use Rattle.capture.proofs.write.Met as capture-write
 use Rattle.capture.proofs.Cutter.new.Met as capture-new
 use Rattle.capture.proofs.Cutter.next.Met as capture-next
 use Rattle.capture.proofs.Cutter.last.Met as capture-last
+use Rattle.capture.proofs.Reading.refusal.Met as capture-reading-refusal
 use Rattle.demands.specs.EveryCall.{AsksNothing, EveryCall}
 
 -- What Rattle makes of a contract with no `requires`.
@@ -79,6 +91,14 @@ every-call M =
         one-answer = λ κs a r s w v h k. (Frame.take-apart-only (a .0) r s h k, refl);
         only = Frame.take-apart-only;
       };
+      frame-apart-refusal = record {
+        meets = frame-apart-refusal.met;
+        asks-nothing = free;
+        Promise = λ κs a r e. frame-promises.ApartRefusal (a .0) r;
+        promises = λ 𝓤 H A mem run κs a ghost r. refl;
+        one-answer = λ κs a r s w v h k. (Frame.apart-refusal-only (a .0) r s h k, refl);
+        only = Frame.apart-refusal-only;
+      };
       frame-form = record {
         meets = frame-form.met;
         asks-nothing = free;
@@ -87,6 +107,14 @@ every-call M =
         one-answer = λ κs a r s w v h k. (Frame.form-only (a .0) (a .1 .0) (a .1 .1 .0) r s h k, refl);
         only = Frame.form-only;
       };
+      frame-formed-refusal = record {
+        meets = frame-formed-refusal.met;
+        asks-nothing = free;
+        Promise = λ κs a r e. frame-promises.FormedRefusal (a .0) r;
+        promises = λ 𝓤 H A mem run κs a ghost r. refl;
+        one-answer = λ κs a r s w v h k. (Frame.formed-refusal-only (a .0) r s h k, refl);
+        only = Frame.formed-refusal-only;
+      };
       frame-check = record {
         meets = frame-check.met;
         asks-nothing = free;
@@ -94,6 +122,22 @@ every-call M =
         promises = λ 𝓤 H A mem run κs a ghost r. refl;
         one-answer = λ κs a r s w v h k. (Frame.check-only (a .0) (now (a .1 .0)) r s h k, refl);
         only = Frame.check-only;
+      };
+      frame-verdict-refusal = record {
+        meets = frame-verdict-refusal.met;
+        asks-nothing = free;
+        Promise = λ κs a r e. frame-promises.VerdictRefusal (a .0) r;
+        promises = λ 𝓤 H A mem run κs a ghost r. refl;
+        one-answer = λ κs a r s w v h k. (Frame.verdict-refusal-only (a .0) r s h k, refl);
+        only = Frame.verdict-refusal-only;
+      };
+      frame-bad-frame-refusal = record {
+        meets = frame-bad-frame-refusal.met;
+        asks-nothing = free;
+        Promise = λ κs a r e. frame-promises.BadFrameRefusal (a .0) r;
+        promises = λ 𝓤 H A mem run κs a ghost r. refl;
+        one-answer = λ κs a r s w v h k. (Frame.bad-frame-refusal-only (a .0) r s h k, refl);
+        only = Frame.bad-frame-refusal-only;
       };
       frame-destination-of = record {
         meets = frame-destination-of.met;
@@ -127,6 +171,22 @@ every-call M =
         one-answer = λ κs a r s w v h k. (Frame.bytes-of-only (a .0) r s h k, refl);
         only = Frame.bytes-of-only;
       };
+      frame-dgn-bytes = record {
+        meets = frame-dgn-bytes.met;
+        asks-nothing = free;
+        Promise = λ κs a r e. frame-promises.DgnBytes (a .0) r;
+        promises = λ 𝓤 H A mem run κs a ghost r. refl;
+        one-answer = λ κs a r s w v h k. (Frame.dgn-bytes-only (a .0) r s h k, refl);
+        only = Frame.dgn-bytes-only;
+      };
+      frame-dgn-of = record {
+        meets = frame-dgn-of.met;
+        asks-nothing = free;
+        Promise = λ κs a r e. frame-promises.DgnOf (a .0) (a .1 .0) (a .1 .1 .0) r;
+        promises = λ 𝓤 H A mem run κs a ghost r. refl;
+        one-answer = λ κs a r s w v h k. (Frame.dgn-of-only (a .0) (a .1 .0) (a .1 .1 .0) r s h k, refl);
+        only = Frame.dgn-of-only;
+      };
       message-new = record {
         meets = message-new.met;
         asks-nothing = free;
@@ -147,6 +207,14 @@ every-call M =
             (a .1 .1 .0) (now (a .1 .1 .1 .0)) (a .0 .places) (now (a .1 .0)) r s (w .1 .0) (v .1 .0) h k);
         only = Message.hear-only;
       };
+      message-answer-refusal = record {
+        meets = message-answer-refusal.met;
+        asks-nothing = free;
+        Promise = λ κs a r e. message-promises.AnswerRefusal (a .0) r;
+        promises = λ 𝓤 H A mem run κs a ghost r. refl;
+        one-answer = λ κs a r s w v h k. (Message.answer-refusal-only (a .0) r s h k, refl);
+        only = Message.answer-refusal-only;
+      };
       message-pause = record {
         meets = message-pause.met;
         asks-nothing = free;
@@ -154,6 +222,14 @@ every-call M =
         promises = λ 𝓤 H A mem run κs a ghost r. refl;
         one-answer = λ κs a r s w v h k. (Message.pause-only (a .1 .0) (a .0 .places) r s h k, refl);
         only = Message.pause-only;
+      };
+      message-pausing-refusal = record {
+        meets = message-pausing-refusal.met;
+        asks-nothing = free;
+        Promise = λ κs a r e. message-promises.PausingRefusal (a .0) r;
+        promises = λ 𝓤 H A mem run κs a ghost r. refl;
+        one-answer = λ κs a r s w v h k. (Message.pausing-refusal-only (a .0) r s h k, refl);
+        only = Message.pausing-refusal-only;
       };
       message-message = record {
         meets = message-message.met;
@@ -171,6 +247,14 @@ every-call M =
         one-answer = λ κs a r s w v h k. (Message.announcement-only (now (a .0)) (a .1 .0) r s h k, refl);
         only = Message.announcement-only;
       };
+      message-announcing-refusal = record {
+        meets = message-announcing-refusal.met;
+        asks-nothing = free;
+        Promise = λ κs a r e. message-promises.AnnouncingRefusal (a .0) r;
+        promises = λ 𝓤 H A mem run κs a ghost r. refl;
+        one-answer = λ κs a r s w v h k. (Message.announcing-refusal-only (a .0) r s h k, refl);
+        only = Message.announcing-refusal-only;
+      };
       message-packet = record {
         meets = message-packet.met;
         asks-nothing = free;
@@ -178,6 +262,22 @@ every-call M =
         promises = λ 𝓤 H A mem run κs a ghost r. refl;
         one-answer = λ κs a r s w v h k. (Message.packet-only (now (a .0)) (a .1 .0) (a .1 .1 .0) r s h k, refl);
         only = Message.packet-only;
+      };
+      message-cutting-refusal = record {
+        meets = message-cutting-refusal.met;
+        asks-nothing = free;
+        Promise = λ κs a r e. message-promises.CuttingRefusal (a .0) r;
+        promises = λ 𝓤 H A mem run κs a ghost r. refl;
+        one-answer = λ κs a r s w v h k. (Message.cutting-refusal-only (a .0) r s h k, refl);
+        only = Message.cutting-refusal-only;
+      };
+      message-unsplittable-refusal = record {
+        meets = message-unsplittable-refusal.met;
+        asks-nothing = free;
+        Promise = λ κs a r e. message-promises.UnsplittableRefusal (a .0) r;
+        promises = λ 𝓤 H A mem run κs a ghost r. refl;
+        one-answer = λ κs a r s w v h k. (Message.unsplittable-refusal-only (a .0) r s h k, refl);
+        only = Message.unsplittable-refusal-only;
       };
       catalogue-rows = record {
         meets = catalogue-rows.met;
@@ -356,6 +456,14 @@ every-call M =
         promises = λ 𝓤 H A mem run κs a ghost r. refl;
         one-answer = λ κs a r s w v h k. (Capture.take-apart-only (now (a .0)) r s h k, refl);
         only = Capture.take-apart-only;
+      };
+      capture-reading-refusal = record {
+        meets = capture-reading-refusal.met;
+        asks-nothing = free;
+        Promise = λ κs a r e. capture-promises.ReadingRefusal (a .0) r;
+        promises = λ 𝓤 H A mem run κs a ghost r. refl;
+        one-answer = λ κs a r s w v h k. (Capture.reading-refusal-only (a .0) r s h k, refl);
+        only = Capture.reading-refusal-only;
       };
       capture-write = record {
         meets = capture-write.met;

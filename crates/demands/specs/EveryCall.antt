@@ -25,6 +25,12 @@ use Rattle.frame.proofs.destination_of as frame-destination-of
 use Rattle.frame.proofs.catalogue_form as frame-catalogue-form
 use Rattle.frame.proofs.number_of as frame-number-of
 use Rattle.frame.proofs.bytes_of as frame-bytes-of
+use Rattle.frame.proofs.Apart.refusal as frame-apart-refusal
+use Rattle.frame.proofs.Formed.refusal as frame-formed-refusal
+use Rattle.frame.proofs.Verdict.refusal as frame-verdict-refusal
+use Rattle.frame.proofs.BadFrame.refusal as frame-bad-frame-refusal
+use Rattle.frame.proofs.dgn_bytes as frame-dgn-bytes
+use Rattle.frame.proofs.dgn_of as frame-dgn-of
 use Rattle.message.specs.Laws as Message
 use Rattle.message.proofs.Receiver.new as message-new
 use Rattle.message.proofs.Receiver.hear as message-hear
@@ -32,6 +38,11 @@ use Rattle.message.proofs.Receiver.pause as message-pause
 use Rattle.message.proofs.message as message-message
 use Rattle.message.proofs.announcement as message-announcement
 use Rattle.message.proofs.packet as message-packet
+use Rattle.message.proofs.Answer.refusal as message-answer-refusal
+use Rattle.message.proofs.Pausing.refusal as message-pausing-refusal
+use Rattle.message.proofs.Announcing.refusal as message-announcing-refusal
+use Rattle.message.proofs.Cutting.refusal as message-cutting-refusal
+use Rattle.message.proofs.Unsplittable.refusal as message-unsplittable-refusal
 use Rattle.catalogue.specs.Laws as Catalogue
 use Rattle.catalogue.proofs.rows as catalogue-rows
 use Rattle.catalogue.proofs.row_at as catalogue-row-at
@@ -62,6 +73,7 @@ use Rattle.capture.proofs.write as capture-write
 use Rattle.capture.proofs.Cutter.new as capture-new
 use Rattle.capture.proofs.Cutter.next as capture-next
 use Rattle.capture.proofs.Cutter.last as capture-last
+use Rattle.capture.proofs.Reading.refusal as capture-reading-refusal
 
 -- A contract's `requires` asks nothing of a caller: there is a value of what the contract binds, and at each it is ⊤ₛ.
 pub record AsksNothing {M : Type 1} (𝓤 : URA M) {Ghost : Type 0} (requires : Ghost → SProp 𝓤) : Type 2 where
@@ -108,8 +120,20 @@ module _ (M : Type 1) where
     -- Identifier
     pub frame-take-apart :
         Answers frame-take-apart.ended frame-take-apart.Symbol.routine frame-take-apart.spec Frame.TakeApartOnly
+    pub frame-apart-refusal :
+        Answers frame-apart-refusal.ended frame-apart-refusal.Symbol.routine frame-apart-refusal.spec
+        Frame.ApartRefusalOnly
     pub frame-form : Answers frame-form.ended frame-form.Symbol.routine frame-form.spec Frame.FormOnly
+    pub frame-formed-refusal :
+        Answers frame-formed-refusal.ended frame-formed-refusal.Symbol.routine frame-formed-refusal.spec
+        Frame.FormedRefusalOnly
     pub frame-check : Answers frame-check.ended frame-check.Symbol.routine frame-check.spec Frame.CheckOnly
+    pub frame-verdict-refusal :
+        Answers frame-verdict-refusal.ended frame-verdict-refusal.Symbol.routine frame-verdict-refusal.spec
+        Frame.VerdictRefusalOnly
+    pub frame-bad-frame-refusal :
+        Answers frame-bad-frame-refusal.ended frame-bad-frame-refusal.Symbol.routine frame-bad-frame-refusal.spec
+        Frame.BadFrameRefusalOnly
     pub frame-destination-of :
         Answers frame-destination-of.ended frame-destination-of.Symbol.routine frame-destination-of.spec
         Frame.DestinationOfOnly
@@ -120,11 +144,20 @@ module _ (M : Type 1) where
         Answers frame-number-of.ended frame-number-of.Symbol.routine frame-number-of.spec Frame.NumberOfOnly
     pub frame-bytes-of :
         Answers frame-bytes-of.ended frame-bytes-of.Symbol.routine frame-bytes-of.spec Frame.BytesOfOnly
+    pub frame-dgn-bytes :
+        Answers frame-dgn-bytes.ended frame-dgn-bytes.Symbol.routine frame-dgn-bytes.spec Frame.DgnBytesOnly
+    pub frame-dgn-of : Answers frame-dgn-of.ended frame-dgn-of.Symbol.routine frame-dgn-of.spec Frame.DgnOfOnly
     -- Long messages, eight senders at once
     pub message-new : Answers message-new.ended message-new.Symbol.routine message-new.spec Message.NewOnly
     pub message-hear : Answers message-hear.ended message-hear.Symbol.routine message-hear.spec Message.HearOnly
+    pub message-answer-refusal :
+        Answers message-answer-refusal.ended message-answer-refusal.Symbol.routine message-answer-refusal.spec
+        Message.AnswerRefusalOnly
     pub message-pause :
         Answers message-pause.ended message-pause.Symbol.routine message-pause.spec Message.PauseOnly
+    pub message-pausing-refusal :
+        Answers message-pausing-refusal.ended message-pausing-refusal.Symbol.routine message-pausing-refusal.spec
+        Message.PausingRefusalOnly
     -- the answer is a part of the storage: two are the same that have the same bytes
     pub message-message :
         AnswersBy message-message.ended message-message.Symbol.routine message-message.spec (λ κs r s. now r ≡ now s)
@@ -132,8 +165,17 @@ module _ (M : Type 1) where
     pub message-announcement :
         Answers message-announcement.ended message-announcement.Symbol.routine message-announcement.spec
         Message.AnnouncementOnly
+    pub message-announcing-refusal :
+        Answers message-announcing-refusal.ended message-announcing-refusal.Symbol.routine message-announcing-refusal.spec
+        Message.AnnouncingRefusalOnly
     pub message-packet :
         Answers message-packet.ended message-packet.Symbol.routine message-packet.spec Message.PacketOnly
+    pub message-cutting-refusal :
+        Answers message-cutting-refusal.ended message-cutting-refusal.Symbol.routine message-cutting-refusal.spec
+        Message.CuttingRefusalOnly
+    pub message-unsplittable-refusal :
+        Answers message-unsplittable-refusal.ended message-unsplittable-refusal.Symbol.routine message-unsplittable-refusal.spec
+        Message.UnsplittableRefusalOnly
     -- Field catalogue
     pub catalogue-rows :
         Answers catalogue-rows.ended catalogue-rows.Symbol.routine catalogue-rows.spec Catalogue.RowsOnly
@@ -179,6 +221,9 @@ module _ (M : Type 1) where
     pub capture-take-apart :
         Answers capture-take-apart.ended capture-take-apart.Symbol.routine capture-take-apart.spec
         Capture.TakeApartOnly
+    pub capture-reading-refusal :
+        Answers capture-reading-refusal.ended capture-reading-refusal.Symbol.routine capture-reading-refusal.spec
+        Capture.ReadingRefusalOnly
     pub capture-write :
         Answers capture-write.ended capture-write.Symbol.routine capture-write.spec Capture.WriteOnly
     pub capture-new : Answers capture-new.ended capture-new.Symbol.routine capture-new.spec Capture.NewOnly

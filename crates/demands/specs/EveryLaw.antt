@@ -34,12 +34,20 @@ pub record FrameLaws : Type 0 where
   pub catalogue-form-only : Frame.CatalogueFormOnly
   pub number-of-only : Frame.NumberOfOnly
   pub bytes-of-only : Frame.BytesOfOnly
+  pub dgn-bytes-only : Frame.DgnBytesOnly
+  pub dgn-of-only : Frame.DgnOfOnly
+  pub apart-refusal-only : Frame.ApartRefusalOnly
+  pub formed-refusal-only : Frame.FormedRefusalOnly
+  pub bad-frame-refusal-only : Frame.BadFrameRefusalOnly
+  pub verdict-refusal-only : Frame.VerdictRefusalOnly
   pub refused-keeps : Frame.RefusedKeeps
   pub parts-back : Frame.PartsBack
   pub identifier-back : Frame.IdentifierBack
   pub priority-ignored : Frame.PriorityIgnored
   pub number-back : Frame.NumberBack
   pub bytes-back : Frame.BytesBack
+  pub dgn-back : Frame.DgnBack
+  pub no-frame-refused : Frame.NoFrameRefused
   pub example-one : Frame.ExampleOne
   pub lowest-wins : (id size : ℕ) → Frame.LowestWins id size
 
@@ -145,6 +153,11 @@ pub record MessageLaws : Type 0 where
   pub message-only : Message.MessageOnly
   pub announcement-only : Message.AnnouncementOnly
   pub packet-only : Message.PacketOnly
+  pub answer-refusal-only : Message.AnswerRefusalOnly
+  pub pausing-refusal-only : Message.PausingRefusalOnly
+  pub announcing-refusal-only : Message.AnnouncingRefusalOnly
+  pub cutting-refusal-only : Message.CuttingRefusalOnly
+  pub unsplittable-refusal-only : Message.UnsplittableRefusalOnly
   pub refused-keeps : Message.RefusedKeeps
   pub ten-closes : Message.TenCloses
   pub pause-refused-keeps : Message.PauseRefusedKeeps
@@ -298,6 +311,7 @@ pub record CaptureLaws : Type 0 where
   pub new-only : Capture.NewOnly
   pub next-only : Capture.NextOnly
   pub last-only : Capture.LastOnly
+  pub reading-refusal-only : Capture.ReadingRefusalOnly
   pub malformed-keeps : Capture.MalformedKeeps
   pub number-back : Capture.NumberBack
   pub digits-back : Capture.DigitsBack

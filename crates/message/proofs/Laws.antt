@@ -9,7 +9,7 @@ use native.Mathlib.Omega.{arith}
 use borrow.Author.Tests.{eqb-true, eqb-false, ltb-true, ltb-false}
 use lib.ListN.{List·getD-append, length, take, drop, getD, set, length-drop, length-take}
 use lib.Seq.{paste, getD-take, getD-drop, getD-append-add, take-paste, drop-paste}
-use Rattle.frame.specs.Words.{if_then_else_, _=?_, _<?_, Told, refused, gives}
+use Rattle.frame.specs.Words.{if_then_else_, _=?_, _<?_, Told, refused, gives, numberIn}
 use Rattle.frame.specs.Identifier.{greatestDgn}
 use Rattle.frame.specs.Frame.{frameBytes}
 use Rattle.frame.specs.Promises.{refusalOf}
@@ -26,8 +26,8 @@ use Rattle.message.specs.LongMessage.{shortest, longest, packetBytes, pa
 use Rattle.message.specs.Receiver.{placeCount, room, freePlace, isOpenBy, keepsRules, Outcome, nothingToDo, opened, stored, finished, After, leaves, placeFor, openedAt, announces, keptAt, packetAt, carries, byMeaning, heard, pausedPlaces, pausedAnswer}
 use Rattle.message.specs.Receiver as Receiver
 use Rattle.message.specs.Splitter.{mostPackets, splits, numbered}
-use Rattle.message.specs.Promises.{toldAnswer, toldPausing, announcingNumber, cuttingNumber, numberIn, bytesIn}
-use Rattle.message.specs.Laws.{ToldAnswerSame, ToldPausingSame, AnnouncingNumberSame, CuttingNumberSame, NewOnly, HearOnly, PauseOnly, MessageOnly, AnnouncementOnly, PacketOnly, RefusedKeeps, ClosedAt, TenCloses, LowestWins, PauseRefusedKeeps, WritesThePacket, WritesItsOwn, NotBeyond, SplitterAnnounces, SplitterCuts}
+use Rattle.message.specs.Promises.{toldAnswer, toldPausing, announcingNumber, cuttingNumber, bytesIn}
+use Rattle.message.specs.Laws.{ToldAnswerSame, ToldPausingSame, AnnouncingNumberSame, CuttingNumberSame, NewOnly, HearOnly, PauseOnly, MessageOnly, AnnouncementOnly, PacketOnly, AnswerRefusalOnly, PausingRefusalOnly, UnsplittableRefusalOnly, AnnouncingRefusalOnly, CuttingRefusalOnly, RefusedKeeps, ClosedAt, TenCloses, LowestWins, PauseRefusedKeeps, WritesThePacket, WritesItsOwn, NotBeyond, SplitterAnnounces, SplitterCuts}
 use Rattle.message.specs.declared.Place.{Place}
 use Rattle.message.specs.declared.Receiver.{Receiver}
 use Rattle.message.specs.declared.Answer.{Answer}
@@ -157,6 +157,21 @@ packet-only message dgn number r s p q =
     let a = cutting-number-same (r .answer) (s .answer) (p .number ∙ sym (q .number)) in
     let b = p .bytes ∙ sym (q .bytes) in
     λ i. record { answer = a i; bytes = b i }
+
+pub answer-refusal-only : AnswerRefusalOnly
+answer-refusal-only answer r s p q = p .number ∙ sym (q .number)
+
+pub pausing-refusal-only : PausingRefusalOnly
+pausing-refusal-only answer r s p q = p .number ∙ sym (q .number)
+
+pub unsplittable-refusal-only : UnsplittableRefusalOnly
+unsplittable-refusal-only why r s p q = p .number ∙ sym (q .number)
+
+pub announcing-refusal-only : AnnouncingRefusalOnly
+announcing-refusal-only answer r s p q = p .number ∙ sym (q .number)
+
+pub cutting-refusal-only : CuttingRefusalOnly
+cutting-refusal-only answer r s p q = p .number ∙ sym (q .number)
 
 -- A frame, by its outcomes: either a refusal or an announcement that leaves the storage, or a packet at its sender's place.
 

@@ -15,7 +15,7 @@ use Rattle.places.specs.declared.Found.the-variants.{At}
 use Rattle.message.specs.LongMessage.{shortest, longest, packetBytes, packetsOf, needed, packet, meaningOf}
 use Rattle.message.specs.Receiver.{placeCount, room, freePlace, isOpenBy, keepsRules, heard}
 use Rattle.message.specs.Splitter.{announcementBytes, packetBytesOf}
-use Rattle.message.specs.Promises.{toldAnswer, toldPausing, announcingNumber, cuttingNumber, New, Hear, Pause, Message, Announcement, Packet}
+use Rattle.message.specs.Promises.{toldAnswer, toldPausing, announcingNumber, cuttingNumber, New, Hear, Pause, Message, Announcement, Packet, AnswerRefusal, PausingRefusal, UnsplittableRefusal, AnnouncingRefusal, CuttingRefusal}
 use Rattle.message.specs.declared.Place.{Place}
 use Rattle.message.specs.declared.Receiver.{Receiver}
 use Rattle.message.specs.declared.Answer.{Answer}
@@ -23,6 +23,7 @@ use Rattle.message.specs.declared.Answer.the-variants.{UnexpectedPacket}
 use Rattle.message.specs.declared.Heard.{Heard}
 use Rattle.message.specs.declared.Pausing.{Pausing}
 use Rattle.message.specs.declared.Paused.{Paused}
+use Rattle.message.specs.declared.Unsplittable.{Unsplittable}
 use Rattle.message.specs.declared.Announcing.{Announcing}
 use Rattle.message.specs.declared.Announcing.the-variants as Announcing
 use Rattle.message.specs.declared.Announced.{Announced}
@@ -68,6 +69,21 @@ AnnouncementOnly =
 abbrev pub PacketOnly : Type 0
 PacketOnly =
     (message : List ℕ) (dgn number : ℕ) (r s : Cut) → Packet message dgn number r → Packet message dgn number s → r ≡ s
+
+abbrev pub AnswerRefusalOnly : Type 0
+AnswerRefusalOnly = (answer : Answer) (r s : ℕ) → AnswerRefusal answer r → AnswerRefusal answer s → r ≡ s
+
+abbrev pub PausingRefusalOnly : Type 0
+PausingRefusalOnly = (answer : Pausing) (r s : ℕ) → PausingRefusal answer r → PausingRefusal answer s → r ≡ s
+
+abbrev pub UnsplittableRefusalOnly : Type 0
+UnsplittableRefusalOnly = (why : Unsplittable) (r s : ℕ) → UnsplittableRefusal why r → UnsplittableRefusal why s → r ≡ s
+
+abbrev pub AnnouncingRefusalOnly : Type 0
+AnnouncingRefusalOnly = (answer : Announcing) (r s : ℕ) → AnnouncingRefusal answer r → AnnouncingRefusal answer s → r ≡ s
+
+abbrev pub CuttingRefusalOnly : Type 0
+CuttingRefusalOnly = (answer : Cutting) (r s : ℕ) → CuttingRefusal answer r → CuttingRefusal answer s → r ≡ s
 
 -- A refusal keeps state and storage; 10 closes the sender's place, and keeps every other place and all bytes.
 

@@ -5,7 +5,7 @@ use mathlib.Core.Bool.{Bool, true, false}
 use mathlib.Core.List.{List, [], map}
 use Prim.Native.Nat.{ℕ, _≤_, _*_}
 use lib.ListN.{length, take, drop, replicate}
-use Rattle.frame.specs.Words.{if_then_else_, _<?_, _≤?_, _or_, Told, refused, gives}
+use Rattle.frame.specs.Words.{if_then_else_, _<?_, _≤?_, _or_, Told, refused, gives, numberIn}
 use Rattle.frame.specs.Frame.{frameBytes}
 use Rattle.frame.specs.Promises.{refusalOf}
 use Rattle.message.specs.LongMessage.{longest, packetsOf, Meaning, other, announcement, packet}
@@ -54,6 +54,9 @@ pub record LeftBy (after : After) (r : Heard) (storage : List ℕ) : Type 0 wher
   pub storage-bytes : storage ≡ after .storage
   pub answer : toldAnswer (r .answer) ≡ after .answer
 
+pub record AnswerRefusal (answer : Answer) (r : ℕ) : Type 0 where
+  pub number : r ≡ numberIn (toldAnswer answer)
+
 abbrev pub Hear : ℕ → List ℕ → List Place → List ℕ → Heard → List ℕ → Type 0
 Hear id bytes places storage r exit = LeftBy (heard id bytes places storage) r exit
 
@@ -66,6 +69,9 @@ toldPausing Pausing.BrokenState = refused 2
 pub record Pause (ms : ℕ) (state : List Place) (r : Paused) : Type 0 where
   pub places : r .receiver .places ≡ pausedPlaces ms state
   pub answer : toldPausing (r .answer) ≡ pausedAnswer ms state
+
+pub record PausingRefusal (answer : Pausing) (r : ℕ) : Type 0 where
+  pub number : r ≡ numberIn (toldPausing answer)
 
 -- message: the finished message is that part of the storage, and empty where no message was finished, or no such answer
 -- is ever given
@@ -90,20 +96,21 @@ refusalWhy DgnTooLarge = 12
 refusalWhy LengthNotSplit = 13
 refusalWhy TooManyPackets = 14
 
+pub record UnsplittableRefusal (why : Unsplittable) (r : ℕ) : Type 0 where
+  pub number : r ≡ refusalWhy why
+
 -- 0 where the bytes are given
 abbrev pub announcingNumber : Announcing → ℕ
 announcingNumber Announcing.Bytes = 0
 announcingNumber (Announcing.Refused why) = refusalWhy why
 
--- the number, and the eight bytes, that a definition tells: zeros beside a refusal
-
-abbrev pub numberIn : Told (List ℕ) → ℕ
-numberIn (gives bytes) = 0
-numberIn (refused n) = n
-
+-- the eight bytes that a definition tells: zeros beside a refusal
 abbrev pub bytesIn : Told (List ℕ) → List ℕ
 bytesIn (gives bytes) = bytes
 bytesIn (refused n) = replicate frameBytes 0
+
+pub record AnnouncingRefusal (answer : Announcing) (r : ℕ) : Type 0 where
+  pub number : r ≡ announcingNumber answer
 
 pub record AnnouncedBy (told : Told (List ℕ)) (r : Announced) : Type 0 where
   pub number : announcingNumber (r .answer) ≡ numberIn told
@@ -118,6 +125,9 @@ abbrev pub cuttingNumber : Cutting → ℕ
 cuttingNumber Cutting.Bytes = 0
 cuttingNumber (Cutting.Refused why) = refusalWhy why
 cuttingNumber Cutting.NoSuchPacket = 15
+
+pub record CuttingRefusal (answer : Cutting) (r : ℕ) : Type 0 where
+  pub number : r ≡ cuttingNumber answer
 
 pub record CutBy (told : Told (List ℕ)) (r : Cut) : Type 0 where
   pub number : cuttingNumber (r .answer) ≡ numberIn told

@@ -15,6 +15,8 @@ use crate::Paused;
 use crate::Pausing;
 use crate::Place;
 use crate::Receiver;
+use crate::limits::PACKET_BYTES;
+use crate::limits::PLACES;
 use crate::meaning;
 use crate::meaning::Meant;
 use crate::one_place;
@@ -94,7 +96,7 @@ fn lowest_free(r: Receiver) -> Found
 {
     let mut i: usize = 0;
     let at = loop {
-        if 8 <= i {
+        if PLACES <= i {
             break i;
         }
         let p = r.places[i];
@@ -103,7 +105,7 @@ fn lowest_free(r: Receiver) -> Found
         }
         i += 1;
     };
-    if at < 8 {
+    if at < PLACES {
         Found::At(at)
     } else {
         Found::Nowhere
@@ -115,7 +117,7 @@ fn open_by(r: Receiver, sender: u8) -> Found
     ensures { λ f. ⌜ f ≡ first (isOpenBy sender) (r .places) ⌝ }
 {
     let mut i: usize = 0;
-    while i < 8 {
+    while i < PLACES {
         let p = r.places[i];
         if one_place::is_open_by(p, sender) {
             return Found::At(i);
@@ -155,7 +157,7 @@ fn packet_at(r: Receiver, storage: &mut [u8], at: usize, number: u8, bytes: [u8;
     if number != p.expected {
         return keeps(replace(r, at, one_place::free()), Answer::UnexpectedPacket);
     }
-    let offset = 7 * (number as usize - 1);
+    let offset = PACKET_BYTES * (number as usize - 1);
     let count = storage::at_most_seven(p.length as usize - offset);
     storage::keep(storage, at, offset, count, bytes);
     advance(r, at, p)
@@ -191,7 +193,7 @@ pub fn pause(r: Receiver, ms: u16) -> Paused
     let mut places = r.places;
     let mut closed: u8 = 0;
     let mut i: usize = 0;
-    while i < 8 {
+    while i < PLACES {
         let p = places[i];
         if one_place::closes(p, ms) {
             closed += 1;

@@ -1,7 +1,8 @@
 // Long messages: the receiver of eight senders over lent storage, and the splitter.
-ghost use Rattle.message.specs.Promises.{New, Hear, Pause, Message, Announcement, Packet};
+ghost use Rattle.message.specs.Promises.{New, Hear, Pause, Message, Announcement, Packet, AnswerRefusal, PausingRefusal, UnsplittableRefusal, AnnouncingRefusal, CuttingRefusal};
 
 mod eight_places;
+pub mod limits;
 mod meaning;
 mod one_place;
 mod rules;
@@ -9,6 +10,7 @@ mod split;
 mod storage;
 
 use frame::BadFrame;
+use limits::STORAGE_BYTES;
 
 // An open message's place: its sender, what was announced, the packet expected next, and the pauses since its last frame, in
 // milliseconds. A free place is all zeros.
@@ -92,6 +94,87 @@ pub struct Cut {
     pub bytes: [u8; 8],
 }
 
+impl Answer {
+    // The number of the refusal; 0 where the frame was heard.
+    pub fn refusal(self) -> u8
+        ensures { λ r. ⌜ AnswerRefusal self r ⌝ }
+    {
+        let answer = self;
+        match answer {
+            Answer::StorageTooShort => 1,
+            Answer::BrokenState => 2,
+            Answer::BadFrame(why) => why.refusal(),
+            Answer::MalformedAnnouncement => 7,
+            Answer::NoPlaceFree => 8,
+            Answer::NoOpenMessage => 9,
+            Answer::UnexpectedPacket => 10,
+            Answer::NothingToDo => 0,
+            Answer::Opened => 0,
+            Answer::Stored => 0,
+            Answer::Finished {
+                place: _,
+                sender: _,
+                dgn: _,
+                length: _,
+            } => 0,
+        }
+    }
+}
+
+impl Pausing {
+    // The number of the refusal; 0 where the pause has passed.
+    pub fn refusal(self) -> u8
+        ensures { λ r. ⌜ PausingRefusal self r ⌝ }
+    {
+        let answer = self;
+        match answer {
+            Pausing::Closed(_) => 0,
+            Pausing::BrokenState => 2,
+        }
+    }
+}
+
+impl Unsplittable {
+    // The number of the refusal.
+    pub fn refusal(self) -> u8
+        ensures { λ r. ⌜ UnsplittableRefusal self r ⌝ }
+    {
+        let why = self;
+        match why {
+            Unsplittable::DgnTooLarge => 12,
+            Unsplittable::LengthNotSplit => 13,
+            Unsplittable::TooManyPackets => 14,
+        }
+    }
+}
+
+impl Announcing {
+    // The number of the refusal; 0 where the announcement is given.
+    pub fn refusal(self) -> u8
+        ensures { λ r. ⌜ AnnouncingRefusal self r ⌝ }
+    {
+        let answer = self;
+        match answer {
+            Announcing::Bytes => 0,
+            Announcing::Refused(why) => why.refusal(),
+        }
+    }
+}
+
+impl Cutting {
+    // The number of the refusal; 0 where the packet is given.
+    pub fn refusal(self) -> u8
+        ensures { λ r. ⌜ CuttingRefusal self r ⌝ }
+    {
+        let answer = self;
+        match answer {
+            Cutting::Bytes => 0,
+            Cutting::Refused(why) => why.refusal(),
+            Cutting::NoSuchPacket => 15,
+        }
+    }
+}
+
 impl Receiver {
     // A receiver with eight free places.
     pub fn new() -> Receiver
@@ -106,7 +189,7 @@ impl Receiver {
     pub fn hear(self, storage: &mut [u8], id: u32, bytes: &[u8]) -> Heard
         ensures { λ r. ⌜ Hear id (now (bytes .entry)) (self .places) (now (storage .entry)) r (now (storage .exit)) ⌝ }
     {
-        if storage.len() < 14280 {
+        if storage.len() < STORAGE_BYTES {
             return eight_places::keeps(self, Answer::StorageTooShort);
         }
         if !rules::keep_rules(self) {
@@ -134,7 +217,7 @@ impl Receiver {
 pub fn message(storage: &[u8], answer: Answer) -> &[u8]
     ensures { λ r. ⌜ Message (now (storage .entry)) answer (now r) ⌝ }
 {
-    if storage.len() < 14280 {
+    if storage.len() < STORAGE_BYTES {
         return &storage[0..0];
     }
     match answer {

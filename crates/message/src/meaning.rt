@@ -3,6 +3,10 @@ ghost use mathlib.Core.Path.{_≡_};
 ghost use Prim.Native.Nat.{_<_};
 ghost use Rattle.message.specs.LongMessage.{bytesTo, announced, meant};
 ghost use Rattle.message.specs.Private.{toldMeant};
+use crate::limits::LONGEST;
+use crate::limits::SHORTEST;
+use crate::limits::TO_ALL;
+use frame::standard;
 
 pub enum Meant {
     Malformed,
@@ -15,16 +19,16 @@ pub fn meaning_of(sender: u8, dgn: u32, bytes: [u8; 8]) -> Meant
     ensures { λ r. ⌜ toldMeant r ≡ meant sender dgn bytes ⌝ }
 {
     let first = bytes[0];
-    if dgn == 0xEBFF {
+    if dgn == standard::DATA_PACKET {
         return Meant::Packet {
             sender,
             number: first,
         };
     }
-    if dgn != 0xECFF {
+    if dgn != standard::ANNOUNCEMENT {
         return Meant::Other;
     }
-    if first != 32 {
+    if first != TO_ALL {
         return Meant::Other;
     }
     announced(sender, size_in(bytes), bytes[3], dgn_in(bytes))
@@ -34,16 +38,16 @@ pub fn meaning_of(sender: u8, dgn: u32, bytes: [u8; 8]) -> Meant
 fn announced(sender: u8, size: u16, count: u8, dgn: u32) -> Meant
     ensures { λ r. ⌜ toldMeant r ≡ announced sender size count dgn ⌝ }
 {
-    if size < 9 {
+    if size < SHORTEST {
         return Meant::Malformed;
     }
-    if 1785 < size {
+    if LONGEST < size {
         return Meant::Malformed;
     }
     if count as u16 != (size + 6) / 7 {
         return Meant::Malformed;
     }
-    if 0x1FFFF < dgn {
+    if standard::GREATEST_DGN < dgn {
         return Meant::Malformed;
     }
     Meant::Announcement { sender, size, dgn }
@@ -62,10 +66,7 @@ fn size_in(bytes: [u8; 8]) -> u16
 fn dgn_in(bytes: [u8; 8]) -> u32
     ensures { λ r. ⌜ r ≡ bytesTo 5 7 bytes ⌝ }
 {
-    let low = wide(bytes[5]);
-    let middle = wide(bytes[6]);
-    let high = wide(bytes[7]);
-    low + 256 * middle + 65536 * high
+    frame::dgn_of(bytes[5], bytes[6], bytes[7])
 }
 
 fn wide(byte: u8) -> u32

@@ -2,6 +2,10 @@
 ghost use mathlib.Core.Path.{_≡_};
 ghost use Rattle.message.specs.Receiver.{freePlace, isOpenBy, isZero, placeKeepsRules, closes, idled, expecting};
 use crate::Place;
+use crate::limits::IDLE_LIMIT;
+use crate::limits::LONGEST;
+use crate::limits::SHORTEST;
+use frame::standard;
 
 pub fn free() -> Place
     ensures { λ r. ⌜ r ≡ freePlace ⌝ }
@@ -30,19 +34,19 @@ pub fn keeps_rules(p: Place) -> bool
     if p.length == 0 {
         return is_zero(p);
     }
-    if 253 < p.sender {
+    if standard::GREATEST_ADDRESS < p.sender {
         return false;
     }
-    if p.length < 9 {
+    if p.length < SHORTEST {
         return false;
     }
-    if 1785 < p.length {
+    if LONGEST < p.length {
         return false;
     }
-    if 0x1FFFF < p.dgn {
+    if standard::GREATEST_DGN < p.dgn {
         return false;
     }
-    if 750 < p.idle {
+    if IDLE_LIMIT < p.idle {
         return false;
     }
     if p.expected < 1 {
@@ -72,7 +76,7 @@ pub fn closes(p: Place, ms: u16) -> bool
     if p.length == 0 {
         return false;
     }
-    750 < p.idle as u32 + ms as u32
+    (IDLE_LIMIT as u32) < p.idle as u32 + ms as u32
 }
 
 // The place after a pause.
@@ -83,7 +87,7 @@ pub fn idled(p: Place, ms: u16) -> Place
         return p;
     }
     let sum = p.idle as u32 + ms as u32;
-    if 750 < sum {
+    if (IDLE_LIMIT as u32) < sum {
         return free();
     }
     let idle = sum as u16;

@@ -5,6 +5,7 @@ ghost use lib.ListN.{drop, getD};
 ghost use Rattle.places.specs.Layout.{any, every, alone, oneEach};
 ghost use Rattle.message.specs.Receiver.{freePlace, isOpenBy, layout, placeKeepsRules, keepsRules};
 use crate::Receiver;
+use crate::limits::PLACES;
 use crate::one_place;
 
 pub fn keep_rules(r: Receiver) -> bool
@@ -21,7 +22,7 @@ fn each_keeps_rules(r: Receiver) -> bool
     ensures { λ b. ⌜ b ≡ every placeKeepsRules (r .places) ⌝ }
 {
     let mut i: usize = 0;
-    while i < 8 {
+    while i < PLACES {
         let p = r.places[i];
         if !one_place::keeps_rules(p) {
             return false;
@@ -36,7 +37,7 @@ fn one_each(r: Receiver) -> bool
     ensures { λ b. ⌜ b ≡ oneEach layout (r .places) ⌝ }
 {
     let mut i: usize = 0;
-    while i < 8 {
+    while i < PLACES {
         if !is_alone(r, i) {
             return false;
         }
@@ -63,7 +64,7 @@ fn any_open_by(r: Receiver, sender: u8, from: usize) -> bool
     ensures { λ b. ⌜ b ≡ any (isOpenBy sender) (drop from (r .places)) ⌝ }
 {
     let mut i = from;
-    while i < 8 {
+    while i < PLACES {
         let p = r.places[i];
         if one_place::is_open_by(p, sender) {
             return true;

@@ -10,7 +10,13 @@ ghost use Rattle.message.specs.Private.{toldSplits};
 use crate::Cut;
 use crate::Cutting;
 use crate::Unsplittable;
+use crate::limits::LONGEST;
+use crate::limits::MOST_PACKETS;
+use crate::limits::PACKET_BYTES;
+use crate::limits::SHORTEST;
+use crate::limits::TO_ALL;
 use crate::storage;
+use frame::standard;
 
 pub enum Splits {
     Into(u8),
@@ -21,17 +27,17 @@ pub enum Splits {
 pub fn splittable(size: usize, dgn: u32) -> Splits
     ensures { λ r. ⌜ toldSplits r ≡ splits size dgn ⌝ }
 {
-    if 0x1FFFF < dgn {
+    if standard::GREATEST_DGN < dgn {
         return Splits::Refused(Unsplittable::DgnTooLarge);
     }
-    if size < 9 {
+    if size < SHORTEST as usize {
         return Splits::Refused(Unsplittable::LengthNotSplit);
     }
-    if 1785 < size {
+    if (LONGEST as usize) < size {
         return Splits::Refused(Unsplittable::LengthNotSplit);
     }
     let count = (size + 6) / 7;
-    if 255 < count {
+    if MOST_PACKETS < count {
         return Splits::Refused(Unsplittable::TooManyPackets);
     }
     Splits::Into(count as u8)
@@ -43,11 +49,11 @@ pub fn announcement_bytes(size: u16, dgn: u32, count: u8) -> [u8; 8]
     ensures { λ r. ⌜ r ≡ announcementBytes size dgn ⌝ }
 {
     [
-        32,
+        TO_ALL,
         (size % 256) as u8,
         (size / 256 % 256) as u8,
         count,
-        255,
+        standard::UNUSED,
         (dgn % 256) as u8,
         (dgn / 256 % 256) as u8,
         (dgn / 256 / 256 % 256) as u8,
@@ -86,9 +92,9 @@ fn packet_bytes(message: &[u8], number: u8) -> [u8; 8]
     requires { ⌜ (1 ≤ number) × (number ≤ packetsOf (length (now message))) × (length (now message) ≤ longest) ⌝ }
     ensures { λ r. ⌜ r ≡ packetBytesOf (now (message .entry)) number ⌝ }
 {
-    let from = 7 * (number as usize - 1);
+    let from = PACKET_BYTES * (number as usize - 1);
     let count = storage::at_most_seven(message.len() - from);
-    let mut bytes = [255u8; 8];
+    let mut bytes = [standard::UNUSED; 8];
     bytes[0] = number;
     storage::copy(&mut bytes, 1, message, from, count);
     bytes

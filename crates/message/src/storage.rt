@@ -6,6 +6,10 @@ ghost use lib.Seq.{paste};
 ghost use Rattle.message.specs.LongMessage.{longest, packetBytes};
 ghost use Rattle.message.specs.Receiver.{room};
 ghost use Rattle.message.specs.Promises.{partOf};
+use crate::limits::LONGEST;
+use crate::limits::PACKET_BYTES;
+use crate::limits::PLACES;
+use crate::limits::STRETCH;
 
 // Copies `count` bytes, from `from` on, into the part, from `to` on.
 pub fn copy(part: &mut [u8], to: usize, bytes: &[u8], from: usize, count: usize)
@@ -23,7 +27,11 @@ pub fn copy(part: &mut [u8], to: usize, bytes: &[u8], from: usize, count: usize)
 pub fn at_most_seven(left: usize) -> usize
     ensures { λ n. ⌜ n ≡ min packetBytes left ⌝ }
 {
-    if left < 7 { left } else { 7 }
+    if left < PACKET_BYTES {
+        left
+    } else {
+        PACKET_BYTES
+    }
 }
 
 // Keeps a packet's bytes in the stretch of place `at`, which is lent to `copy`.
@@ -32,7 +40,7 @@ pub fn keep(storage: &mut [u8], at: usize, offset: usize, count: usize, bytes: [
     requires { ⌜ (count ≤ 7) × (offset + count ≤ longest) ⌝ }
     ensures { λ _. ⌜ now (storage .exit) ≡ paste (now (storage .entry)) (longest * at + offset) (drop 1 bytes) count ⌝ }
 {
-    let from = 1785 * at;
+    let from = STRETCH * at;
     copy(&mut storage[from..], offset, &bytes, 1, count)
 }
 
@@ -41,13 +49,13 @@ pub fn part(storage: &[u8], at: usize, size: u16) -> &[u8]
     requires { ⌜ room ≤ length (now storage) ⌝ }
     ensures { λ r. ⌜ now r ≡ partOf (now (storage .entry)) at size ⌝ }
 {
-    if 8 <= at {
+    if PLACES <= at {
         return &storage[0..0];
     }
-    if 1785 < size {
+    if LONGEST < size {
         return &storage[0..0];
     }
-    let from = 1785 * at;
+    let from = STRETCH * at;
     let to = from + size as usize;
     &storage[from..to]
 }

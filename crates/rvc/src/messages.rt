@@ -11,5 +11,6 @@ pub use message::Place;
 pub use message::Receiver;
 pub use message::Unsplittable;
 pub use message::announcement;
+pub use message::limits;
 pub use message::message;
 pub use message::packet;

@@ -1,55 +1,28 @@
 -- `message::meaning::dgn_in` meets its contract. Assumes nothing.
 use native.Mathlib.Omega.{arith}
 use borrow.Author.Needs.{needs}
+use Rattle.frame.specs.Bytes.{numberOf}
 use Rattle.message.proofs.Bytes.{dgn-bytes}
 use Rattle.message.proofs.meaning.dgn_in.Statement.{statement}
 use Rattle.message.proofs.meaning.dgn_in.Tie as tie
 
-array-read-wide : tie.Need-array-read-wide
-array-read-wide c = search needs
+array-read-dgn-of : tie.Need-array-read-dgn-of
+array-read-dgn-of c = search needs
 
-wide-requires : tie.Need-wide-requires
-wide-requires c κs = search needs
+array-read-dgn-of-2 : tie.Need-array-read-dgn-of-2
+array-read-dgn-of-2 c = search needs
 
-array-read-wide-2 : tie.Need-array-read-wide-2
-array-read-wide-2 c = search needs
+array-read-dgn-of-3 : tie.Need-array-read-dgn-of-3
+array-read-dgn-of-3 c = search needs
 
-wide-requires-2 : tie.Need-wide-requires-2
-wide-requires-2 c κs = search needs
-
-array-read-wide-3 : tie.Need-array-read-wide-3
-array-read-wide-3 c = search needs
-
-wide-requires-3 : tie.Need-wide-requires-3
-wide-requires-3 c κs = search needs
-
-mul-result : tie.Need-mul-result
-mul-result c = search needs
-
-add-result : tie.Need-add-result
-add-result c = search needs
-
-mul-result-2 : tie.Need-mul-result-2
-mul-result-2 c = search needs
-
-add-result-2 : tie.Need-add-result-2
-add-result-2 c = search needs
+dgn-of-requires : tie.Need-dgn-of-requires
+dgn-of-requires c κs = search needs
 
 returns : tie.Need-returns
-returns c = omega (arith, dgn-bytes (c .before .before .before .args .t1))
+unfolding numberOf
+returns c = omega (arith, dgn-bytes (c .before .args .t1), c .dgn-of .ensures .answer)
 
 pub dgn-in-spec : {M : Type 1} → statement M
 dgn-in-spec =
     tie.close
-    (tie.spec
-    array-read-wide
-    wide-requires
-    array-read-wide-2
-    wide-requires-2
-    array-read-wide-3
-    wide-requires-3
-    mul-result
-    add-result
-    mul-result-2
-    add-result-2
-    returns)
+    (tie.spec array-read-dgn-of array-read-dgn-of-2 array-read-dgn-of-3 dgn-of-requires returns)

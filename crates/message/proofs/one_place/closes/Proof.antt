@@ -12,6 +12,9 @@ returns c = search tests
 cast-result : tie.Need-cast-result
 cast-result c = search needs
 
+cast-result-2 : tie.Need-cast-result-2
+cast-result-2 c = search needs
+
 add-result : tie.Need-add-result
 add-result c = search needs
 
@@ -20,4 +23,4 @@ unfolding closes
 returns-2 c = search tests
 
 pub closes-spec : {M : Type 1} → statement M
-closes-spec = tie.close (tie.spec returns cast-result add-result returns-2)
+closes-spec = tie.close (tie.spec returns cast-result cast-result-2 add-result returns-2)

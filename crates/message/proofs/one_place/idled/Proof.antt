@@ -4,6 +4,7 @@ use Rattle.message.specs.Receiver.{idled}
 use Rattle.frame.proofs.Tests.{tests}
 use Rattle.message.proofs.one_place.idled.Statement.{statement}
 use Rattle.message.proofs.one_place.idled.Tie as tie
+use Rattle.message.proofs.one_place.free.Reads as free-reads
 
 returns : tie.Need-returns
 unfolding idled
@@ -14,6 +15,9 @@ cast-sum c = search needs
 
 add-sum : tie.Need-add-sum
 add-sum c = search needs
+
+cast-if2 : tie.Need-cast-if2
+cast-if2 c = search needs
 
 free-requires : tie.Need-free-requires
 free-requires c κs = search needs
@@ -31,4 +35,5 @@ returns-3 c = search tests
 
 pub idled-spec : {M : Type 1} → statement M
 idled-spec =
-    tie.close (tie.spec returns cast-sum add-sum free-requires returns-2 cast-idle returns-3)
+    tie.close
+    (tie.spec returns cast-sum add-sum cast-if2 free-requires returns-2 cast-idle returns-3)

@@ -9,9 +9,15 @@ returns : tie.Need-returns
 unfolding splits
 returns c = search tests
 
+cast-if2 : tie.Need-cast-if2
+cast-if2 c = search needs
+
 returns-2 : tie.Need-returns-2
 unfolding splits
 returns-2 c = search tests
+
+cast-if3 : tie.Need-cast-if3
+cast-if3 c = search needs
 
 returns-3 : tie.Need-returns-3
 unfolding splits
@@ -33,4 +39,5 @@ returns-5 c = search tests
 
 pub splittable-spec : {M : Type 1} → statement M
 splittable-spec =
-    tie.close (tie.spec returns returns-2 returns-3 add-count returns-4 cast-t10 returns-5)
+    tie.close
+    (tie.spec returns cast-if2 returns-2 cast-if3 returns-3 add-count returns-4 cast-t10 returns-5)
