@@ -15,6 +15,7 @@ use Rattle.places.proofs.Statements as PlacesStatements
 use Rattle.places.proofs.Calls as PlacesCalls
 use Rattle.places.proofs.NineKeys as PlacesNineKeys
 use Rattle.places.proofs.Tiny as PlacesTiny
+use Rattle.places.proofs.TinyReceiver as PlacesTinyReceiver
 use Rattle.message.proofs.Laws as Message
 use Rattle.catalogue.proofs.Laws as Catalogue
 use Rattle.claim.proofs.Laws as Claim
@@ -153,6 +154,7 @@ places-laws =
       tiny-closes-as-rules = PlacesTiny.tiny-closes-as-rules;
       tiny-pausing = PlacesTiny.tiny-pausing;
       tiny-sums-of-pauses = PlacesTiny.tiny-sums-of-pauses;
+      tiny-keeps-places = PlacesTinyReceiver.tiny-keeps-places;
     }
 
 message-laws : MessageLaws

@@ -11,6 +11,7 @@ use Rattle.places.specs.Statements as PlacesStatements
 use Rattle.places.specs.Receiver as PlacesReceiver
 use Rattle.places.specs.Calls as PlacesCalls
 use Rattle.places.specs.Tiny as PlacesTiny
+use Rattle.places.specs.TinyReceiver as PlacesTinyReceiver
 use Rattle.message.specs.Laws as Message
 use Rattle.catalogue.specs.Laws as Catalogue
 use Rattle.claim.specs.Laws as Claims
@@ -141,6 +142,7 @@ pub record PlacesLaws : Type 1 where
   pub tiny-closes-as-rules : PlacesTiny.TinyClosesAsRules
   pub tiny-pausing : PlacesTiny.TinyPausing
   pub tiny-sums-of-pauses : PlacesTiny.TinySumsOfPauses
+  pub tiny-keeps-places : PlacesTinyReceiver.TinyKeepsPlaces
 
 pub record MessageLaws : Type 0 where
   pub told-answer-same : Message.ToldAnswerSame

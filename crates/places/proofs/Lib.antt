@@ -8,3 +8,4 @@ pub mod View
 pub mod Receiver
 pub mod Calls
 pub mod Tiny
+pub mod TinyReceiver

@@ -1,6 +1,7 @@
 -- The made-up format: the law of its pauses, and the statements at it.
 -- Assumes nothing.
 use mathlib.Core.Path.{_≡_, sym}
+use mathlib.Core.List.{[], _∷_, _++_}
 use mathlib.Core.Option.{some}
 use Prim.Native.Nat.{ℕ, _+_, _-_, _≤_, _<_}
 use native.Mathlib.Nat.{add-zero, add-assoc}
@@ -10,35 +11,41 @@ use Rattle.frame.specs.Words.{_<?_, _≤?_, _=?_}
 use Rattle.frame.proofs.Words.{by-test}
 use Rattle.places.specs.Format.{opens, goes}
 use Rattle.places.specs.OneKey.{pauseAlone}
-use Rattle.places.specs.Tiny.{Pile, Word, mostPackets, tinyIdleLimit, tinyAsks, tinyFeed, tinyWait, tiny, TinyBusyAsQuiet, TinyOpenAsRules, TinyToldAsRules, TinyFullExactlyWhen, TinyClosesAsRules, TinyPausing, TinySumsOfPauses}
+use Rattle.places.specs.Tiny.{Pile, Word, newPile, mostPackets, tinyIdleLimit, tinyAsks, tinyFeed, tinyWait, tiny, TinyBusyAsQuiet, TinyOpenAsRules, TinyToldAsRules, TinyFullExactlyWhen, TinyClosesAsRules, TinyPausing, TinySumsOfPauses}
 use Rattle.places.proofs.Places.{some-none}
 use Rattle.places.proofs.Statements.{busy-as-quiet, open-as-rules, told-as-rules, full-exactly-when, closes-as-rules, sums-of-pauses}
 
 abbrev Fresh : Pile → Type 0
 Fresh p = p .idle ≤ tinyIdleLimit
 
-opens-fresh : (n : ℕ) (p : Pile) (w : Word) → tinyAsks n ≡ opens p w → Fresh p
+opens-fresh : (n byte : ℕ) (p : Pile) (w : Word) → tinyAsks n byte ≡ opens p w → Fresh p
 unfolding tinyAsks
-opens-fresh n p w e =
+opens-fresh n byte p w e =
     by-test (n =? 0)
     (λ f. let e′ = rw f at e in let z : _≡_ {A = ℕ} 0 1 = cc in absurd (omega arith))
     (λ f. by-test (n ≤? mostPackets)
-    (λ g. let e′ = rw (f, g) at e in let z : record { missing = n; idle = 0 } ≡ p = cc in rw (← z) (omega arith))
+    (λ g. let e′ = rw (f, g) at e in let z : newPile n ≡ p = cc in rw (← z) (omega arith))
     (λ g. let e′ = rw (f, g) at e in let z : _≡_ {A = ℕ} 0 1 = cc in absurd (omega arith)))
 
-feed-fresh : (p q : Pile) (d : Unit {0}) (w : Word) → tinyFeed p d ≡ goes q w → Fresh q
+feed-fresh : (p q : Pile) (byte : ℕ) (w : Word) → tinyFeed p byte ≡ goes q w → Fresh q
 unfolding tinyFeed
-feed-fresh p q d w e =
+feed-fresh p q byte w e =
     by-test (p .missing ≤? 1)
     (λ f. let e′ = rw f at e in let z : _≡_ {A = ℕ} 0 1 = cc in absurd (omega arith))
-    (λ f. let e′ = rw f at e in let z : record { missing = p .missing - 1; idle = 0 } ≡ q = cc in rw (← z) (omega arith))
+    (λ f.
+    let e′ = rw f at e in
+    let z : record { size = p .size; missing = p .missing - 1; idle = 0; bytes = p .bytes ++ (byte ∷ []) } ≡ q = cc in
+    rw (← z) (omega arith))
 
 wait-fresh : (p q : Pile) (ms : ℕ) → tinyWait ms p ≡ some q → Fresh q
 unfolding tinyWait
 wait-fresh p q ms e =
     by-test (tinyIdleLimit <? p .idle + ms)
     (λ f. some-none (sym (rw f at e)))
-    (λ f. let e′ = rw f at e in let z : record { missing = p .missing; idle = p .idle + ms } ≡ q = cc in rw (← z) (ltb-false _ _ f))
+    (λ f.
+    let e′ = rw f at e in
+    let z : record { size = p .size; missing = p .missing; idle = p .idle + ms; bytes = p .bytes } ≡ q = cc in
+    rw (← z) (ltb-false _ _ f))
 
 wait-zero : (p : Pile) → Fresh p → tinyWait 0 p ≡ some p
 unfolding tinyWait
@@ -54,8 +61,8 @@ wait-more p a b =
 pub tiny-pausing : TinyPausing
 tiny-pausing = record {
   Kept = Fresh;
-  opens-kept = λ c p w e. opens-fresh (c .number) p w e;
-  feed-kept = λ p q d w h e. feed-fresh p q d w e;
+  opens-kept = λ c p w e. opens-fresh (c .number) (c .byte) p w e;
+  feed-kept = λ p q byte w h e. feed-fresh p q byte w e;
   wait-kept = λ p q ms h e. wait-fresh p q ms e;
   wait-zero = wait-zero;
   wait-more = λ p a b h. wait-more p a b;

@@ -7,3 +7,4 @@ pub mod Laws
 pub mod Receiver
 pub mod Calls
 pub mod Tiny
+pub mod TinyReceiver

@@ -1,8 +1,8 @@
 -- A made-up format, small enough to run by hand: the statements hold for more than one format, and an opening that
--- finishes at once is seen at work. A frame has a key and a number. Number 0 is a message by itself; 1 to 9 opens one
--- that needs so many packets; any other is a packet.
+-- finishes at once is seen at work. A frame has a key, a number and a byte. Number 0 is a message by itself, that byte; 1
+-- to 9 opens one that needs so many packets; any other is a packet, and brings its byte.
 use mathlib.Core.Path.{_≡_}
-use mathlib.Core.List.{List, [], _∷_}
+use mathlib.Core.List.{List, [], _∷_, _++_}
 use mathlib.Core.Option.{Option, some, none}
 use Prim.Native.Nat.{ℕ, _+_, _-_}
 use Rattle.frame.specs.Words.{if_then_else_, _<?_, _≤?_, _=?_}
@@ -13,13 +13,17 @@ use Rattle.places.specs.Statements.{onBusyBus, OpenAsRules, ToldAsRules,
 pub record Card : Type 0 where
   pub key : ℕ
   pub number : ℕ
+  pub byte : ℕ
 
 pub record Pile : Type 0 where
+  pub size : ℕ
   pub missing : ℕ
   pub idle : ℕ
+  pub bytes : List ℕ
 
 pub data Word : Type 0 where
-  opened stored finished unknown : Word
+  opened stored unknown : Word
+  finished : List ℕ → Word
 
 abbrev pub mostPackets : ℕ
 mostPackets = 9
@@ -27,39 +31,47 @@ mostPackets = 9
 abbrev pub tinyIdleLimit : ℕ
 tinyIdleLimit = 100
 
-unfoldable pub tinyAsks : ℕ → Asks Pile (Unit {0}) Word
-tinyAsks n =
-    if n =? 0 then finishes finished else
-    if n ≤? mostPackets then opens (record { missing = n; idle = 0 }) opened else
-    feeds tt unknown
+abbrev pub newPile : ℕ → Pile
+newPile n = record { size = n; missing = n; idle = 0; bytes = [] }
 
-unfoldable pub tinyFeed : Pile → Unit {0} → Fed Pile Word
-tinyFeed p d = if p .missing ≤? 1 then ends finished else goes (record { missing = p .missing - 1; idle = 0 }) stored
+unfoldable pub tinyAsks : ℕ → ℕ → Asks Pile ℕ Word
+tinyAsks n byte =
+    if n =? 0 then finishes (finished (byte ∷ [])) else
+    if n ≤? mostPackets then opens (newPile n) opened else
+    feeds byte unknown
+
+unfoldable pub tinyFeed : Pile → ℕ → Fed Pile Word
+tinyFeed p byte =
+    if p .missing ≤? 1
+    then ends (finished (p .bytes ++ (byte ∷ [])))
+    else goes (record { size = p .size; missing = p .missing - 1; idle = 0; bytes = p .bytes ++ (byte ∷ []) }) stored
 
 unfoldable pub tinyWait : ℕ → Pile → Option Pile
-tinyWait ms p = if tinyIdleLimit <? p .idle + ms then none else some (record { missing = p .missing; idle = p .idle + ms })
+tinyWait ms p =
+    if tinyIdleLimit <? p .idle + ms then none else
+    some (record { size = p .size; missing = p .missing; idle = p .idle + ms; bytes = p .bytes })
 
 abbrev pub tiny : Format
 tiny = record {
   Session = Pile;
-  Data = Unit {0};
+  Data = ℕ;
   Answer = Word;
   Frame = Card;
   key = λ c. c .key;
-  asks = λ c. tinyAsks (c .number);
+  asks = λ c. tinyAsks (c .number) (c .byte);
   feed = tinyFeed;
   wait = tinyWait;
 }
 
-abbrev pub card : ℕ → ℕ → Event Card
-card key number = frame (record { key = key; number = number })
+abbrev pub card : ℕ → ℕ → ℕ → Event Card
+card key number byte = frame (record { key = key; number = number; byte = byte })
 
 -- Nine keys: eight open, the ninth's message by itself finds no place. Packets finish the third's, and then the ninth
 -- is heard; the place is left free.
 abbrev pub nineKeys : List (Event Card)
 nineKeys =
-    card 1 2 ∷ card 2 2 ∷ card 3 2 ∷ card 4 2 ∷ card 5 2 ∷ card 6 2 ∷ card 7 2 ∷ card 8 2 ∷ card 9 0 ∷
-    card 3 10 ∷ pause 60 ∷ card 3 10 ∷ card 9 0 ∷ card 6 0 ∷ card 9 4 ∷ []
+    card 1 2 0 ∷ card 2 2 0 ∷ card 3 2 0 ∷ card 4 2 0 ∷ card 5 2 0 ∷ card 6 2 0 ∷ card 7 2 0 ∷ card 8 2 0 ∷ card 9 0 77 ∷
+    card 3 10 31 ∷ pause 60 ∷ card 3 10 32 ∷ card 9 0 90 ∷ card 6 0 60 ∷ card 9 4 0 ∷ []
 
 -- the answers alone, each with the key that it is told to
 abbrev pub answersIn : History tiny → List (ℕ × Out Word)
@@ -72,15 +84,16 @@ NineKeysTold =
     answersIn (onBusyBus tiny nineKeys)
     ≡ (1, said opened) ∷ (2, said opened) ∷ (3, said opened) ∷ (4, said opened)
     ∷ (5, said opened) ∷ (6, said opened) ∷ (7, said opened) ∷ (8, said opened)
-    ∷ (9, full) ∷ (3, said stored) ∷ (3, said finished) ∷ (9, said finished) ∷ (6, said finished) ∷ (9, said opened) ∷ []
+    ∷ (9, full) ∷ (3, said stored) ∷ (3, said (finished (31 ∷ 32 ∷ []))) ∷ (9, said (finished (90 ∷ [])))
+    ∷ (6, said (finished (60 ∷ []))) ∷ (9, said opened) ∷ []
 
 -- The ninth's last opening took the lowest free place, the third's. A pause of 41 closes those that have been idle for
 -- 60.
 abbrev pub NineKeysAfter : Type 0
 NineKeysAfter =
-    let waited : Pile = record { missing = 2; idle = 60 } in
+    let waited : Pile = record { size = 2; missing = 2; idle = 60; bytes = [] } in
     after tiny (eightFree tiny) nineKeys
-    ≡ held 1 waited ∷ held 2 waited ∷ held 9 (record { missing = 4; idle = 0 }) ∷ held 4 waited
+    ≡ held 1 waited ∷ held 2 waited ∷ held 9 (newPile 4) ∷ held 4 waited
     ∷ held 5 waited ∷ free ∷ held 7 waited ∷ held 8 waited ∷ []
 
 abbrev pub NineKeysPaused : Type 0
