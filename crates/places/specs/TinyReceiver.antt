@@ -29,10 +29,19 @@ isFreeSlot s = s .size =? 0
 
 -- a slot and its stretch of the storage are the open message
 abbrev pub pileIn : Slot → List ℕ → Pile
-pileIn s bytes = record { size = s .size; missing = s .missing; idle = s .idle; bytes = take (s .size - s .missing) bytes }
+pileIn s bytes =
+    record { size = s .size; missing = s .missing; idle = s .idle; bytes = take (s .size - s .missing) bytes }
 
 abbrev pub tinyLayout : Layout Slot Pile
-tinyLayout = record { isFree = isFreeSlot; keyOf = λ s. s .key; stride = mostPackets; session = pileIn; blank = freeSlot; blank-free = refl }
+tinyLayout =
+    record {
+      isFree = isFreeSlot;
+      keyOf = λ s. s .key;
+      stride = mostPackets;
+      session = pileIn;
+      blank = freeSlot;
+      blank-free = refl;
+    }
 
 -- The receiver with its storage, and the rules of its state.
 
@@ -41,7 +50,9 @@ pub record TinyHeld : Type 0 where
   pub storage : List ℕ
 
 abbrev pub slotKeepsRules : Slot → Bool
-slotKeepsRules s = if isFreeSlot s then true else (1 ≤? s .missing) and (s .missing ≤? s .size) and (s .size ≤? mostPackets)
+slotKeepsRules s =
+    if isFreeSlot s then true else
+    (1 ≤? s .missing) and (s .missing ≤? s .size) and (s .size ≤? mostPackets)
 
 pub record TinyKeeps (h : TinyHeld) : Type 0 where
   pub eight : length (h .slots) ≡ placeCount
@@ -67,8 +78,10 @@ abbrev pub handed : ℕ → ℕ → List ℕ → Out Word
 handed j size storage = said (finished (take size (stretch mostPackets j storage)))
 
 unfoldable pub tinyFinishes : ℕ → Found → Found → List Slot → List ℕ → TinyAfter
-tinyFinishes byte (At j) free slots storage = tinyLeaves (set slots j freeSlot) (written j 0 byte storage) (handed j 1 (written j 0 byte storage))
-tinyFinishes byte Nowhere (At j) slots storage = tinyLeaves slots (written j 0 byte storage) (handed j 1 (written j 0 byte storage))
+tinyFinishes byte (At j) free slots storage =
+    tinyLeaves (set slots j freeSlot) (written j 0 byte storage) (handed j 1 (written j 0 byte storage))
+tinyFinishes byte Nowhere (At j) slots storage =
+    tinyLeaves slots (written j 0 byte storage) (handed j 1 (written j 0 byte storage))
 tinyFinishes byte Nowhere Nowhere slots storage = tinyLeaves slots storage full
 
 abbrev pub newSlot : ℕ → ℕ → Slot
