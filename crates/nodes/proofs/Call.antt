@@ -8,8 +8,9 @@ use borrow.Author.Tests.{lt-ltb, le-ltb}
 use lib.ListN.{length, getD}
 use Rattle.frame.specs.Words.{Told, refused, gives}
 use Rattle.frame.specs.Frame.{checkedOf}
+use Rattle.frame.specs.Standard.{greatestAddress}
 use Rattle.frame.specs.declared.Parts.{Parts}
-use Rattle.nodes.specs.Table.{greatestAddress, addresses, absent, keepsRules}
+use Rattle.nodes.specs.Table.{addresses, absent, keepsRules}
 use Rattle.nodes.specs.Call.{Asked, nothing, claims, askedBy, askedOf, claimOutcome, answerOf, nobody, holderOf, lookedUpOf}
 use Rattle.nodes.specs.Promises.{toldHeard}
 use Rattle.nodes.specs.Inside.{turnsOf, claimOf, unaskedAs, JudgedAs}

@@ -12,13 +12,14 @@ use borrow.Author.Tests.{ltb-true, ltb-false, lt-ltb, le-ltb, eqb-true, eqb-fals
 use Rattle.frame.specs.Words.{if_then_else_, given_then_, _=?_, Told, refused, gives}
 use Rattle.frame.specs.Bytes.{numberOf}
 use Rattle.frame.specs.Frame.{checkedOf}
+use Rattle.frame.specs.Standard.{greatestAddress, claimDgn}
 use Rattle.frame.specs.Laws.{toldButPriority}
 use Rattle.frame.specs.declared.Parts.{Parts}
 use Rattle.frame.specs.declared.BadFrame.the-variants as Bad
 use Rattle.frame.proofs.Words.{past-refusal, before-refusal, refused-gives, gives-same, by-test}
 use Rattle.frame.proofs.Laws.{badBack, bad-back, priority-ignored as frame-priority}
-use Rattle.nodes.specs.Table.{greatestAddress, addresses, absent, held, givesWay, clearedOf, claimedOf, keepsRules}
-use Rattle.nodes.specs.Call.{claimDgn, Asked, nothing, claims, askedBy, askedOf, tableOr, Outcome, nothingToDo, taken, heldByLower, silent, claimOutcome, answerOf, leftBy, Holder, nobody, holder, holderOf, lookedUpOf}
+use Rattle.nodes.specs.Table.{addresses, absent, held, givesWay, clearedOf, claimedOf, keepsRules}
+use Rattle.nodes.specs.Call.{Asked, nothing, claims, askedBy, askedOf, tableOr, Outcome, nothingToDo, taken, heldByLower, silent, claimOutcome, answerOf, leftBy, Holder, nobody, holder, holderOf, lookedUpOf}
 use Rattle.nodes.specs.Promises.{toldHeard, toldLookedUp}
 use Rattle.nodes.specs.Inside.{afterOf, eachFrom}
 use Rattle.nodes.specs.Laws.{ToldHeardSame, ToldLookedUpSame, HearOnly, LookUpOnly, HearRefusedKeeps, HearNothingKeeps, LowestWins, PriorityIgnored, PastUntouched, PastUnread, LengthKept, RulesRead, RulesKept, TakenShown, HeldShown}

@@ -9,7 +9,8 @@ use lib.ListN.{getD, set, take, drop}
 use lib.Dec.{leb, eqb}
 use borrow.Author.Tests.{leb-true, leb-false, eq-eqb, ne-eqb}
 use Rattle.frame.specs.Words.{if_then_else_}
-use Rattle.nodes.specs.Table.{greatestAddress, addresses, absent, clearedOf, takenOf, clearedAll, claimedOf}
+use Rattle.frame.specs.Standard.{greatestAddress}
+use Rattle.nodes.specs.Table.{addresses, absent, clearedOf, takenOf, clearedAll, claimedOf}
 use Rattle.nodes.specs.Inside.{afterOf, eachFrom}
 use Rattle.nodes.specs.declared.Node.{Node}
 use Rattle.nodes.specs.declared.Claim.{Claim}

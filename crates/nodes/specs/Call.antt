@@ -6,21 +6,18 @@ use lib.ListN.{length, getD, take}
 use Rattle.frame.specs.Words.{if_then_else_, given_then_, _<?_, _=?_, Told, refused, gives}
 use Rattle.frame.specs.Bytes.{numberOf}
 use Rattle.frame.specs.Frame.{checkedOf}
+use Rattle.frame.specs.Standard.{greatestAddress, claimDgn}
 use Rattle.frame.specs.declared.Parts.{Parts}
-use Rattle.nodes.specs.Table.{greatestAddress, addresses, absent, givesWay, clearedOf, claimedOf, keepsRules}
+use Rattle.nodes.specs.Table.{addresses, absent, givesWay, clearedOf, claimedOf, keepsRules}
 use Rattle.nodes.specs.declared.Node.{Node}
 use Rattle.nodes.specs.declared.Claim.{Claim}
-
--- the DGN of an address claim; EExxh to one destination is another
-abbrev pub claimDgn : ℕ
-claimDgn = 0xEEFF
 
 -- what a frame asks of the table
 pub data Asked : Type 0 where
   nothing : Asked
   claims : Claim → Asked
 
--- a claim has its NAME in the eight bytes, low byte first
+-- a claim has its NAME in the eight bytes, low byte first; EExxh to one destination is no claim to all
 unfoldable pub askedBy : Parts → List ℕ → Asked
 askedBy parts bytes =
     if parts .dgn =? claimDgn then claims (record { source = parts .source; name = numberOf bytes }) else

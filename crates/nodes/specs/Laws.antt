@@ -9,9 +9,10 @@ use Rattle.frame.specs.Words.{Told, refused, gives}
 use Rattle.frame.specs.Bytes.{numberOf}
 use Rattle.frame.specs.Identifier.{identifiers}
 use Rattle.frame.specs.Frame.{checkedOf}
+use Rattle.frame.specs.Standard.{claimDgn}
 use Rattle.frame.specs.declared.Parts.{Parts}
 use Rattle.nodes.specs.Table.{addresses, absent, held, hasName, keepsRules, claimedOf}
-use Rattle.nodes.specs.Call.{claimDgn, nothingToDo, taken, heldByLower, claimOutcome, heardOf, tableAfter, Holder, holder, lookedUpOf}
+use Rattle.nodes.specs.Call.{nothingToDo, taken, heldByLower, claimOutcome, heardOf, tableAfter, Holder, holder, lookedUpOf}
 use Rattle.nodes.specs.Promises.{Hear, LookUp, toldHeard, toldLookedUp}
 use Rattle.nodes.specs.declared.Node.{Node}
 use Rattle.nodes.specs.declared.Claim.{Claim}

@@ -4,13 +4,11 @@ use mathlib.Core.List.{List, [], _∷_, _++_, map}
 use Prim.Native.Nat.{ℕ}
 use lib.ListN.{getD, set, take, drop}
 use Rattle.frame.specs.Words.{if_then_else_, _<?_, _≤?_, _=?_, _and_, _or_}
+use Rattle.frame.specs.Standard.{greatestAddress}
 use Rattle.nodes.specs.declared.Node.{Node}
 use Rattle.nodes.specs.declared.Claim.{Claim}
 
 -- the addresses are 0 to 253, and each has a record
-abbrev pub greatestAddress : ℕ
-greatestAddress = 253
-
 abbrev pub addresses : ℕ
 addresses = 254
 

@@ -7,6 +7,9 @@ ghost use lib.ListN.{length};
 ghost use Rattle.nodes.specs.Promises.{Hear, LookUp};
 ghost use Rattle.nodes.specs.Inside.{afterOf, eachFrom, recordsOf};
 
+// A table has a record for each of the addresses 0 to 253; what stands past them is neither read nor written.
+pub const RECORDS: usize = 254;
+
 // A record: whether a node holds the address, and its NAME. A cleared record is absent with NAME 0.
 pub struct Node {
     pub present: bool,
@@ -75,7 +78,7 @@ fn claimed(table: &mut [Node], turns: usize, claim: Claim)
 }
 
 // The records of the addresses, read out of the lent table.
-fn records(table: &[Node]) -> [Node; 254]
+fn records(table: &[Node]) -> [Node; RECORDS]
     ensures { λ r. ⌜ r ≡ recordsOf (now (table .entry)) ⌝ }
 {
     let count = flat::readable(table.len());

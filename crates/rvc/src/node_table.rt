@@ -2,5 +2,6 @@
 pub use nodes::Heard;
 pub use nodes::LookedUp;
 pub use nodes::Node;
+pub use nodes::RECORDS;
 pub use nodes::hear;
 pub use nodes::look_up;
