@@ -22,7 +22,7 @@ use Rattle.nodes.specs.Table.{addresses, absent, held, givesWay, cleared
 use Rattle.nodes.specs.Call.{Asked, nothing, claims, askedBy, askedOf, tableOr, Outcome, nothingToDo, taken, heldByLower, silent, claimOutcome, answerOf, leftBy, Holder, nobody, holder, holderOf, lookedUpOf}
 use Rattle.nodes.specs.Promises.{toldHeard, toldLookedUp}
 use Rattle.nodes.specs.Inside.{afterOf, eachFrom}
-use Rattle.nodes.specs.Laws.{ToldHeardSame, ToldLookedUpSame, HearOnly, LookUpOnly, HearRefusedKeeps, HearNothingKeeps, LowestWins, PriorityIgnored, PastUntouched, PastUnread, LengthKept, RulesRead, RulesKept, TakenShown, HeldShown}
+use Rattle.nodes.specs.Laws.{ToldHeardSame, ToldLookedUpSame, HearOnly, LookUpOnly, HeardRefusalOnly, LookedUpRefusalOnly, HearRefusedKeeps, HearNothingKeeps, LowestWins, PriorityIgnored, PastUntouched, PastUnread, LengthKept, RulesRead, RulesKept, TakenShown, HeldShown}
 use Rattle.nodes.specs.declared.Node.{Node}
 use Rattle.nodes.specs.declared.Claim.{Claim}
 use Rattle.nodes.specs.declared.Heard.{Heard}
@@ -81,6 +81,12 @@ hear-only table id bytes r s after after′ p q = (told-heard-same r s (p .answe
 
 pub look-up-only : LookUpOnly
 look-up-only table address r s p q = told-looked-up-same r s (p .answer ∙ sym (q .answer))
+
+pub heard-refusal-only : HeardRefusalOnly
+heard-refusal-only answer r s p q = p .number ∙ sym (q .number)
+
+pub looked-up-refusal-only : LookedUpRefusalOnly
+looked-up-refusal-only answer r s p q = p .number ∙ sym (q .number)
 
 -- what a claim comes to
 

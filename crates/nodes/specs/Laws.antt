@@ -13,7 +13,7 @@ use Rattle.frame.specs.Standard.{claimDgn}
 use Rattle.frame.specs.declared.Parts.{Parts}
 use Rattle.nodes.specs.Table.{addresses, absent, held, hasName, keepsRules, claimedOf}
 use Rattle.nodes.specs.Call.{nothingToDo, taken, heldByLower, claimOutcome, heardOf, tableAfter, Holder, holder, lookedUpOf}
-use Rattle.nodes.specs.Promises.{Hear, LookUp, toldHeard, toldLookedUp}
+use Rattle.nodes.specs.Promises.{Hear, LookUp, HeardRefusal, LookedUpRefusal, toldHeard, toldLookedUp}
 use Rattle.nodes.specs.declared.Node.{Node}
 use Rattle.nodes.specs.declared.Claim.{Claim}
 use Rattle.nodes.specs.declared.Heard.{Heard}
@@ -37,6 +37,12 @@ HearOnly =
 
 abbrev pub LookUpOnly : Type 0
 LookUpOnly = (table : List Node) (address : ℕ) (r s : LookedUp) → LookUp table address r → LookUp table address s → r ≡ s
+
+abbrev pub HeardRefusalOnly : Type 0
+HeardRefusalOnly = (answer : Heard) (r s : ℕ) → HeardRefusal answer r → HeardRefusal answer s → r ≡ s
+
+abbrev pub LookedUpRefusalOnly : Type 0
+LookedUpRefusalOnly = (answer : LookedUp) (r s : ℕ) → LookedUpRefusal answer r → LookedUpRefusal answer s → r ≡ s
 
 -- A refusal keeps the table, and so does a frame that asks nothing.
 

@@ -4,7 +4,7 @@ use mathlib.Core.Path.{_≡_}
 use mathlib.Core.List.{List}
 use Prim.Native.Nat.{ℕ}
 use lib.ListN.{length, take}
-use Rattle.frame.specs.Words.{Told, refused, gives}
+use Rattle.frame.specs.Words.{Told, refused, gives, numberIn}
 use Rattle.frame.specs.Promises.{refusalOf}
 use Rattle.nodes.specs.Table.{addresses}
 use Rattle.nodes.specs.Call.{Outcome, nothingToDo, taken, heldByLower, silent, Holder, nobody, holder, heardOf, tableAfter, lookedUpOf}
@@ -29,6 +29,9 @@ pub record Hear (table : List Node) (id : ℕ) (bytes : List ℕ) (r : Heard) (a
   pub answer : toldHeard r ≡ heardOf table id bytes
   pub table-after : after ≡ tableAfter table id bytes
 
+pub record HeardRefusal (answer : Heard) (r : ℕ) : Type 0 where
+  pub number : r ≡ numberIn (toldHeard answer)
+
 -- look_up; the table is only read
 
 abbrev pub toldLookedUp : LookedUp → Told Holder
@@ -39,3 +42,6 @@ toldLookedUp LookedUp.BrokenTable = refused 2
 
 pub record LookUp (table : List Node) (address : ℕ) (r : LookedUp) : Type 0 where
   pub answer : toldLookedUp r ≡ lookedUpOf (length table) (take addresses table) address
+
+pub record LookedUpRefusal (answer : LookedUp) (r : ℕ) : Type 0 where
+  pub number : r ≡ numberIn (toldLookedUp answer)

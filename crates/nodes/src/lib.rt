@@ -4,7 +4,7 @@ mod flat; // the work on values
 ghost use mathlib.Core.Path.{_≡_};
 ghost use Prim.Native.Nat.{_≤_};
 ghost use lib.ListN.{length};
-ghost use Rattle.nodes.specs.Promises.{Hear, LookUp};
+ghost use Rattle.nodes.specs.Promises.{Hear, LookUp, HeardRefusal, LookedUpRefusal};
 ghost use Rattle.nodes.specs.Inside.{afterOf, eachFrom, recordsOf};
 
 // A table has a record for each of the addresses 0 to 253; what stands past them is neither read nor written.
@@ -34,6 +34,39 @@ pub enum LookedUp {
     Absent,
     TableTooShort,
     BrokenTable,
+}
+
+impl Heard {
+    // The number of the refusal; 0 where the frame is heard.
+    pub fn refusal(self) -> u8
+        ensures { λ r. ⌜ HeardRefusal self r ⌝ }
+    {
+        let answer = self;
+        match answer {
+            Heard::Taken(_) => 0,
+            Heard::HeldByLower(_) => 0,
+            Heard::Silent => 0,
+            Heard::NothingToDo => 0,
+            Heard::TableTooShort => 1,
+            Heard::BrokenTable => 2,
+            Heard::BadFrame(why) => why.refusal(),
+        }
+    }
+}
+
+impl LookedUp {
+    // The number of the refusal; 0 where the address is looked up.
+    pub fn refusal(self) -> u8
+        ensures { λ r. ⌜ LookedUpRefusal self r ⌝ }
+    {
+        let answer = self;
+        match answer {
+            LookedUp::Present(_) => 0,
+            LookedUp::Absent => 0,
+            LookedUp::TableTooShort => 1,
+            LookedUp::BrokenTable => 2,
+        }
+    }
 }
 
 // Hears a frame: a claim clears its NAME from every record, and then takes the record of its source.
