@@ -21,7 +21,7 @@ use Rattle.frame.proofs.Laws.{badBack, bad-back, priority-ignored as frame-prio
 use Rattle.nodes.specs.Table.{addresses, absent, held, givesWay, clearedOf, claimedOf, keepsRules}
 use Rattle.nodes.specs.Call.{Asked, nothing, claims, askedBy, askedOf, tableOr, Outcome, nothingToDo, taken, heldByLower, silent, claimOutcome, answerOf, leftBy, Holder, nobody, holder, holderOf, lookedUpOf}
 use Rattle.nodes.specs.Promises.{toldHeard, toldLookedUp}
-use Rattle.nodes.specs.Inside.{afterOf, eachFrom}
+use Rattle.nodes.specs.Inside.{claimedAt, eachFrom}
 use Rattle.nodes.specs.Laws.{ToldHeardSame, ToldLookedUpSame, HearOnly, LookUpOnly, HeardRefusalOnly, LookedUpRefusalOnly, HearRefusedKeeps, HearNothingKeeps, LowestWins, PriorityIgnored, PastUntouched, PastUnread, LengthKept, RulesRead, RulesKept, TakenShown, HeldShown}
 use Rattle.nodes.specs.declared.Node.{Node}
 use Rattle.nodes.specs.declared.Claim.{Claim}
@@ -207,7 +207,7 @@ front-left : (told : Told Asked) (table other : List Node) → take addresses ta
     → take addresses (leftBy told table) ≡ take addresses (leftBy told other)
 front-left (refused n) table other e = e
 front-left (gives nothing) table other e = e
-front-left (gives (claims c)) table other e = claimed-front c table ∙ ap (eachFrom (afterOf c) addresses 0) e ∙ sym (claimed-front c other)
+front-left (gives (claims c)) table other e = claimed-front c table ∙ ap (eachFrom (claimedAt c) addresses 0) e ∙ sym (claimed-front c other)
 
 pub past-unread : PastUnread
 past-unread table other id bytes l e =
@@ -269,7 +269,7 @@ getD-front n a ns h = rw getD-take
 
 -- what is looked up at the claim's source
 source-looked : (c : Claim) (table : List Node) → addresses ≤ length table → keepsRules (take addresses table) ≡ true → c .source ≤ greatestAddress
-    → lookedUpOf (length (claimedOf c table)) (take addresses (claimedOf c table)) (c .source) ≡ gives (holderOf (afterOf c (c .source) (getD table (c .source) absent)))
+    → lookedUpOf (length (claimedOf c table)) (take addresses (claimedOf c table)) (c .source) ≡ gives (holderOf (claimedAt c (c .source) (getD table (c .source) absent)))
 source-looked c table l k s =
     let h : c .source < addresses = omega arith in
     let l′ : addresses ≤ length (claimedOf c table) = omega (arith, claimed-length c table) in

@@ -13,7 +13,7 @@ use Rattle.frame.proofs.Words.{past-refusal}
 use Rattle.nodes.specs.Table.{addresses, absent}
 use Rattle.nodes.specs.Call.{Asked, nothing, claims, askedOf, answerOf, leftBy, lookedUpOf}
 use Rattle.nodes.specs.Promises.{Hear, LookUp, toldLookedUp}
-use Rattle.nodes.specs.Inside.{afterOf, eachFrom, recordsOf, JudgedAs, turnsOf, claimOf}
+use Rattle.nodes.specs.Inside.{afterOf, eachFrom, recordsOf, JudgedAs, turnsOf, changeOf}
 use Rattle.nodes.specs.declared.Node.{Node}
 use Rattle.nodes.specs.declared.Judged.{Judged}
 use Rattle.nodes.specs.declared.LookedUp.{LookedUp}
@@ -31,8 +31,8 @@ turns-by size records id bytes (gives nothing) e = omega arith
 turns-by size records id bytes (gives (claims c)) e = given-long size records id bytes (claims c) e
 
 -- the pass leaves what the definition leaves
-pass-left : (told : Told Asked) (table : List Node) → eachFrom (afterOf (claimOf told)) (turnsOf told) 0 table ≡ leftBy told table
-unfolding eachFrom
+pass-left : (told : Told Asked) (table : List Node) → eachFrom (afterOf (changeOf told)) (turnsOf told) 0 table ≡ leftBy told table
+unfolding eachFrom afterOf
 pass-left (refused n) table = refl
 pass-left (gives nothing) table = refl
 pass-left (gives (claims c)) table = pass-claims c table
@@ -61,11 +61,11 @@ module _ (table : List Node) (id : ℕ) (bytes : List ℕ) where
     pub judged-inside : r .turns ≤ length table
     judged-inside = let h = turns-by (length table) (recordsOf table) id bytes (asked (recordsOf table)) refl in rw (j .turns) h
 
-    pub judged-heard : Hear table id bytes (r .answer) (eachFrom (afterOf (r .claim)) (r .turns) 0 table)
+    pub judged-heard : Hear table id bytes (r .answer) (eachFrom (afterOf (r .change)) (r .turns) 0 table)
     judged-heard =
         record {
           answer = j .answer ∙ same-by (ltb (length table) addresses) refl;
-          table-after = rw (j .turns, j .claim, asked-same) (pass-left (asked (take addresses table)) table);
+          table-after = rw (j .turns, j .change, asked-same) (pass-left (asked (take addresses table)) table);
         }
 
 module _ (table : List Node) (address : ℕ) where

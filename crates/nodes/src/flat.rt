@@ -1,4 +1,5 @@
 // The work on values: a table's records judged, and one record changed. The lent table is walked in lib.rt alone.
+use crate::Change;
 use crate::Claim;
 use crate::Heard;
 use crate::Judged;
@@ -15,7 +16,7 @@ ghost use Rattle.frame.specs.Words.{gives};
 ghost use Rattle.nodes.specs.Table.{addresses, absent, hasName, givesWay, clearedOf, takenOf, soundRecord, heldIn, heldAgain, keepsRules};
 ghost use Rattle.nodes.specs.Call.{askedOf, askedBy, claimOutcome, lookedUpOf};
 ghost use Rattle.nodes.specs.Promises.{toldHeard, toldLookedUp};
-ghost use Rattle.nodes.specs.Inside.{afterOf, readableOf, JudgedAs, unaskedAs};
+ghost use Rattle.nodes.specs.Inside.{claimedAt, afterOf, readableOf, JudgedAs, unaskedAs};
 
 // How many records are read of a table with `size`: those of all the addresses, or none.
 pub fn readable(size: usize) -> usize
@@ -71,18 +72,18 @@ fn asked(records: [Node; RECORDS], parts: frame::Parts, bytes: [u8; 8]) -> Judge
     Judged {
         answer: outcome(records, claim),
         turns: RECORDS,
-        claim,
+        change: Change::Claims(claim),
     }
 }
 
-// An answer where no claim is made.
+// An answer where nothing is done to the table.
 fn unasked(answer: Heard) -> Judged
     ensures { λ r. ⌜ r ≡ unaskedAs answer ⌝ }
 {
     Judged {
         answer,
         turns: 0,
-        claim: Claim { source: 0, name: 0 },
+        change: Change::Nothing,
     }
 }
 
@@ -121,9 +122,19 @@ pub fn looked_up(size: usize, records: [Node; RECORDS], address: u8) -> LookedUp
     LookedUp::Absent
 }
 
+// What the record of an address becomes by a change.
+pub fn after(n: Node, address: usize, change: Change) -> Node
+    ensures { λ r. ⌜ r ≡ afterOf change address n ⌝ }
+{
+    match change {
+        Change::Nothing => n,
+        Change::Claims(claim) => claimed(n, address, claim),
+    }
+}
+
 // What the record of an address becomes by a claim.
-pub fn after(n: Node, address: usize, claim: Claim) -> Node
-    ensures { λ r. ⌜ r ≡ afterOf claim address n ⌝ }
+fn claimed(n: Node, address: usize, claim: Claim) -> Node
+    ensures { λ r. ⌜ r ≡ claimedAt claim address n ⌝ }
 {
     let before = cleared(n, claim.name);
     if address == claim.source as usize {

@@ -74,7 +74,7 @@ pub fn hear(table: &mut [Node], id: u32, bytes: &[u8]) -> Heard
     ensures { λ r. ⌜ Hear (now (table .entry)) id (now (bytes .entry)) r (now (table .exit)) ⌝ }
 {
     let judged = flat::judge(table.len(), records(table), id, bytes);
-    claimed(table, judged.turns, judged.claim);
+    changed(table, judged.turns, judged.change);
     judged.answer
 }
 
@@ -91,21 +91,27 @@ struct Claim {
     name: u64,
 }
 
-// A call judged: its answer, over how many records its claim goes, and the claim.
+// What is done to a table. What it makes of one record `flat::after` alone says.
+enum Change {
+    Nothing,
+    Claims(Claim),
+}
+
+// A call judged: its answer, over how many records its change goes, and the change.
 struct Judged {
     answer: Heard,
     turns: usize,
-    claim: Claim,
+    change: Change,
 }
 
-// The one pass over the lent table: the claim's NAME is cleared, and the record of its source taken.
-fn claimed(table: &mut [Node], turns: usize, claim: Claim)
+// The one pass over the lent table: what the change makes of each of the first `turns` records.
+fn changed(table: &mut [Node], turns: usize, change: Change)
     requires { ⌜ turns ≤ length (now table) ⌝ }
-    ensures { λ _. ⌜ now (table .exit) ≡ eachFrom (afterOf claim) turns 0 (now (table .entry)) ⌝ }
+    ensures { λ _. ⌜ now (table .exit) ≡ eachFrom (afterOf change) turns 0 (now (table .entry)) ⌝ }
 {
     let mut i: usize = 0;
     while i < turns {
-        table[i] = flat::after(table[i], i, claim);
+        table[i] = flat::after(table[i], i, change);
         i += 1;
     }
 }
