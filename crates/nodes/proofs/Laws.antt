@@ -22,7 +22,7 @@ use Rattle.nodes.specs.Table.{addresses, absent, held, givesWay, cleared
 use Rattle.nodes.specs.Call.{Asked, nothing, claims, askedBy, askedOf, tableOr, Outcome, nothingToDo, taken, heldByLower, silent, claimOutcome, answerOf, leftBy, Holder, nobody, holder, holderOf, lookedUpOf}
 use Rattle.nodes.specs.Promises.{toldHeard, toldLookedUp}
 use Rattle.nodes.specs.Inside.{claimedAt, eachFrom}
-use Rattle.nodes.specs.Laws.{ToldHeardSame, ToldLookedUpSame, HearOnly, LookUpOnly, HeardRefusalOnly, LookedUpRefusalOnly, HearRefusedKeeps, HearNothingKeeps, LowestWins, PriorityIgnored, PastUntouched, PastUnread, LengthKept, RulesRead, RulesKept, TakenShown, HeldShown}
+use Rattle.nodes.specs.Laws.{ToldHeardSame, ToldLookedUpSame, EmptyOnly, HearOnly, LookUpOnly, HeardRefusalOnly, LookedUpRefusalOnly, HearRefusedKeeps, HearNothingKeeps, LowestWins, PriorityIgnored, PastUntouched, PastUnread, LengthKept, RulesRead, RulesKept, TakenShown, HeldShown}
 use Rattle.nodes.specs.declared.Node.{Node}
 use Rattle.nodes.specs.declared.Claim.{Claim}
 use Rattle.nodes.specs.declared.Heard.{Heard}
@@ -33,6 +33,7 @@ use Rattle.nodes.proofs.Call.{asked-short, asked-broken, asked-bad, ask
 use Rattle.nodes.proofs.Sound.{rules-of, of-rules, after-taken, after-held}
 use Rattle.nodes.proofs.Kept.{claimed-length, claimed-past, claimed-front, claimed-keeps, claimed-at}
 pub use Rattle.nodes.proofs.Kept.{name-once, taken-by-lower}
+pub use Rattle.nodes.proofs.Blank.{empty-keeps-rules, empty-has-nobody}
 
 -- an answer is read back from what it tells
 
@@ -75,6 +76,9 @@ pub told-looked-up-same : ToldLookedUpSame
 told-looked-up-same r s e = sym (looked-back r) ∙ ap lookedBack e ∙ looked-back s
 
 -- no second answer
+
+pub empty-only : EmptyOnly
+empty-only r s p q = p .answer ∙ sym (q .answer)
 
 pub hear-only : HearOnly
 hear-only table id bytes r s after after′ p q = (told-heard-same r s (p .answer ∙ sym (q .answer)), p .table-after ∙ sym (q .table-after))

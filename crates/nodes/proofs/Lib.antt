@@ -9,4 +9,5 @@ pub mod Pass
 pub mod Whole
 pub mod Sound
 pub mod Kept
+pub mod Blank
 pub mod Laws

@@ -5,12 +5,12 @@ use mathlib.Core.Bool.{Bool, true, false}
 use mathlib.Core.List.{List}
 use Prim.Native.Nat.{ℕ, _≤_, _<_}
 use native.Mathlib.Omega.{arith}
-use lib.ListN.{length, take, replicate}
+use lib.ListN.{length, take}
 use lib.Dec.{ltb}
 use borrow.Author.Tests.{ltb-true, ltb-false}
 use Rattle.frame.specs.Words.{if_then_else_, Told, refused, gives}
 use Rattle.frame.proofs.Words.{past-refusal}
-use Rattle.nodes.specs.Table.{addresses, absent}
+use Rattle.nodes.specs.Table.{addresses, emptyTable}
 use Rattle.nodes.specs.Call.{Asked, nothing, claims, askedOf, answerOf, leftBy, lookedUpOf}
 use Rattle.nodes.specs.Promises.{Hear, LookUp, toldLookedUp}
 use Rattle.nodes.specs.Inside.{afterOf, eachFrom, recordsOf, JudgedAs, turnsOf, changeOf}
@@ -43,14 +43,14 @@ module _ (table : List Node) (id : ℕ) (bytes : List ℕ) where
   asked records = askedOf (length table) records id bytes
 
   same-by : (t : Bool) → ltb (length table) addresses ≡ t
-      → answerOf (if t then replicate addresses absent else take addresses table) (asked (if t then replicate addresses absent else take addresses table))
+      → answerOf (if t then emptyTable else take addresses table) (asked (if t then emptyTable else take addresses table))
       ≡ answerOf (take addresses table) (asked (take addresses table))
   same-by true e =
       let h : length table < addresses = ltb-true _ _ e in
-      ap (answerOf (replicate addresses absent)) (asked-short _ _ id bytes h) ∙ sym (ap (answerOf (take addresses table)) (asked-short _ _ id bytes h))
+      ap (answerOf (emptyTable)) (asked-short _ _ id bytes h) ∙ sym (ap (answerOf (take addresses table)) (asked-short _ _ id bytes h))
   same-by false e = refl
 
-  asked-by : (t : Bool) → ltb (length table) addresses ≡ t → asked (if t then replicate addresses absent else take addresses table) ≡ asked (take addresses table)
+  asked-by : (t : Bool) → ltb (length table) addresses ≡ t → asked (if t then emptyTable else take addresses table) ≡ asked (take addresses table)
   asked-by true e = let h : length table < addresses = ltb-true _ _ e in asked-short _ _ id bytes h ∙ sym (asked-short _ _ id bytes h)
   asked-by false e = refl
 
@@ -70,7 +70,7 @@ module _ (table : List Node) (id : ℕ) (bytes : List ℕ) where
 
 module _ (table : List Node) (address : ℕ) where
   looked-by : (t : Bool) → ltb (length table) addresses ≡ t
-      → lookedUpOf (length table) (if t then replicate addresses absent else take addresses table) address ≡ lookedUpOf (length table) (take addresses table) address
+      → lookedUpOf (length table) (if t then emptyTable else take addresses table) address ≡ lookedUpOf (length table) (take addresses table) address
   looked-by true e = let h : length table < addresses = ltb-true _ _ e in looked-short _ _ address h ∙ sym (looked-short _ _ address h)
   looked-by false e = refl
 

@@ -2,9 +2,9 @@
 use mathlib.Core.Path.{_≡_}
 use mathlib.Core.List.{List, [], _∷_}
 use Prim.Native.Nat.{ℕ, zero, suc}
-use lib.ListN.{length, take, replicate}
+use lib.ListN.{length, take}
 use Rattle.frame.specs.Words.{if_then_else_, _<?_, _=?_, Told, refused, gives}
-use Rattle.nodes.specs.Table.{addresses, absent, clearedOf, takenOf}
+use Rattle.nodes.specs.Table.{addresses, emptyTable, clearedOf, takenOf}
 use Rattle.nodes.specs.Call.{Asked, nothing, claims, answerOf}
 use Rattle.nodes.specs.Promises.{toldHeard}
 use Rattle.nodes.specs.declared.Node.{Node}
@@ -40,7 +40,7 @@ unfoldable pub readableOf : ℕ → ℕ
 readableOf size = if size <? addresses then 0 else addresses
 
 abbrev pub recordsOf : List Node → List Node
-recordsOf table = if length table <? addresses then replicate addresses absent else take addresses table
+recordsOf table = if length table <? addresses then emptyTable else take addresses table
 
 -- changed: a change record by record, as the lent table is walked: what the record of an address becomes by a claim,
 unfoldable pub claimedAt : Claim → ℕ → Node → Node

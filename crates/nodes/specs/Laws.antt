@@ -1,7 +1,7 @@
 -- The laws of this crate, each a named statement. proofs/Laws.antt has a proof of each, under the same name written small.
 use mathlib.Core.Path.{_≡_}
 use mathlib.Core.Bool.{true, false}
-use mathlib.Core.List.{List}
+use mathlib.Core.List.{List, _++_}
 use mathlib.Core.Logic.{_⊎_}
 use Prim.Native.Nat.{ℕ, _≤_, _<_, _%_, _^_}
 use lib.ListN.{length, getD, take, drop}
@@ -12,8 +12,8 @@ use Rattle.frame.specs.Frame.{checkedOf}
 use Rattle.frame.specs.Standard.{claimDgn}
 use Rattle.frame.specs.declared.Parts.{Parts}
 use Rattle.nodes.specs.Table.{addresses, absent, held, hasName, keepsRules, claimedOf}
-use Rattle.nodes.specs.Call.{nothingToDo, taken, heldByLower, claimOutcome, heardOf, tableAfter, Holder, holder, lookedUpOf}
-use Rattle.nodes.specs.Promises.{Hear, LookUp, HeardRefusal, LookedUpRefusal, toldHeard, toldLookedUp}
+use Rattle.nodes.specs.Call.{nothingToDo, taken, heldByLower, claimOutcome, heardOf, tableAfter, Holder, nobody, holder, lookedUpOf}
+use Rattle.nodes.specs.Promises.{Empty, Hear, LookUp, HeardRefusal, LookedUpRefusal, toldHeard, toldLookedUp}
 use Rattle.nodes.specs.declared.Node.{Node}
 use Rattle.nodes.specs.declared.Claim.{Claim}
 use Rattle.nodes.specs.declared.Heard.{Heard}
@@ -29,6 +29,9 @@ abbrev pub ToldLookedUpSame : Type 0
 ToldLookedUpSame = (r s : LookedUp) → toldLookedUp r ≡ toldLookedUp s → r ≡ s
 
 -- No second answer and no second table keep a promise.
+
+abbrev pub EmptyOnly : Type 0
+EmptyOnly = (r s : List Node) → Empty r → Empty s → r ≡ s
 
 abbrev pub HearOnly : Type 0
 HearOnly =
@@ -101,6 +104,16 @@ pub record Rules (records : List Node) : Type 0 where
 
 abbrev pub RulesRead : Type 0
 RulesRead = (records : List Node) → (keepsRules records ≡ true → Rules records) × (Rules records → keepsRules records ≡ true)
+
+-- A table to start from has all the addresses and keeps the rules, whatever records stand behind it, and nobody has an address in it.
+
+abbrev pub EmptyKeepsRules : Type 0
+EmptyKeepsRules =
+    (r behind : List Node) → Empty r → (addresses ≤ length (r ++ behind)) × (keepsRules (take addresses (r ++ behind)) ≡ true)
+
+abbrev pub EmptyHasNobody : Type 0
+EmptyHasNobody =
+    (r behind : List Node) (address : ℕ) → Empty r → lookedUpOf (length (r ++ behind)) (take addresses (r ++ behind)) address ≡ gives nobody
 
 -- A table that keeps the rules leads to one that keeps them, whatever is heard.
 abbrev pub RulesKept : Type 0

@@ -6,13 +6,18 @@ use Prim.Native.Nat.{ℕ}
 use lib.ListN.{length, take}
 use Rattle.frame.specs.Words.{Told, refused, gives, numberIn}
 use Rattle.frame.specs.Promises.{refusalOf}
-use Rattle.nodes.specs.Table.{addresses}
+use Rattle.nodes.specs.Table.{addresses, emptyTable}
 use Rattle.nodes.specs.Call.{Outcome, nothingToDo, taken, heldByLower, silent, Holder, nobody, holder, heardOf, tableAfter, lookedUpOf}
 use Rattle.nodes.specs.declared.Node.{Node}
 use Rattle.nodes.specs.declared.Heard.{Heard}
 use Rattle.nodes.specs.declared.Heard.the-variants as Heard
 use Rattle.nodes.specs.declared.LookedUp.{LookedUp}
 use Rattle.nodes.specs.declared.LookedUp.the-variants as LookedUp
+
+-- empty
+
+pub record Empty (r : List Node) : Type 0 where
+  pub answer : r ≡ emptyTable
 
 -- hear
 

@@ -2,7 +2,7 @@
 use mathlib.Core.Bool.{Bool, true, false, not}
 use mathlib.Core.List.{List, [], _∷_, _++_, map}
 use Prim.Native.Nat.{ℕ}
-use lib.ListN.{getD, set, take, drop}
+use lib.ListN.{getD, set, take, drop, replicate}
 use Rattle.frame.specs.Words.{if_then_else_, _<?_, _≤?_, _=?_, _and_, _or_}
 use Rattle.frame.specs.Standard.{greatestAddress}
 use Rattle.nodes.specs.declared.Node.{Node}
@@ -15,6 +15,10 @@ addresses = 254
 -- a cleared record is absent with NAME 0
 abbrev pub absent : Node
 absent = record { present = false; name = 0 }
+
+-- a table to start from, in which nobody has an address
+abbrev pub emptyTable : List Node
+emptyTable = replicate addresses absent
 
 abbrev pub held : ℕ → Node
 held name = record { present = true; name = name }

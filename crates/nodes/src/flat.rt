@@ -11,9 +11,9 @@ use frame::standard::CLAIM;
 use frame::standard::GREATEST_ADDRESS;
 ghost use mathlib.Core.Path.{_≡_};
 ghost use Prim.Native.Nat.{_≤_};
-ghost use lib.ListN.{drop, replicate};
+ghost use lib.ListN.{drop};
 ghost use Rattle.frame.specs.Words.{gives};
-ghost use Rattle.nodes.specs.Table.{addresses, absent, hasName, givesWay, clearedOf, takenOf, soundRecord, heldIn, heldAgain, keepsRules};
+ghost use Rattle.nodes.specs.Table.{addresses, hasName, givesWay, clearedOf, takenOf, soundRecord, heldIn, heldAgain, keepsRules};
 ghost use Rattle.nodes.specs.Call.{askedOf, askedBy, claimOutcome, lookedUpOf};
 ghost use Rattle.nodes.specs.Promises.{toldHeard, toldLookedUp};
 ghost use Rattle.nodes.specs.Inside.{claimedAt, afterOf, readableOf, JudgedAs, unaskedAs};
@@ -26,16 +26,6 @@ pub fn readable(size: usize) -> usize
         return 0;
     }
     RECORDS
-}
-
-// A table in which nobody has an address.
-pub fn blank() -> [Node; RECORDS]
-    ensures { λ r. ⌜ r ≡ replicate addresses absent ⌝ }
-{
-    [Node {
-        present: false,
-        name: 0,
-    }; RECORDS]
 }
 
 // Judges a call on values: everything that is refused, what the frame asks, and what comes of it.

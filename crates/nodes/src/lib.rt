@@ -4,7 +4,7 @@ mod flat; // the work on values
 ghost use mathlib.Core.Path.{_≡_};
 ghost use Prim.Native.Nat.{_≤_};
 ghost use lib.ListN.{length};
-ghost use Rattle.nodes.specs.Promises.{Hear, LookUp, HeardRefusal, LookedUpRefusal};
+ghost use Rattle.nodes.specs.Promises.{Empty, Hear, LookUp, HeardRefusal, LookedUpRefusal};
 ghost use Rattle.nodes.specs.Inside.{afterOf, eachFrom, recordsOf};
 
 // A table has a record for each of the addresses 0 to 253; what stands past them is neither read nor written.
@@ -69,6 +69,16 @@ impl LookedUp {
     }
 }
 
+// A table to start from: nobody has an address.
+pub fn empty() -> [Node; RECORDS]
+    ensures { λ r. ⌜ Empty r ⌝ }
+{
+    [Node {
+        present: false,
+        name: 0,
+    }; RECORDS]
+}
+
 // Hears a frame: a claim clears its NAME from every record, and then takes the record of its source.
 pub fn hear(table: &mut [Node], id: u32, bytes: &[u8]) -> Heard
     ensures { λ r. ⌜ Hear (now (table .entry)) id (now (bytes .entry)) r (now (table .exit)) ⌝ }
@@ -121,7 +131,7 @@ fn records(table: &[Node]) -> [Node; RECORDS]
     ensures { λ r. ⌜ r ≡ recordsOf (now (table .entry)) ⌝ }
 {
     let count = flat::readable(table.len());
-    let mut out = flat::blank();
+    let mut out = empty();
     let mut i: usize = 0;
     while i < count {
         out[i] = table[i];
