@@ -11,7 +11,7 @@ use Rattle.frame.specs.Frame.{checkedOf}
 use Rattle.frame.specs.Standard.{greatestAddress}
 use Rattle.frame.specs.declared.Parts.{Parts}
 use Rattle.nodes.specs.Table.{addresses, absent, keepsRules}
-use Rattle.nodes.specs.Call.{Asked, nothing, claims, askedBy, askedOf, claimOutcome, answerOf, nobody, holderOf, lookedUpOf}
+use Rattle.nodes.specs.Call.{Asked, nothing, claims, askedBy, askedOf, claimOutcome, answerOf, nobody, holderOf, lookedUpOf, addressFrom, foundOf}
 use Rattle.nodes.specs.Promises.{toldHeard}
 use Rattle.nodes.specs.Inside.{turnsOf, changeOf, unaskedAs, JudgedAs}
 use Rattle.nodes.specs.declared.Node.{Node}
@@ -85,3 +85,17 @@ module _ (size : ℕ) (records : List Node) (address : ℕ) where
       → lookedUpOf size records address ≡ gives (holderOf (getD records address absent))
   unfolding lookedUpOf
   looked-at h k a = rw (le-ltb _ _ h, k, le-ltb _ _ a)
+
+-- what is found, likewise
+module _ (size : ℕ) (records : List Node) (name : ℕ) where
+  pub found-short : size < addresses → foundOf size records name ≡ refused 1
+  unfolding foundOf
+  found-short h = rw (lt-ltb _ _ h)
+
+  pub found-broken : addresses ≤ size → keepsRules records ≡ false → foundOf size records name ≡ refused 2
+  unfolding foundOf
+  found-broken h k = rw (le-ltb _ _ h, k)
+
+  pub found-in : addresses ≤ size → keepsRules records ≡ true → foundOf size records name ≡ gives (addressFrom name 0 records)
+  unfolding foundOf
+  found-in h k = rw (le-ltb _ _ h, k)

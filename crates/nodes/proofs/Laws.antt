@@ -19,16 +19,18 @@ use Rattle.frame.specs.declared.BadFrame.the-variants as Bad
 use Rattle.frame.proofs.Words.{past-refusal, before-refusal, refused-gives, gives-same, by-test}
 use Rattle.frame.proofs.Laws.{badBack, bad-back, priority-ignored as frame-priority}
 use Rattle.nodes.specs.Table.{addresses, absent, held, givesWay, clearedOf, claimedOf, keepsRules}
-use Rattle.nodes.specs.Call.{Asked, nothing, claims, askedBy, askedOf, tableOr, Outcome, nothingToDo, taken, heldByLower, silent, claimOutcome, answerOf, leftBy, Holder, nobody, holder, holderOf, lookedUpOf}
-use Rattle.nodes.specs.Promises.{toldHeard, toldLookedUp}
+use Rattle.nodes.specs.Call.{Asked, nothing, claims, askedBy, askedOf, tableOr, Outcome, nothingToDo, taken, heldByLower, silent, claimOutcome, answerOf, leftBy, Holder, nobody, holder, holderOf, lookedUpOf, Whereabouts, nowhere, there, foundOf}
+use Rattle.nodes.specs.Promises.{toldHeard, toldLookedUp, toldFoundAddress}
 use Rattle.nodes.specs.Inside.{claimedAt, eachFrom}
-use Rattle.nodes.specs.Laws.{ToldHeardSame, ToldLookedUpSame, EmptyOnly, HearOnly, LookUpOnly, HeardRefusalOnly, LookedUpRefusalOnly, HearRefusedKeeps, HearNothingKeeps, LowestWins, PriorityIgnored, PastUntouched, PastUnread, LengthKept, RulesRead, RulesKept, TakenShown, HeldShown}
+use Rattle.nodes.specs.Laws.{ToldHeardSame, ToldLookedUpSame, ToldFoundAddressSame, EmptyOnly, HearOnly, LookUpOnly, FindAddressOnly, HeardRefusalOnly, LookedUpRefusalOnly, FoundAddressRefusalOnly, HearRefusedKeeps, HearNothingKeeps, LowestWins, PriorityIgnored, PastUntouched, PastUnread, LengthKept, RulesRead, RulesKept, TakenShown, HeldShown}
 use Rattle.nodes.specs.declared.Node.{Node}
 use Rattle.nodes.specs.declared.Claim.{Claim}
 use Rattle.nodes.specs.declared.Heard.{Heard}
 use Rattle.nodes.specs.declared.Heard.the-variants as Heard
 use Rattle.nodes.specs.declared.LookedUp.{LookedUp}
 use Rattle.nodes.specs.declared.LookedUp.the-variants as LookedUp
+use Rattle.nodes.specs.declared.FoundAddress.{FoundAddress}
+use Rattle.nodes.specs.declared.FoundAddress.the-variants as FoundAddress
 use Rattle.nodes.proofs.Call.{asked-short, asked-broken, asked-bad, asked-sound, looked-at}
 use Rattle.nodes.proofs.Sound.{rules-of, of-rules, after-taken, after-held}
 use Rattle.nodes.proofs.Kept.{claimed-length, claimed-past, claimed-front, claimed-keeps, claimed-at}
@@ -75,6 +77,21 @@ looked-back LookedUp.BrokenTable = refl
 pub told-looked-up-same : ToldLookedUpSame
 told-looked-up-same r s e = sym (looked-back r) ∙ ap lookedBack e ∙ looked-back s
 
+foundBack : Told Whereabouts → FoundAddress
+foundBack (gives nowhere) = FoundAddress.NoAddress
+foundBack (gives (there address)) = FoundAddress.At address
+foundBack (refused n) = if n =? 1 then FoundAddress.TableTooShort else FoundAddress.BrokenTable
+
+found-back : (r : FoundAddress) → foundBack (toldFoundAddress r) ≡ r
+unfolding foundBack
+found-back (FoundAddress.At address) = refl
+found-back FoundAddress.NoAddress = refl
+found-back FoundAddress.TableTooShort = refl
+found-back FoundAddress.BrokenTable = refl
+
+pub told-found-address-same : ToldFoundAddressSame
+told-found-address-same r s e = sym (found-back r) ∙ ap foundBack e ∙ found-back s
+
 -- no second answer
 
 pub empty-only : EmptyOnly
@@ -86,11 +103,17 @@ hear-only table id bytes r s after after′ p q = (told-heard-same r s (p .answe
 pub look-up-only : LookUpOnly
 look-up-only table address r s p q = told-looked-up-same r s (p .answer ∙ sym (q .answer))
 
+pub find-address-only : FindAddressOnly
+find-address-only table name r s p q = told-found-address-same r s (p .answer ∙ sym (q .answer))
+
 pub heard-refusal-only : HeardRefusalOnly
 heard-refusal-only answer r s p q = p .number ∙ sym (q .number)
 
 pub looked-up-refusal-only : LookedUpRefusalOnly
 looked-up-refusal-only answer r s p q = p .number ∙ sym (q .number)
+
+pub found-address-refusal-only : FoundAddressRefusalOnly
+found-address-refusal-only answer r s p q = p .number ∙ sym (q .number)
 
 -- what a claim comes to
 
@@ -224,6 +247,10 @@ past-unread table other id bytes l e =
       looked-up = λ address r p.
           record {
             answer = p .answer ∙ ap (λ (n : ℕ). lookedUpOf n (take addresses table) address) l ∙ ap (λ (ns : List Node). lookedUpOf (length other) ns address) e;
+          };
+      found = λ name r p.
+          record {
+            answer = p .answer ∙ ap (λ (n : ℕ). foundOf n (take addresses table) name) l ∙ ap (λ (ns : List Node). foundOf (length other) ns name) e;
           };
     }
 

@@ -10,4 +10,5 @@ pub mod Whole
 pub mod Sound
 pub mod Kept
 pub mod Blank
+pub mod Find
 pub mod Laws

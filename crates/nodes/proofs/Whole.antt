@@ -11,13 +11,14 @@ use borrow.Author.Tests.{ltb-true, ltb-false}
 use Rattle.frame.specs.Words.{if_then_else_, Told, refused, gives}
 use Rattle.frame.proofs.Words.{past-refusal}
 use Rattle.nodes.specs.Table.{addresses, emptyTable}
-use Rattle.nodes.specs.Call.{Asked, nothing, claims, askedOf, answerOf, leftBy, lookedUpOf}
-use Rattle.nodes.specs.Promises.{Hear, LookUp, toldLookedUp}
+use Rattle.nodes.specs.Call.{Asked, nothing, claims, askedOf, answerOf, leftBy, lookedUpOf, foundOf}
+use Rattle.nodes.specs.Promises.{Hear, LookUp, FindAddress, toldLookedUp, toldFoundAddress}
 use Rattle.nodes.specs.Inside.{afterOf, eachFrom, recordsOf, JudgedAs, turnsOf, changeOf}
 use Rattle.nodes.specs.declared.Node.{Node}
 use Rattle.nodes.specs.declared.Judged.{Judged}
 use Rattle.nodes.specs.declared.LookedUp.{LookedUp}
-use Rattle.nodes.proofs.Call.{asked-short, looked-short}
+use Rattle.nodes.specs.declared.FoundAddress.{FoundAddress}
+use Rattle.nodes.proofs.Call.{asked-short, looked-short, found-short}
 use Rattle.nodes.proofs.Pass.{pass-claims}
 
 -- nothing is asked but of a table that has all the addresses
@@ -76,3 +77,12 @@ module _ (table : List Node) (address : ℕ) where
 
   pub judged-looked : (r : LookedUp) → toldLookedUp r ≡ lookedUpOf (length table) (recordsOf table) address → LookUp table address r
   judged-looked r e = record { answer = e ∙ looked-by (ltb (length table) addresses) refl }
+
+module _ (table : List Node) (name : ℕ) where
+  found-by : (t : Bool) → ltb (length table) addresses ≡ t
+      → foundOf (length table) (if t then emptyTable else take addresses table) name ≡ foundOf (length table) (take addresses table) name
+  found-by true e = let h : length table < addresses = ltb-true _ _ e in found-short _ _ name h ∙ sym (found-short _ _ name h)
+  found-by false e = refl
+
+  pub judged-found : (r : FoundAddress) → toldFoundAddress r ≡ foundOf (length table) (recordsOf table) name → FindAddress table name r
+  judged-found r e = record { answer = e ∙ found-by (ltb (length table) addresses) refl }

@@ -1,14 +1,14 @@
 -- What a call on the node table is told and what it leaves (document 01, "Refusal numbers" 1 to 6 and "Node table"). It goes by the
 -- length of the table and the records of the addresses; no other record is read.
-use mathlib.Core.List.{List}
-use Prim.Native.Nat.{ℕ}
+use mathlib.Core.List.{List, [], _∷_}
+use Prim.Native.Nat.{ℕ, suc}
 use lib.ListN.{length, getD, take}
 use Rattle.frame.specs.Words.{if_then_else_, given_then_, _<?_, _=?_, Told, refused, gives}
 use Rattle.frame.specs.Bytes.{numberOf}
 use Rattle.frame.specs.Frame.{checkedOf}
 use Rattle.frame.specs.Standard.{greatestAddress, claimDgn}
 use Rattle.frame.specs.declared.Parts.{Parts}
-use Rattle.nodes.specs.Table.{addresses, absent, givesWay, clearedOf, claimedOf, keepsRules}
+use Rattle.nodes.specs.Table.{addresses, absent, hasName, givesWay, clearedOf, claimedOf, keepsRules}
 use Rattle.nodes.specs.declared.Node.{Node}
 use Rattle.nodes.specs.declared.Claim.{Claim}
 
@@ -81,3 +81,16 @@ unfoldable pub lookedUpOf : ℕ → List Node → ℕ → Told Holder
 lookedUpOf size records address =
     tableOr size records
     (if greatestAddress <? address then gives nobody else gives (holderOf (getD records address absent)))
+
+-- find_address: where a NAME is
+pub data Whereabouts : Type 0 where
+  nowhere : Whereabouts
+  there : ℕ → Whereabouts
+
+-- the address of the first record with the NAME, of records the first of which has the address a
+unfoldable pub addressFrom : ℕ → ℕ → List Node → Whereabouts
+addressFrom name a [] = nowhere
+addressFrom name a (n ∷ ns) = if hasName name n then there a else addressFrom name (suc a) ns
+
+unfoldable pub foundOf : ℕ → List Node → ℕ → Told Whereabouts
+foundOf size records name = tableOr size records (gives (addressFrom name 0 records))

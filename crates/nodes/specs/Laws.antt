@@ -12,13 +12,14 @@ use Rattle.frame.specs.Frame.{checkedOf}
 use Rattle.frame.specs.Standard.{claimDgn}
 use Rattle.frame.specs.declared.Parts.{Parts}
 use Rattle.nodes.specs.Table.{addresses, absent, held, hasName, keepsRules, claimedOf}
-use Rattle.nodes.specs.Call.{nothingToDo, taken, heldByLower, claimOutcome, heardOf, tableAfter, Holder, nobody, holder, lookedUpOf}
-use Rattle.nodes.specs.Promises.{Empty, Hear, LookUp, HeardRefusal, LookedUpRefusal, toldHeard, toldLookedUp}
+use Rattle.nodes.specs.Call.{nothingToDo, taken, heldByLower, claimOutcome, heardOf, tableAfter, Holder, nobody, holder, lookedUpOf, Whereabouts, nowhere, there, foundOf}
+use Rattle.nodes.specs.Promises.{Empty, Hear, LookUp, FindAddress, HeardRefusal, LookedUpRefusal, FoundAddressRefusal, toldHeard, toldLookedUp, toldFoundAddress}
 use Rattle.nodes.specs.declared.Node.{Node}
 use Rattle.nodes.specs.declared.Claim.{Claim}
 use Rattle.nodes.specs.declared.Heard.{Heard}
 use Rattle.nodes.specs.declared.Heard.the-variants.{NothingToDo}
 use Rattle.nodes.specs.declared.LookedUp.{LookedUp}
+use Rattle.nodes.specs.declared.FoundAddress.{FoundAddress}
 
 -- An answer read in document 01's terms loses nothing.
 
@@ -27,6 +28,9 @@ ToldHeardSame = (r s : Heard) → toldHeard r ≡ toldHeard s → r ≡ s
 
 abbrev pub ToldLookedUpSame : Type 0
 ToldLookedUpSame = (r s : LookedUp) → toldLookedUp r ≡ toldLookedUp s → r ≡ s
+
+abbrev pub ToldFoundAddressSame : Type 0
+ToldFoundAddressSame = (r s : FoundAddress) → toldFoundAddress r ≡ toldFoundAddress s → r ≡ s
 
 -- No second answer and no second table keep a promise.
 
@@ -41,11 +45,19 @@ HearOnly =
 abbrev pub LookUpOnly : Type 0
 LookUpOnly = (table : List Node) (address : ℕ) (r s : LookedUp) → LookUp table address r → LookUp table address s → r ≡ s
 
+abbrev pub FindAddressOnly : Type 0
+FindAddressOnly =
+    (table : List Node) (name : ℕ) (r s : FoundAddress) → FindAddress table name r → FindAddress table name s → r ≡ s
+
 abbrev pub HeardRefusalOnly : Type 0
 HeardRefusalOnly = (answer : Heard) (r s : ℕ) → HeardRefusal answer r → HeardRefusal answer s → r ≡ s
 
 abbrev pub LookedUpRefusalOnly : Type 0
 LookedUpRefusalOnly = (answer : LookedUp) (r s : ℕ) → LookedUpRefusal answer r → LookedUpRefusal answer s → r ≡ s
+
+abbrev pub FoundAddressRefusalOnly : Type 0
+FoundAddressRefusalOnly =
+    (answer : FoundAddress) (r s : ℕ) → FoundAddressRefusal answer r → FoundAddressRefusal answer s → r ≡ s
 
 -- A refusal keeps the table, and so does a frame that asks nothing.
 
@@ -86,6 +98,7 @@ pub record Alike (table other : List Node) (id : ℕ) (bytes : List ℕ) : Type 
   pub heard : heardOf table id bytes ≡ heardOf other id bytes
   pub left : take addresses (tableAfter table id bytes) ≡ take addresses (tableAfter other id bytes)
   pub looked-up : (address : ℕ) (r : LookedUp) → LookUp table address r → LookUp other address r
+  pub found : (name : ℕ) (r : FoundAddress) → FindAddress table name r → FindAddress other name r
 
 abbrev pub PastUnread : Type 0
 PastUnread =
@@ -105,7 +118,8 @@ pub record Rules (records : List Node) : Type 0 where
 abbrev pub RulesRead : Type 0
 RulesRead = (records : List Node) → (keepsRules records ≡ true → Rules records) × (Rules records → keepsRules records ≡ true)
 
--- A table to start from has all the addresses and keeps the rules, whatever records stand behind it, and nobody has an address in it.
+-- A table to start from has all the addresses and keeps the rules, whatever records stand behind it; nobody has an address in it, and no
+-- NAME is found.
 
 abbrev pub EmptyKeepsRules : Type 0
 EmptyKeepsRules =
@@ -114,6 +128,10 @@ EmptyKeepsRules =
 abbrev pub EmptyHasNobody : Type 0
 EmptyHasNobody =
     (r behind : List Node) (address : ℕ) → Empty r → lookedUpOf (length (r ++ behind)) (take addresses (r ++ behind)) address ≡ gives nobody
+
+abbrev pub EmptyHasNoName : Type 0
+EmptyHasNoName =
+    (r behind : List Node) (name : ℕ) → Empty r → foundOf (length (r ++ behind)) (take addresses (r ++ behind)) name ≡ gives nowhere
 
 -- A table that keeps the rules leads to one that keeps them, whatever is heard.
 abbrev pub RulesKept : Type 0
@@ -149,3 +167,36 @@ abbrev pub HeldShown : Type 0
 HeldShown =
     (table : List Node) (id : ℕ) (bytes : List ℕ) (a : ℕ)
     → heardOf table id bytes ≡ gives (heldByLower a) → (m : ℕ) × (lookedAfter table id bytes a ≡ gives (holder m)) × (m < numberOf bytes)
+
+-- In a table that keeps the rules a NAME is found exactly at the address whose record is present with it, so at one at most; and
+-- nowhere exactly if no record is.
+
+abbrev pub foundIn : List Node → ℕ → Told Whereabouts
+foundIn table name = foundOf (length table) (take addresses table) name
+
+abbrev pub Holds : List Node → ℕ → ℕ → Type 0
+Holds table name a = (a < addresses) × (getD table a absent .present ≡ true) × (getD table a absent .name ≡ name)
+
+abbrev pub FoundThere : Type 0
+FoundThere =
+    (table : List Node) (name a : ℕ) → addresses ≤ length table → keepsRules (take addresses table) ≡ true
+    → (foundIn table name ≡ gives (there a) → Holds table name a) × (Holds table name a → foundIn table name ≡ gives (there a))
+
+abbrev pub FoundNowhere : Type 0
+FoundNowhere =
+    (table : List Node) (name : ℕ) → addresses ≤ length table → keepsRules (take addresses table) ≡ true
+    → (foundIn table name ≡ gives nowhere → (a : ℕ) → Holds table name a → ⊥)
+    × (((a : ℕ) → Holds table name a → ⊥) → foundIn table name ≡ gives nowhere)
+
+-- `look_up` of the address found gives the NAME, and a NAME that is looked up is found there.
+abbrev pub FoundShown : Type 0
+FoundShown =
+    (table : List Node) (name a : ℕ)
+    → (foundIn table name ≡ gives (there a) → lookedUpOf (length table) (take addresses table) a ≡ gives (holder name))
+    × (lookedUpOf (length table) (take addresses table) a ≡ gives (holder name) → foundIn table name ≡ gives (there a))
+
+-- After `taken` the claim's NAME is found at its address.
+abbrev pub TakenFound : Type 0
+TakenFound =
+    (table : List Node) (id : ℕ) (bytes : List ℕ) (a : ℕ)
+    → heardOf table id bytes ≡ gives (taken a) → foundIn (tableAfter table id bytes) (numberOf bytes) ≡ gives (there a)

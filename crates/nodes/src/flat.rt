@@ -1,6 +1,7 @@
 // The work on values: a table's records judged, and one record changed. The lent table is walked in lib.rt alone.
 use crate::Change;
 use crate::Claim;
+use crate::FoundAddress;
 use crate::Heard;
 use crate::Judged;
 use crate::LookedUp;
@@ -14,8 +15,8 @@ ghost use Prim.Native.Nat.{_≤_};
 ghost use lib.ListN.{drop};
 ghost use Rattle.frame.specs.Words.{gives};
 ghost use Rattle.nodes.specs.Table.{addresses, hasName, givesWay, clearedOf, takenOf, soundRecord, heldIn, heldAgain, keepsRules};
-ghost use Rattle.nodes.specs.Call.{askedOf, askedBy, claimOutcome, lookedUpOf};
-ghost use Rattle.nodes.specs.Promises.{toldHeard, toldLookedUp};
+ghost use Rattle.nodes.specs.Call.{askedOf, askedBy, claimOutcome, lookedUpOf, addressFrom, foundOf};
+ghost use Rattle.nodes.specs.Promises.{toldHeard, toldLookedUp, toldFoundAddress};
 ghost use Rattle.nodes.specs.Inside.{claimedAt, afterOf, readableOf, JudgedAs, unaskedAs};
 
 // How many records are read of a table with `size`: those of all the addresses, or none.
@@ -110,6 +111,33 @@ pub fn looked_up(size: usize, records: [Node; RECORDS], address: u8) -> LookedUp
         return LookedUp::Present(n.name);
     }
     LookedUp::Absent
+}
+
+pub fn found_address(size: usize, records: [Node; RECORDS], name: u64) -> FoundAddress
+    ensures { λ r. ⌜ toldFoundAddress r ≡ foundOf size records name ⌝ }
+{
+    if size < RECORDS {
+        return FoundAddress::TableTooShort;
+    }
+    if !keeps_rules(records) {
+        return FoundAddress::BrokenTable;
+    }
+    address_in(records, name)
+}
+
+// The first address whose record has the NAME.
+fn address_in(records: [Node; RECORDS], name: u64) -> FoundAddress
+    ensures { λ r. ⌜ toldFoundAddress r ≡ gives (addressFrom name 0 records) ⌝ }
+{
+    let mut i: usize = 0;
+    while i < RECORDS {
+        if has_name(records[i], name) {
+            let address = i as u8;
+            return FoundAddress::At(address);
+        }
+        i += 1;
+    }
+    FoundAddress::NoAddress
 }
 
 // What the record of an address becomes by a change.

@@ -4,7 +4,7 @@ mod flat; // the work on values
 ghost use mathlib.Core.Path.{_≡_};
 ghost use Prim.Native.Nat.{_≤_};
 ghost use lib.ListN.{length};
-ghost use Rattle.nodes.specs.Promises.{Empty, Hear, LookUp, HeardRefusal, LookedUpRefusal};
+ghost use Rattle.nodes.specs.Promises.{Empty, Hear, LookUp, FindAddress, HeardRefusal, LookedUpRefusal, FoundAddressRefusal};
 ghost use Rattle.nodes.specs.Inside.{afterOf, eachFrom, recordsOf};
 
 // A table has a record for each of the addresses 0 to 253; what stands past them is neither read nor written.
@@ -32,6 +32,14 @@ pub enum Heard {
 pub enum LookedUp {
     Present(u64),
     Absent,
+    TableTooShort,
+    BrokenTable,
+}
+
+// The address that a NAME has, or refusal 1 or 2.
+pub enum FoundAddress {
+    At(u8),
+    NoAddress,
     TableTooShort,
     BrokenTable,
 }
@@ -69,6 +77,21 @@ impl LookedUp {
     }
 }
 
+impl FoundAddress {
+    // The number of the refusal; 0 where the NAME is looked for.
+    pub fn refusal(self) -> u8
+        ensures { λ r. ⌜ FoundAddressRefusal self r ⌝ }
+    {
+        let answer = self;
+        match answer {
+            FoundAddress::At(_) => 0,
+            FoundAddress::NoAddress => 0,
+            FoundAddress::TableTooShort => 1,
+            FoundAddress::BrokenTable => 2,
+        }
+    }
+}
+
 // A table to start from: nobody has an address.
 pub fn empty() -> [Node; RECORDS]
     ensures { λ r. ⌜ Empty r ⌝ }
@@ -93,6 +116,13 @@ pub fn look_up(table: &[Node], address: u8) -> LookedUp
     ensures { λ r. ⌜ LookUp (now (table .entry)) address r ⌝ }
 {
     flat::looked_up(table.len(), records(table), address)
+}
+
+// Finds the address that a NAME has: that of the one record present with it.
+pub fn find_address(table: &[Node], name: u64) -> FoundAddress
+    ensures { λ r. ⌜ FindAddress (now (table .entry)) name r ⌝ }
+{
+    flat::found_address(table.len(), records(table), name)
 }
 
 // A claim: who sends it, and its NAME.
