@@ -11,12 +11,12 @@ use borrow.Author.Tests.{ltb-true, ltb-false}
 use Rattle.frame.specs.Words.{gives}
 use Rattle.frame.specs.Standard.{greatestAddress}
 use Rattle.frame.proofs.Words.{by-test}
-use Rattle.nodes.specs.Table.{addresses, absent, soundRecord, heldAgain, keepsRules}
-use Rattle.nodes.specs.Call.{nobody, holderOf, lookedUpOf}
+use Rattle.nodes.specs.Table.{addresses, absent, hasName, soundRecord, heldAgain, keepsRules}
+use Rattle.nodes.specs.Call.{nobody, holderOf, lookedUpOf, nowhere, addressFrom, foundOf}
 use Rattle.nodes.specs.Promises.{Empty}
-use Rattle.nodes.specs.Laws.{EmptyKeepsRules, EmptyHasNobody}
+use Rattle.nodes.specs.Laws.{EmptyKeepsRules, EmptyHasNobody, EmptyHasNoName}
 use Rattle.nodes.specs.declared.Node.{Node}
-use Rattle.nodes.proofs.Call.{looked-past, looked-at}
+use Rattle.nodes.proofs.Call.{looked-past, looked-at, found-in}
 
 -- ---- any number of them
 
@@ -33,6 +33,11 @@ all-absent : (k a : ℕ) → getD (replicate k absent) a absent ≡ absent
 all-absent zero a = refl
 all-absent (suc k) zero = refl
 all-absent (suc k) (suc a) = all-absent k a
+
+all-nameless : (name k a : ℕ) → addressFrom name a (replicate k absent) ≡ nowhere
+unfolding addressFrom hasName
+all-nameless name zero a = refl
+all-nameless name (suc k) a = all-nameless name k (suc a)
 
 -- ---- those of the addresses
 
@@ -60,8 +65,15 @@ module _ (r behind : List Node) (e : Empty r) where
       by-test (ltb greatestAddress a) (λ t. looked-past _ _ a long kept (ltb-true _ _ t))
       (λ t. looked-at _ _ a long kept (ltb-false _ _ t) ∙ ap (λ (n : Node). gives (holderOf n)) (absent-at a) ∙ ap gives nobody-there)
 
+  found : (name : ℕ) → foundOf (length (r ++ behind)) (take addresses (r ++ behind)) name ≡ gives nowhere
+  found name =
+      found-in _ _ name long kept ∙ ap (λ (ns : List Node). gives (addressFrom name 0 ns)) front-is ∙ ap gives (all-nameless name addresses 0)
+
 pub empty-keeps-rules : EmptyKeepsRules
 empty-keeps-rules r behind e = (long r behind e, kept r behind e)
 
 pub empty-has-nobody : EmptyHasNobody
 empty-has-nobody r behind a e = looked r behind e a
+
+pub empty-has-no-name : EmptyHasNoName
+empty-has-no-name r behind name e = found r behind e name

@@ -6,7 +6,6 @@ use mathlib.Core.List.{List}
 use Prim.Native.Nat.{ℕ, _≤_, _<_}
 use native.Mathlib.Omega.{arith}
 use lib.ListN.{length, getD, take, drop}
-use lib.Seq.{getD-take}
 use lib.Dec.{ltb}
 use borrow.Author.Tests.{ltb-true, ltb-false, lt-ltb, le-ltb, eqb-true, eqb-false, eq-eqb, ne-eqb}
 use Rattle.frame.specs.Words.{if_then_else_, given_then_, _=?_, Told, refused, gives}
@@ -19,10 +18,10 @@ use Rattle.frame.specs.declared.BadFrame.the-variants as Bad
 use Rattle.frame.proofs.Words.{past-refusal, before-refusal, refused-gives, gives-same, by-test}
 use Rattle.frame.proofs.Laws.{badBack, bad-back, priority-ignored as frame-priority}
 use Rattle.nodes.specs.Table.{addresses, absent, held, givesWay, clearedOf, claimedOf, keepsRules}
-use Rattle.nodes.specs.Call.{Asked, nothing, claims, askedBy, askedOf, tableOr, Outcome, nothingToDo, taken, heldByLower, silent, claimOutcome, answerOf, leftBy, Holder, nobody, holder, holderOf, lookedUpOf, Whereabouts, nowhere, there, foundOf}
+use Rattle.nodes.specs.Call.{Asked, nothing, claims, askedBy, askedOf, tableOr, Outcome, nothingToDo, taken, heldByLower, silent, claimOutcome, answerOf, leftBy, tableAfter, Holder, nobody, holder, holderOf, lookedUpOf, Whereabouts, nowhere, there, foundOf}
 use Rattle.nodes.specs.Promises.{toldHeard, toldLookedUp, toldFoundAddress}
 use Rattle.nodes.specs.Inside.{claimedAt, eachFrom}
-use Rattle.nodes.specs.Laws.{ToldHeardSame, ToldLookedUpSame, ToldFoundAddressSame, EmptyOnly, HearOnly, LookUpOnly, FindAddressOnly, HeardRefusalOnly, LookedUpRefusalOnly, FoundAddressRefusalOnly, HearRefusedKeeps, HearNothingKeeps, LowestWins, PriorityIgnored, PastUntouched, PastUnread, LengthKept, RulesRead, RulesKept, TakenShown, HeldShown}
+use Rattle.nodes.specs.Laws.{ToldHeardSame, ToldLookedUpSame, ToldFoundAddressSame, EmptyOnly, HearOnly, LookUpOnly, FindAddressOnly, HeardRefusalOnly, LookedUpRefusalOnly, FoundAddressRefusalOnly, HearRefusedKeeps, HearNothingKeeps, LowestWins, PriorityIgnored, PastUntouched, PastUnread, LengthKept, RulesRead, RulesKept, TakenShown, HeldShown, TakenFound}
 use Rattle.nodes.specs.declared.Node.{Node}
 use Rattle.nodes.specs.declared.Claim.{Claim}
 use Rattle.nodes.specs.declared.Heard.{Heard}
@@ -35,7 +34,9 @@ use Rattle.nodes.proofs.Call.{asked-short, asked-broken, asked-bad, ask
 use Rattle.nodes.proofs.Sound.{rules-of, of-rules, after-taken, after-held}
 use Rattle.nodes.proofs.Kept.{claimed-length, claimed-past, claimed-front, claimed-keeps, claimed-at}
 pub use Rattle.nodes.proofs.Kept.{name-once, taken-by-lower}
-pub use Rattle.nodes.proofs.Blank.{empty-keeps-rules, empty-has-nobody}
+pub use Rattle.nodes.proofs.Blank.{empty-keeps-rules, empty-has-nobody, empty-has-no-name}
+use Rattle.nodes.proofs.Find.{getD-front, holder-held}
+pub use Rattle.nodes.proofs.Find.{found-there, found-nowhere, found-shown}
 
 -- an answer is read back from what it tells
 
@@ -295,9 +296,6 @@ claim-asked size records id bytes c e =
     let r₂ = before-refusal (keepsRules records) 2 _ (r₁ .1) in
     (ltb-false _ _ (r₁ .0), r₂ .0, name-by bytes (checkedOf id (length bytes)) c (r₂ .1))
 
-getD-front : (n a : ℕ) (ns : List Node) → a < n → getD (take n ns) a absent ≡ getD ns a absent
-getD-front n a ns h = rw getD-take
-
 -- what is looked up at the claim's source
 source-looked : (c : Claim) (table : List Node) → addresses ≤ length table → keepsRules (take addresses table) ≡ true → c .source ≤ greatestAddress
     → lookedUpOf (length (claimedOf c table)) (take addresses (claimedOf c table)) (c .source) ≡ gives (holderOf (claimedAt c (c .source) (getD table (c .source) absent)))
@@ -306,10 +304,6 @@ source-looked c table l k s =
     let l′ : addresses ≤ length (claimedOf c table) = omega (arith, claimed-length c table) in
     looked-at _ _ (c .source) l′ (claimed-keeps c table k) s
     ∙ ap (λ (n : Node). gives (holderOf n)) (getD-front addresses (c .source) (claimedOf c table) h ∙ claimed-at c table l (c .source) h)
-
-holder-held : (n : Node) → n .present ≡ true → holderOf n ≡ holder (n .name)
-unfolding holderOf
-holder-held n p = rw p
 
 module _ (table : List Node) (id : ℕ) (bytes : List ℕ) (a : ℕ) where
   abbrev shown : Told Asked → Told Holder
@@ -365,3 +359,6 @@ taken-shown table id bytes a e = taken-told table id bytes a (asked table id byt
 
 pub held-shown : HeldShown
 held-shown table id bytes a e = held-told table id bytes a (asked table id bytes) refl e
+
+pub taken-found : TakenFound
+taken-found table id bytes a e = found-shown (tableAfter table id bytes) (numberOf bytes) a .1 (taken-shown table id bytes a e)
