@@ -51,6 +51,7 @@ hit-of name a (n ∷ ns) b e =
   where
     here : there a ≡ there b → b ≡ a + 0
     here e = let s : a ≡ b = cc in omega arith
+
     next : Hit name (suc a) ns b → Hit name a (n ∷ ns) b
     next f = let s : b ≡ suc a + f .0 = f .1 in (suc (f .0), omega arith, omega (arith, f .2), f .3)
 
@@ -156,6 +157,7 @@ holder-of n name e =
   where
     same : holder (n .name) ≡ holder name → n .name ≡ name
     same e = cc
+
     differ : nobody ≡ holder name → ⊥
     differ e = let z : _≡_ {A = ℕ} 0 1 = cc in omega arith
 

@@ -131,7 +131,8 @@ fn address_in(records: [Node; RECORDS], name: u64) -> FoundAddress
 {
     let mut i: usize = 0;
     while i < RECORDS {
-        if has_name(records[i], name) {
+        let record = records[i];
+        if has_name(record, name) {
             let address = i as u8;
             return FoundAddress::At(address);
         }

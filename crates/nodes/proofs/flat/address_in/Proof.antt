@@ -23,11 +23,11 @@ loop-holds c =
     let e : length (c .args .t1) ≡ addresses = search length-field in
     (omega arith, e, refl)
 
-mul-has-name : tie.Need-mul-has-name Inv-loop μ-loop
-mul-has-name c = search needs
+mul-record : tie.Need-mul-record Inv-loop μ-loop
+mul-record c = search needs
 
-array-copy-out-has-name : tie.Need-array-copy-out-has-name Inv-loop μ-loop
-array-copy-out-has-name c = search needs
+array-copy-out-record : tie.Need-array-copy-out-record Inv-loop μ-loop
+array-copy-out-record c = search needs
 
 has-name-requires : tie.Need-has-name-requires Inv-loop μ-loop
 has-name-requires c κs = search needs
@@ -66,8 +66,8 @@ address-in-spec =
     Inv-loop
     μ-loop
     loop-holds
-    mul-has-name
-    array-copy-out-has-name
+    mul-record
+    array-copy-out-record
     has-name-requires
     cast-address
     returns
