@@ -63,11 +63,13 @@ module _ (r behind : List Node) (e : Empty r) where
   looked : (a : ℕ) → lookedUpOf (length (r ++ behind)) (take addresses (r ++ behind)) a ≡ gives nobody
   looked a =
       by-test (ltb greatestAddress a) (λ t. looked-past _ _ a long kept (ltb-true _ _ t))
-      (λ t. looked-at _ _ a long kept (ltb-false _ _ t) ∙ ap (λ (n : Node). gives (holderOf n)) (absent-at a) ∙ ap gives nobody-there)
+      (λ t. looked-at _ _ a long kept (ltb-false _ _ t)
+      ∙ ap (λ (n : Node). gives (holderOf n)) (absent-at a) ∙ ap gives nobody-there)
 
   found : (name : ℕ) → foundOf (length (r ++ behind)) (take addresses (r ++ behind)) name ≡ gives nowhere
   found name =
-      found-in _ _ name long kept ∙ ap (λ (ns : List Node). gives (addressFrom name 0 ns)) front-is ∙ ap gives (all-nameless name addresses 0)
+      found-in _ _ name long kept
+      ∙ ap (λ (ns : List Node). gives (addressFrom name 0 ns)) front-is ∙ ap gives (all-nameless name addresses 0)
 
 pub empty-keeps-rules : EmptyKeepsRules
 empty-keeps-rules r behind e = (long r behind e, kept r behind e)

@@ -1,4 +1,5 @@
--- A call judged: what is asked of a table, by the first refusal that applies, and the answer, the turns and the change that belong to it.
+-- A call judged: what is asked of a table, by the first refusal that applies, and the answer, the turns and the change
+-- that belong to it.
 -- Assumes nothing.
 use mathlib.Core.Path.{_≡_, sym, ap, _∙_}
 use mathlib.Core.List.{List}
@@ -96,6 +97,7 @@ module _ (size : ℕ) (records : List Node) (name : ℕ) where
   unfolding foundOf
   found-broken h k = rw (le-ltb _ _ h, k)
 
-  pub found-in : addresses ≤ size → keepsRules records ≡ true → foundOf size records name ≡ gives (addressFrom name 0 records)
+  pub found-in : addresses ≤ size → keepsRules records ≡ true
+      → foundOf size records name ≡ gives (addressFrom name 0 records)
   unfolding foundOf
   found-in h k = rw (le-ltb _ _ h, k)

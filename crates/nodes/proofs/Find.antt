@@ -34,7 +34,8 @@ module _ (name : ℕ) (ns : List Node) (i : ℕ) (h : i < length ns) where
   search-hit e = rw (drop-cons ns i absent h, e)
 
   -- or the search goes on past it
-  pub search-turn : hasName name (getD ns i absent) ≡ false → addressFrom name i (drop i ns) ≡ addressFrom name (i + 1) (drop (i + 1) ns)
+  pub search-turn : hasName name (getD ns i absent) ≡ false
+      → addressFrom name i (drop i ns) ≡ addressFrom name (i + 1) (drop (i + 1) ns)
   unfolding addressFrom
   search-turn e = rw (add-one, drop-cons ns i absent h, e)
 
@@ -47,7 +48,8 @@ hit-of : (name a : ℕ) (ns : List Node) (b : ℕ) → addressFrom name a ns ≡
 unfolding addressFrom
 hit-of name a [] b e = let z : _≡_ {A = ℕ} 0 1 = cc in absurd (omega arith)
 hit-of name a (n ∷ ns) b e =
-    by-test (hasName name n) (λ h. (0, here (rw h at e), omega arith, h)) (λ h. next (hit-of name (suc a) ns b (rw h at e)))
+    by-test (hasName name n) (λ h. (0, here (rw h at e), omega arith, h))
+    (λ h. next (hit-of name (suc a) ns b (rw h at e)))
   where
     here : there a ≡ there b → b ≡ a + 0
     here e = let s : a ≡ b = cc in omega arith
@@ -55,12 +57,16 @@ hit-of name a (n ∷ ns) b e =
     next : Hit name (suc a) ns b → Hit name a (n ∷ ns) b
     next f = let s : b ≡ suc a + f .0 = f .1 in (suc (f .0), omega arith, omega (arith, f .2), f .3)
 
-none-of : (name a : ℕ) (ns : List Node) → addressFrom name a ns ≡ nowhere → (i : ℕ) → i < length ns → hasName name (getD ns i absent) ≡ true → ⊥
+there-nowhere : {B : Type 0} {a : ℕ} → there a ≡ nowhere → B
+there-nowhere e = let z : _≡_ {A = ℕ} 0 1 = cc in absurd (omega arith)
+
+none-of : (name a : ℕ) (ns : List Node) → addressFrom name a ns ≡ nowhere
+    → (i : ℕ) → i < length ns → hasName name (getD ns i absent) ≡ true → ⊥
 unfolding addressFrom
 none-of name a [] e i l h = not-suc-le-zero l
-none-of name a (n ∷ ns) e zero l h = let w : there a ≡ nowhere = rw h at e in let z : _≡_ {A = ℕ} 0 1 = cc in omega arith
+none-of name a (n ∷ ns) e zero l h = there-nowhere {a = a} (rw h at e)
 none-of name a (n ∷ ns) e (suc i) l h =
-    by-test (hasName name n) (λ t. let w : there a ≡ nowhere = rw t at e in let z : _≡_ {A = ℕ} 0 1 = cc in absurd (omega arith))
+    by-test (hasName name n) (λ t. there-nowhere {a = a} (rw t at e))
     (λ t. none-of name (suc a) ns (rw t at e) i (le-of-suc-le-suc l) h)
 
 module _ (name : ℕ) (rs : List Node) where
@@ -83,7 +89,9 @@ module _ (name : ℕ) (rs : List Node) where
 
   of-in : Rules rs → (a : ℕ) → In a → (w : Whereabouts) → addressFrom name 0 rs ≡ w → w ≡ there a
   of-in rules a i nowhere e = absurd (none-in e a i)
-  of-in rules a i (there b) e = let j = in-of b e in ap there (rules .one-each b a (j .0) (i .0) (j .1) (i .1) (j .2 ∙ sym (i .2)))
+  of-in rules a i (there b) e =
+      let j = in-of b e in
+      ap there (rules .one-each b a (j .0) (i .0) (j .1) (i .1) (j .2 ∙ sym (i .2)))
 
 -- ---- in a table, of whose records the first n are looked at
 
@@ -109,26 +117,30 @@ module _ (n : ℕ) (table : List Node) (name : ℕ) (enough : n ≤ length table
       let same = getD-front n a table l in
       (l, sym (ap (λ (m : Node). m .present) same) ∙ i .1, sym (ap (λ (m : Node). m .name) same) ∙ i .2)
 
-module _ (table : List Node) (name : ℕ) (enough : addresses ≤ length table) (keeps : keepsRules (take addresses table) ≡ true) where
+module _ (table : List Node) (name : ℕ) (enough : addresses ≤ length table)
+    (keeps : keepsRules (take addresses table) ≡ true) where
+  abbrev rs : List Node
+  rs = take addresses table
+
   abbrev sought : Whereabouts
-  sought = addressFrom name 0 (take addresses table)
+  sought = addressFrom name 0 rs
 
   found-is : foundIn table name ≡ gives sought
   found-is = found-in _ _ name enough keeps
 
   there-holds : (a : ℕ) → foundIn table name ≡ gives (there a) → Holds table name a
-  there-holds a e = of-front addresses table name enough a (in-of name (take addresses table) a (gives-same (sym found-is ∙ e)))
+  there-holds a e = of-front addresses table name enough a (in-of name rs a (gives-same (sym found-is ∙ e)))
 
   holds-there : (a : ℕ) → Holds table name a → foundIn table name ≡ gives (there a)
   holds-there a h =
-      found-is ∙ ap gives (of-in name (take addresses table) (rules-of _ keeps) a (in-front addresses table name enough a h) sought refl)
+      found-is ∙ ap gives (of-in name rs (rules-of rs keeps) a (in-front addresses table name enough a h) sought refl)
 
   nowhere-none : foundIn table name ≡ gives nowhere → (a : ℕ) → Holds table name a → ⊥
-  nowhere-none e a h = none-in name (take addresses table) (gives-same (sym found-is ∙ e)) a (in-front addresses table name enough a h)
+  nowhere-none e a h = none-in name rs (gives-same (sym found-is ∙ e)) a (in-front addresses table name enough a h)
 
   none-nowhere : ((a : ℕ) → Holds table name a → ⊥) → foundIn table name ≡ gives nowhere
   none-nowhere h =
-      found-is ∙ ap gives (of-none name (take addresses table) (λ a i. h a (of-front addresses table name enough a i)) sought refl)
+      found-is ∙ ap gives (of-none name rs (λ a i. h a (of-front addresses table name enough a i)) sought refl)
 
 pub found-there : FoundThere
 found-there table name a enough keeps = (there-holds table name enough keeps a, holds-there table name enough keeps a)
@@ -183,7 +195,8 @@ module _ (table : List Node) (name a : ℕ) where
       (λ t. absurd (differ (sym (looked-past _ _ a (s .0) (s .1) (ltb-true _ _ t)) ∙ e)))
       (λ t. let l : a ≤ greatestAddress = ltb-false _ _ t in
       let h : a < addresses = omega arith in
-      let p = holder-of (getD table a absent) name (gives-same (sym (looked-at _ _ a (s .0) (s .1) l ∙ ap (λ (n : Node). gives (holderOf n)) (getD-front addresses a table h)) ∙ e)) in
+      let k = looked-at _ _ a (s .0) (s .1) l ∙ ap (λ (n : Node). gives (holderOf n)) (getD-front addresses a table h) in
+      let p = holder-of (getD table a absent) name (gives-same (sym k ∙ e)) in
       holds-there table name (s .0) (s .1) a (h, p .0, p .1))
     where
       differ : _≡_ {A = Told Holder} (gives nobody) (gives (holder name)) → ⊥

@@ -251,7 +251,8 @@ past-unread table other id bytes l e =
           };
       found = λ name r p.
           record {
-            answer = p .answer ∙ ap (λ (n : ℕ). foundOf n (take addresses table) name) l ∙ ap (λ (ns : List Node). foundOf (length other) ns name) e;
+            answer = p .answer ∙ ap (λ (n : ℕ). foundOf n (take addresses table) name) l
+                ∙ ap (λ (ns : List Node). foundOf (length other) ns name) e;
           };
     }
 
@@ -361,4 +362,5 @@ pub held-shown : HeldShown
 held-shown table id bytes a e = held-told table id bytes a (asked table id bytes) refl e
 
 pub taken-found : TakenFound
-taken-found table id bytes a e = found-shown (tableAfter table id bytes) (numberOf bytes) a .1 (taken-shown table id bytes a e)
+taken-found table id bytes a e =
+    found-shown (tableAfter table id bytes) (numberOf bytes) a .1 (taken-shown table id bytes a e)

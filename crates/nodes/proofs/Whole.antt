@@ -48,7 +48,7 @@ module _ (table : List Node) (id : ℕ) (bytes : List ℕ) where
       ≡ answerOf (take addresses table) (asked (take addresses table))
   same-by true e =
       let h : length table < addresses = ltb-true _ _ e in
-      ap (answerOf (emptyTable)) (asked-short _ _ id bytes h) ∙ sym (ap (answerOf (take addresses table)) (asked-short _ _ id bytes h))
+      ap (answerOf emptyTable) (asked-short _ _ id bytes h) ∙ sym (ap (answerOf (take addresses table)) (asked-short _ _ id bytes h))
   same-by false e = refl
 
   asked-by : (t : Bool) → ltb (length table) addresses ≡ t → asked (if t then emptyTable else take addresses table) ≡ asked (take addresses table)
@@ -80,9 +80,13 @@ module _ (table : List Node) (address : ℕ) where
 
 module _ (table : List Node) (name : ℕ) where
   found-by : (t : Bool) → ltb (length table) addresses ≡ t
-      → foundOf (length table) (if t then emptyTable else take addresses table) name ≡ foundOf (length table) (take addresses table) name
-  found-by true e = let h : length table < addresses = ltb-true _ _ e in found-short _ _ name h ∙ sym (found-short _ _ name h)
+      → foundOf (length table) (if t then emptyTable else take addresses table) name
+      ≡ foundOf (length table) (take addresses table) name
+  found-by true e =
+      let h : length table < addresses = ltb-true _ _ e in
+      found-short _ _ name h ∙ sym (found-short _ _ name h)
   found-by false e = refl
 
-  pub judged-found : (r : FoundAddress) → toldFoundAddress r ≡ foundOf (length table) (recordsOf table) name → FindAddress table name r
+  pub judged-found : (r : FoundAddress) → toldFoundAddress r ≡ foundOf (length table) (recordsOf table) name
+      → FindAddress table name r
   judged-found r e = record { answer = e ∙ found-by (ltb (length table) addresses) refl }

@@ -1,5 +1,5 @@
--- What a call on the node table is told and what it leaves (document 01, "Refusal numbers" 1 to 6 and "Node table"). It goes by the
--- length of the table and the records of the addresses; no other record is read.
+-- What a call on the node table is told and what it leaves (document 01, "Refusal numbers" 1 to 6 and "Node table"). It
+-- goes by the length of the table and the records of the addresses; no other record is read.
 use mathlib.Core.List.{List, [], _∷_}
 use Prim.Native.Nat.{ℕ, suc}
 use lib.ListN.{length, getD, take}
@@ -32,7 +32,9 @@ tableOr size records told =
 
 -- a table of `size` records, of which those of the addresses are `records`, hears a frame
 unfoldable pub askedOf : ℕ → List Node → ℕ → List ℕ → Told Asked
-askedOf size records id bytes = tableOr size records (given checkedOf id (length bytes) then (λ parts. gives (askedBy parts bytes)))
+askedOf size records id bytes =
+    tableOr size records
+    (given checkedOf id (length bytes) then (λ parts. gives (askedBy parts bytes)))
 
 -- what came of it
 pub data Outcome : Type 0 where
@@ -46,7 +48,8 @@ pub data Outcome : Type 0 where
 unfoldable pub claimOutcome : List Node → Claim → Outcome
 claimOutcome records claim =
     if greatestAddress <? claim .source then silent else
-    if givesWay (claim .name) (clearedOf (claim .name) (getD records (claim .source) absent)) then taken (claim .source) else
+    if givesWay (claim .name) (clearedOf (claim .name) (getD records (claim .source) absent)) then
+    taken (claim .source) else
     heldByLower (claim .source)
 
 abbrev pub outcomeOf : List Node → Asked → Outcome

@@ -1,4 +1,5 @@
--- The node table (document 01, "Node table"): record a stands for address a, and says whether a node holds it and with which NAME.
+-- The node table (document 01, "Node table"): record a stands for address a, and says whether a node holds it and with
+-- which NAME.
 use mathlib.Core.Bool.{Bool, true, false, not}
 use mathlib.Core.List.{List, [], _∷_, _++_, map}
 use Prim.Native.Nat.{ℕ}

@@ -1,4 +1,5 @@
-// The node table: which NAME holds which address. The table is a slice of records that the caller lends; record a stands for address a.
+// The node table: which NAME holds which address. The table is a slice of records that the caller lends; record a stands
+// for address a.
 mod flat; // the work on values
 
 ghost use mathlib.Core.Path.{_≡_};
@@ -16,8 +17,8 @@ pub struct Node {
     pub name: u64,
 }
 
-// What came of a frame: a claim's record took the NAME, or stays with a lower one; a claim from 254, whose sender has no address; or
-// refusal 1, 2, or 3 to 6.
+// What came of a frame: a claim's record took the NAME, or stays with a lower one; a claim from 254, whose sender has no
+// address; or refusal 1, 2, or 3 to 6.
 pub enum Heard {
     Taken(u8),
     HeldByLower(u8),

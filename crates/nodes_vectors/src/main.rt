@@ -1,5 +1,5 @@
-// Runs a bus on which nodes join, move, lose and fall silent, over tables of 254 and of 300 records, and over damaged tables and
-// frames; every node is looked up by its address and found by its NAME; held to `stdout`.
+// Runs a bus on which nodes join, move, lose and fall silent, over tables of 254 and of 300 records, and over damaged
+// tables and frames; nodes are looked up by their address and found by their NAME; held to `stdout`.
 use libc::STDOUT_FILENO;
 use nodes::FoundAddress;
 use nodes::Heard;

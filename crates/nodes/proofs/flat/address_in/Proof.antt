@@ -13,7 +13,8 @@ use Rattle.nodes.proofs.flat.address_in.Statement.{statement}
 use Rattle.nodes.proofs.flat.address_in.Tie as tie
 
 abbrev Inv-loop : tie.InvT-loop
-Inv-loop name records i₀ i = (i ≤ addresses) × (length records ≡ addresses) × (addressFrom name i (drop i records) ≡ addressFrom name 0 records)
+Inv-loop name records i₀ i =
+    (i ≤ addresses) × (length records ≡ addresses) × (addressFrom name i (drop i records) ≡ addressFrom name 0 records)
 
 abbrev μ-loop : tie.MeasureT-loop
 μ-loop name records i₀ i = addresses - i
@@ -39,7 +40,8 @@ returns : tie.Need-returns Inv-loop μ-loop
 returns c =
     let l = c .before .before .before .before .loop in
     let h : l .i < length (c .before .before .before .before .before .args .t1) = omega arith in
-    ap (λ (w : Whereabouts). gives w) (sym (search-hit _ _ (l .i) h (sym (c .before .has-name .ensures) ∙ c .if1 .taken)) ∙ l .inv .2)
+    let e = search-hit _ _ (l .i) h (sym (c .before .has-name .ensures) ∙ c .if1 .taken) in
+    ap (λ (w : Whereabouts). gives w) (sym e ∙ l .inv .2)
 
 add-i : tie.Need-add-i Inv-loop μ-loop
 add-i c = search needs
@@ -51,7 +53,8 @@ loop-again : tie.Need-loop-again Inv-loop μ-loop
 loop-again c =
     let l = c .before .before .before .before .loop in
     let h : l .i < length (c .before .before .before .before .before .args .t1) = omega arith in
-    (omega arith, l .inv .1, sym (search-turn _ _ (l .i) h (sym (c .before .has-name .ensures) ∙ c .if1 .left)) ∙ l .inv .2)
+    let f = sym (c .before .has-name .ensures) ∙ c .if1 .left in
+    (omega arith, l .inv .1, sym (search-turn _ _ (l .i) h f) ∙ l .inv .2)
 
 returns-2 : tie.Need-returns-2 Inv-loop μ-loop
 returns-2 c =

@@ -15,7 +15,8 @@ keeps-rules-requires c κs = search needs
 returns-2 : tie.Need-returns-2
 returns-2 c =
     let k = c .before in
-    sym (found-broken _ _ _ (k .before .if1 .left) (sym (k .keeps-rules .ensures) ∙ not-true (k .keeps-rules .result) (c .if2 .taken)))
+    let e = sym (k .keeps-rules .ensures) ∙ not-true (k .keeps-rules .result) (c .if2 .taken) in
+    sym (found-broken _ _ _ (k .before .if1 .left) e)
 
 address-in-requires : tie.Need-address-in-requires
 address-in-requires c κs = search needs
@@ -23,8 +24,8 @@ address-in-requires c κs = search needs
 returns-3 : tie.Need-returns-3
 returns-3 c =
     let k = c .before .before in
-    c .address-in .ensures
-    ∙ sym (found-in _ _ _ (k .before .if1 .left) (sym (k .keeps-rules .ensures) ∙ not-false (k .keeps-rules .result) (c .before .if2 .left)))
+    let e = sym (k .keeps-rules .ensures) ∙ not-false (k .keeps-rules .result) (c .before .if2 .left) in
+    c .address-in .ensures ∙ sym (found-in _ _ _ (k .before .if1 .left) e)
 
 pub found-address-spec : {M : Type 1} → statement M
 found-address-spec = tie.close (tie.spec returns keeps-rules-requires returns-2 address-in-requires returns-3)
