@@ -52,8 +52,13 @@ use Rattle.claim.proofs.Claim.keeps_rules.Met as claim-keeps-rules
 use Rattle.claim.proofs.Claim.holds_list.Met as claim-holds-list
 use Rattle.nodes.specs.Promises as nodes-promises
 use Rattle.nodes.proofs.Laws as Nodes
+use Rattle.nodes.proofs.empty.Met as nodes-empty
 use Rattle.nodes.proofs.hear.Met as nodes-hear
 use Rattle.nodes.proofs.look_up.Met as nodes-look-up
+use Rattle.nodes.proofs.find_address.Met as nodes-find-address
+use Rattle.nodes.proofs.Heard.refusal.Met as nodes-heard-refusal
+use Rattle.nodes.proofs.LookedUp.refusal.Met as nodes-looked-up-refusal
+use Rattle.nodes.proofs.FoundAddress.refusal.Met as nodes-found-address-refusal
 use Rattle.command.specs.Promises as command-promises
 use Rattle.command.proofs.Laws as Command
 use Rattle.command.proofs.Host.start.Met as command-start
@@ -395,6 +400,14 @@ every-call M =
         one-answer = λ κs a r s w v h k. (Claim.holds-list-only (a .0) r s h k, refl);
         only = Claim.holds-list-only;
       };
+      nodes-empty = record {
+        meets = nodes-empty.met;
+        asks-nothing = free;
+        Promise = λ κs a r e. nodes-promises.Empty r;
+        promises = λ 𝓤 H A mem run κs a ghost r. refl;
+        one-answer = λ κs a r s w v h k. (Nodes.empty-only r s h k, refl);
+        only = Nodes.empty-only;
+      };
       nodes-hear = record {
         meets = nodes-hear.met;
         asks-nothing = free;
@@ -412,6 +425,38 @@ every-call M =
         promises = λ 𝓤 H A mem run κs a ghost r. refl;
         one-answer = λ κs a r s w v h k. (Nodes.look-up-only (now (a .0)) (a .1 .0) r s h k, refl);
         only = Nodes.look-up-only;
+      };
+      nodes-find-address = record {
+        meets = nodes-find-address.met;
+        asks-nothing = free;
+        Promise = λ κs a r e. nodes-promises.FindAddress (now (a .0)) (a .1 .0) r;
+        promises = λ 𝓤 H A mem run κs a ghost r. refl;
+        one-answer = λ κs a r s w v h k. (Nodes.find-address-only (now (a .0)) (a .1 .0) r s h k, refl);
+        only = Nodes.find-address-only;
+      };
+      nodes-heard-refusal = record {
+        meets = nodes-heard-refusal.met;
+        asks-nothing = free;
+        Promise = λ κs a r e. nodes-promises.HeardRefusal (a .0) r;
+        promises = λ 𝓤 H A mem run κs a ghost r. refl;
+        one-answer = λ κs a r s w v h k. (Nodes.heard-refusal-only (a .0) r s h k, refl);
+        only = Nodes.heard-refusal-only;
+      };
+      nodes-looked-up-refusal = record {
+        meets = nodes-looked-up-refusal.met;
+        asks-nothing = free;
+        Promise = λ κs a r e. nodes-promises.LookedUpRefusal (a .0) r;
+        promises = λ 𝓤 H A mem run κs a ghost r. refl;
+        one-answer = λ κs a r s w v h k. (Nodes.looked-up-refusal-only (a .0) r s h k, refl);
+        only = Nodes.looked-up-refusal-only;
+      };
+      nodes-found-address-refusal = record {
+        meets = nodes-found-address-refusal.met;
+        asks-nothing = free;
+        Promise = λ κs a r e. nodes-promises.FoundAddressRefusal (a .0) r;
+        promises = λ 𝓤 H A mem run κs a ghost r. refl;
+        one-answer = λ κs a r s w v h k. (Nodes.found-address-refusal-only (a .0) r s h k, refl);
+        only = Nodes.found-address-refusal-only;
       };
       command-start = record {
         meets = command-start.met;

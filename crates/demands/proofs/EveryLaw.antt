@@ -20,6 +20,8 @@ use Rattle.message.proofs.Laws as Message
 use Rattle.catalogue.proofs.Laws as Catalogue
 use Rattle.claim.proofs.Laws as Claim
 use Rattle.claim.proofs.Machine as ClaimMachine
+use Rattle.nodes.proofs.Blank as NodesBlank
+use Rattle.nodes.proofs.Find as NodesFind
 use Rattle.nodes.proofs.Kept as NodesKept
 use Rattle.nodes.proofs.Laws as Nodes
 use Rattle.command.proofs.Laws as Command
@@ -271,8 +273,14 @@ nodes-laws =
     record {
       told-heard-same = Nodes.told-heard-same;
       told-looked-up-same = Nodes.told-looked-up-same;
+      told-found-address-same = Nodes.told-found-address-same;
+      empty-only = Nodes.empty-only;
       hear-only = Nodes.hear-only;
       look-up-only = Nodes.look-up-only;
+      find-address-only = Nodes.find-address-only;
+      heard-refusal-only = Nodes.heard-refusal-only;
+      looked-up-refusal-only = Nodes.looked-up-refusal-only;
+      found-address-refusal-only = Nodes.found-address-refusal-only;
       hear-refused-keeps = Nodes.hear-refused-keeps;
       hear-nothing-keeps = Nodes.hear-nothing-keeps;
       priority-ignored = Nodes.priority-ignored;
@@ -280,11 +288,18 @@ nodes-laws =
       past-unread = Nodes.past-unread;
       length-kept = Nodes.length-kept;
       rules-read = Nodes.rules-read;
+      empty-keeps-rules = NodesBlank.empty-keeps-rules;
+      empty-has-nobody = NodesBlank.empty-has-nobody;
+      empty-has-no-name = NodesBlank.empty-has-no-name;
       rules-kept = Nodes.rules-kept;
       name-once = NodesKept.name-once;
       taken-by-lower = NodesKept.taken-by-lower;
       taken-shown = Nodes.taken-shown;
       held-shown = Nodes.held-shown;
+      found-there = NodesFind.found-there;
+      found-nowhere = NodesFind.found-nowhere;
+      found-shown = NodesFind.found-shown;
+      taken-found = Nodes.taken-found;
       lowest-wins = Nodes.lowest-wins;
     }
 

@@ -60,8 +60,13 @@ use Rattle.claim.proofs.Claim.our_claim as claim-our-claim
 use Rattle.claim.proofs.Claim.keeps_rules as claim-keeps-rules
 use Rattle.claim.proofs.Claim.holds_list as claim-holds-list
 use Rattle.nodes.specs.Laws as Nodes
+use Rattle.nodes.proofs.empty as nodes-empty
 use Rattle.nodes.proofs.hear as nodes-hear
 use Rattle.nodes.proofs.look_up as nodes-look-up
+use Rattle.nodes.proofs.find_address as nodes-find-address
+use Rattle.nodes.proofs.Heard.refusal as nodes-heard-refusal
+use Rattle.nodes.proofs.LookedUp.refusal as nodes-looked-up-refusal
+use Rattle.nodes.proofs.FoundAddress.refusal as nodes-found-address-refusal
 use Rattle.command.specs.Laws as Command
 use Rattle.command.proofs.Host.start as command-start
 use Rattle.command.proofs.Host.route as command-route
@@ -205,8 +210,20 @@ module _ (M : Type 1) where
     pub claim-holds-list :
         Answers claim-holds-list.ended claim-holds-list.Symbol.routine claim-holds-list.spec Claim.HoldsListOnly
     -- Node table
+    pub nodes-empty : Answers nodes-empty.ended nodes-empty.Symbol.routine nodes-empty.spec Nodes.EmptyOnly
     pub nodes-hear : Answers nodes-hear.ended nodes-hear.Symbol.routine nodes-hear.spec Nodes.HearOnly
     pub nodes-look-up : Answers nodes-look-up.ended nodes-look-up.Symbol.routine nodes-look-up.spec Nodes.LookUpOnly
+    pub nodes-find-address :
+        Answers nodes-find-address.ended nodes-find-address.Symbol.routine nodes-find-address.spec Nodes.FindAddressOnly
+    pub nodes-heard-refusal :
+        Answers nodes-heard-refusal.ended nodes-heard-refusal.Symbol.routine nodes-heard-refusal.spec
+        Nodes.HeardRefusalOnly
+    pub nodes-looked-up-refusal :
+        Answers nodes-looked-up-refusal.ended nodes-looked-up-refusal.Symbol.routine nodes-looked-up-refusal.spec
+        Nodes.LookedUpRefusalOnly
+    pub nodes-found-address-refusal :
+        Answers nodes-found-address-refusal.ended nodes-found-address-refusal.Symbol.routine
+        nodes-found-address-refusal.spec Nodes.FoundAddressRefusalOnly
     -- Commands, requests, replies
     pub command-start :
         Answers command-start.ended command-start.Symbol.routine command-start.spec Command.StartOnly

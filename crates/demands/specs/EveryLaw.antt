@@ -248,8 +248,14 @@ pub record ClaimLaws : Type 0 where
 pub record NodesLaws : Type 0 where
   pub told-heard-same : Nodes.ToldHeardSame
   pub told-looked-up-same : Nodes.ToldLookedUpSame
+  pub told-found-address-same : Nodes.ToldFoundAddressSame
+  pub empty-only : Nodes.EmptyOnly
   pub hear-only : Nodes.HearOnly
   pub look-up-only : Nodes.LookUpOnly
+  pub find-address-only : Nodes.FindAddressOnly
+  pub heard-refusal-only : Nodes.HeardRefusalOnly
+  pub looked-up-refusal-only : Nodes.LookedUpRefusalOnly
+  pub found-address-refusal-only : Nodes.FoundAddressRefusalOnly
   pub hear-refused-keeps : Nodes.HearRefusedKeeps
   pub hear-nothing-keeps : Nodes.HearNothingKeeps
   pub priority-ignored : Nodes.PriorityIgnored
@@ -257,11 +263,18 @@ pub record NodesLaws : Type 0 where
   pub past-unread : Nodes.PastUnread
   pub length-kept : Nodes.LengthKept
   pub rules-read : Nodes.RulesRead
+  pub empty-keeps-rules : Nodes.EmptyKeepsRules
+  pub empty-has-nobody : Nodes.EmptyHasNobody
+  pub empty-has-no-name : Nodes.EmptyHasNoName
   pub rules-kept : Nodes.RulesKept
   pub name-once : Nodes.NameOnce
   pub taken-by-lower : Nodes.TakenByLower
   pub taken-shown : Nodes.TakenShown
   pub held-shown : Nodes.HeldShown
+  pub found-there : Nodes.FoundThere
+  pub found-nowhere : Nodes.FoundNowhere
+  pub found-shown : Nodes.FoundShown
+  pub taken-found : Nodes.TakenFound
   pub lowest-wins : (table : List Node) (id : ℕ) (bytes : List ℕ) → Nodes.LowestWins table id bytes
 
 pub record CommandLaws : Type 0 where

@@ -1,4 +1,5 @@
--- A call judged: what is asked of a table, by the first refusal that applies, and the answer, the turns and the claim that belong to it.
+-- A call judged: what is asked of a table, by the first refusal that applies, and the answer, the turns and the change
+-- that belong to it.
 -- Assumes nothing.
 use mathlib.Core.Path.{_≡_, sym, ap, _∙_}
 use mathlib.Core.List.{List}
@@ -8,13 +9,15 @@ use borrow.Author.Tests.{lt-ltb, le-ltb}
 use lib.ListN.{length, getD}
 use Rattle.frame.specs.Words.{Told, refused, gives}
 use Rattle.frame.specs.Frame.{checkedOf}
+use Rattle.frame.specs.Standard.{greatestAddress}
 use Rattle.frame.specs.declared.Parts.{Parts}
-use Rattle.nodes.specs.Table.{greatestAddress, addresses, absent, keepsRules}
-use Rattle.nodes.specs.Call.{Asked, nothing, claims, askedBy, askedOf, claimOutcome, answerOf, nobody, holderOf, lookedUpOf}
+use Rattle.nodes.specs.Table.{addresses, absent, keepsRules}
+use Rattle.nodes.specs.Call.{Asked, nothing, claims, askedBy, askedOf, claimOutcome, answerOf, nobody, holderOf, lookedUpOf, addressFrom, foundOf}
 use Rattle.nodes.specs.Promises.{toldHeard}
-use Rattle.nodes.specs.Inside.{turnsOf, claimOf, unaskedAs, JudgedAs}
+use Rattle.nodes.specs.Inside.{turnsOf, changeOf, unaskedAs, JudgedAs}
 use Rattle.nodes.specs.declared.Node.{Node}
 use Rattle.nodes.specs.declared.Claim.{Claim}
+use Rattle.nodes.specs.declared.Change.the-variants.{Claims}
 use Rattle.nodes.specs.declared.Judged.{Judged}
 use Rattle.nodes.specs.declared.Heard.{Heard}
 use Rattle.nodes.specs.declared.Heard.the-variants.{NothingToDo}
@@ -25,7 +28,7 @@ module _ (records : List Node) (told : Told Asked) (r : Judged) where
       record {
         answer = ap (λ (j : Judged). toldHeard (j .answer)) u ∙ e ∙ sym (ap (answerOf records) t);
         turns = ap (λ (j : Judged). j .turns) u ∙ sym (ap turnsOf t);
-        claim = ap (λ (j : Judged). j .claim) u ∙ sym (ap claimOf t);
+        change = ap (λ (j : Judged). j .change) u ∙ sym (ap changeOf t);
       }
 
   pub judged-nothing : told ≡ gives nothing → r ≡ unaskedAs NothingToDo → JudgedAs records told r
@@ -33,16 +36,16 @@ module _ (records : List Node) (told : Told Asked) (r : Judged) where
       record {
         answer = ap (λ (j : Judged). toldHeard (j .answer)) u ∙ sym (ap (answerOf records) t);
         turns = ap (λ (j : Judged). j .turns) u ∙ sym (ap turnsOf t);
-        claim = ap (λ (j : Judged). j .claim) u ∙ sym (ap claimOf t);
+        change = ap (λ (j : Judged). j .change) u ∙ sym (ap changeOf t);
       }
 
   pub judged-claim : (claim : Claim) → told ≡ gives (claims claim) → toldHeard (r .answer) ≡ gives (claimOutcome records claim)
-      → r .turns ≡ addresses → r .claim ≡ claim → JudgedAs records told r
+      → r .turns ≡ addresses → r .change ≡ Claims claim → JudgedAs records told r
   judged-claim claim t a n e =
       record {
         answer = a ∙ sym (ap (answerOf records) t);
         turns = n ∙ sym (ap turnsOf t);
-        claim = e ∙ sym (ap claimOf t);
+        change = e ∙ sym (ap changeOf t);
       }
 
 -- what is asked of a table, by the first refusal that applies
@@ -83,3 +86,18 @@ module _ (size : ℕ) (records : List Node) (address : ℕ) where
       → lookedUpOf size records address ≡ gives (holderOf (getD records address absent))
   unfolding lookedUpOf
   looked-at h k a = rw (le-ltb _ _ h, k, le-ltb _ _ a)
+
+-- what is found, likewise
+module _ (size : ℕ) (records : List Node) (name : ℕ) where
+  pub found-short : size < addresses → foundOf size records name ≡ refused 1
+  unfolding foundOf
+  found-short h = rw (lt-ltb _ _ h)
+
+  pub found-broken : addresses ≤ size → keepsRules records ≡ false → foundOf size records name ≡ refused 2
+  unfolding foundOf
+  found-broken h k = rw (le-ltb _ _ h, k)
+
+  pub found-in : addresses ≤ size → keepsRules records ≡ true
+      → foundOf size records name ≡ gives (addressFrom name 0 records)
+  unfolding foundOf
+  found-in h k = rw (le-ltb _ _ h, k)

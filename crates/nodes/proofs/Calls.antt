@@ -1,6 +1,6 @@
 -- The calls that lend the table on, each as one step of a walk, from the table's row in memory to the table's row.
 --     calls-records    any share of the row is lent, shared, for a lifetime that is made for the call, and comes back
---     calls-claimed    the whole row is lent, and comes back at what `claimed` leaves
+--     calls-changed    the whole row is lent, and comes back at what `changed` leaves
 -- The operands are read with two entries in the row's place.
 -- Assumes `Given`.
 use mathlib.Core.Path.{_≡_, refl}
@@ -35,29 +35,30 @@ use denote.Lend.{Held, lends-slice, slice-back, lends-shr-slice}
 use denote.Index.{row, whole-in, whole-out}
 use denote.Steps.{owned, nothing, heard, peeks}
 use denote.Struct.Laws as LL
+use denote.Enum.Laws as EL
 use denote.Triple.Call.{calls-at}
 use denote.Triple.Clauses.{ensured, lasts}
 use denote.Triple.Spec.{tripleOf}
 use denote.Triple.Statement.{Contract, Triple}
 use denote.Triple.Walked.{says}
 use Rattle.nodes.specs.declared.Node.{Node}
-use Rattle.nodes.specs.declared.Claim.{Claim}
+use Rattle.nodes.specs.declared.Change.{Change}
 use Rattle.nodes.specs.Table.{addresses}
 use Rattle.nodes.specs.Inside.{afterOf, eachFrom, recordsOf}
-use Rattle.nodes.proofs.Claim as K
-use Rattle.nodes.proofs.Claim.Laws as K′
-use Rattle.nodes.proofs.Record.{R, C, claim-vals, claim-val, AR}
+use Rattle.nodes.proofs.Change as K
+use Rattle.nodes.proofs.Change.Laws as K′
+use Rattle.nodes.proofs.Record.{R, C, change-vals, change-val, AR}
 use Rattle.nodes.proofs.records as records
 use Rattle.nodes.proofs.records.Symbol.{name as #nodes·records}
-use Rattle.nodes.proofs.claimed as clm
-use Rattle.nodes.proofs.claimed.Symbol.{name as #nodes·claimed}
+use Rattle.nodes.proofs.changed as chg
+use Rattle.nodes.proofs.changed.Symbol.{name as #nodes·changed}
 
 module _ {M : Type 1} (𝓤 : URA M) (H : Heap 𝓤) (A : Atoms 𝓤) (mem : Memory → SProp 𝓤) (run : Routine → Fun 𝓤) where
   abbrev pub Records : Contract 𝓤
   Records = tripleOf 𝓤 H A records.signature (records.spec 𝓤 H A mem run)
 
-  abbrev pub Claimed : Contract 𝓤
-  Claimed = tripleOf 𝓤 H A clm.signature (clm.spec 𝓤 H A mem run)
+  abbrev pub Changed : Contract 𝓤
+  Changed = tripleOf 𝓤 H A chg.signature (chg.spec 𝓤 H A mem run)
 
 module _ {M : Type 1} (𝓤 : URA M) (H : Heap 𝓤) (A : Atoms 𝓤) (W : Given 𝓤 H A) (mem : Memory → SProp 𝓤) (run : Routine → Fun 𝓤) (b o : ℕ) (ys : List Node) (room : Room R (length ys)) where
   abbrev ref : GName → RefT (List Node)
@@ -99,36 +100,36 @@ module _ {M : Type 1} (𝓤 : URA M) (H : Heap 𝓤) (A : Atoms 𝓤) (W : Given
         split ! $ move ! (1 ∷ []) $ peeks ! (AR addresses) (Is (AR addresses)) (shows 𝓤 H A (AR addresses)) r (w ∷ []) (λ is. drop ! $
         split ! $ lft-end ! tt $ move ! (0 ∷ 2 ∷ []) $ lent-back ! tt $ move ! (1 ∷ []) $ drop ! $ fsplit ! $ drop ! $ k w r e is))))))
 
-  module _ (n : ℕ) (claim : Claim) (n-fits : n < 2 ^ 64) (sound : Is C claim (claim-vals claim)) (enough : n ≤ length ys) where
+  module _ (n : ℕ) (change : Change) (n-fits : n < 2 ^ 64) (sound : Is C change (change-vals change)) (enough : n ≤ length ys) where
     abbrev left : List Node
-    left = eachFrom (afterOf claim) n 0 ys
+    left = eachFrom (afterOf change) n 0 ys
 
     abbrev Own : ℕ → GName → Fml
     Own ν δ = MutSlice (named 0) (ν ∷ []) R .own (ref δ) (s ∷ [])
 
-    abbrev x : GName → RefT (List Node) × (ℕ × (Claim × Unit {0}))
-    x δ = (ref δ, (n, (claim, tt)))
+    abbrev x : GName → RefT (List Node) × (ℕ × (Change × Unit {0}))
+    x δ = (ref δ, (n, (change, tt)))
 
-    abbrev to-claimed : ℕ → GName → Claimed 𝓤 H A mem run .Ghost
-    to-claimed ν δ = (((ν ∷ [], tt), (fullShare, tt), tt, x δ, (s ∷ [], (vint w64 n ∷ [], (claim-vals claim, tt)))), tt)
+    abbrev to-changed : ℕ → GName → Changed 𝓤 H A mem run .Ghost
+    to-changed ν δ = (((ν ∷ [], tt), (fullShare, tt), tt, x δ, (s ∷ [], (vint w64 n ∷ [], (change-vals change, tt)))), tt)
 
-    asks-claimed : (ν : ℕ) (δ : GName) → ent 𝓤 (sep 𝓤 (A .lft (ν ∷ []) fullShare) (sem 𝓤 H A (Own ν δ))) (Claimed 𝓤 H A mem run .pre (to-claimed ν δ))
-    asks-claimed ν δ =
+    asks-changed : (ν : ℕ) (δ : GName) → ent 𝓤 (sep 𝓤 (A .lft (ν ∷ []) fullShare) (sem 𝓤 H A (Own ν δ))) (Changed 𝓤 H A mem run .pre (to-changed ν δ))
+    asks-changed ν δ =
         qed W (‵ (flft (ν ∷ []) fullShare) ∷ ‵ (Own ν δ) ∷ []) ∵ says ! enough $ nothing ! $ move ! (1 ∷ 0 ∷ []) $ join ! $ frame ! $
-        nothing ! $ owned ! C (Is C) (LL.makes K.the-type K′.the-plain 𝓤 H A) claim _ sound $ fjoin ! $ owned ! usize (Is usize) (uint-makes 𝓤 H A W w64) n _ (refl, n-fits) $ fjoin ! $ move ! (1 ∷ 0 ∷ []) $ fjoin ! $ done !
+        nothing ! $ owned ! C (Is C) (EL.makes K.the-type K′.the-plain 𝓤 H A) change _ sound $ fjoin ! $ owned ! usize (Is usize) (uint-makes 𝓤 H A W w64) n _ (refl, n-fits) $ fjoin ! $ move ! (1 ∷ 0 ∷ []) $ fjoin ! $ done !
 
-    pub calls-claimed : {Cs : Calls 𝓤 H} {Λ : Loops 𝓤 H} {E : Env 𝓤 H} {Q : Post 𝓤 H} {d : Place} {xs : List Operand} {rest : Body} {Γ : List (Item 𝓤)}
-        → FmC 𝓤 H (W .laws) Cs → Triple 𝓤 (Cs #nodes·claimed) (Claimed 𝓤 H A mem run)
-        → ((ν : ℕ) (δ : GName) → Opds (Go {0}) W (raw (Claimed 𝓤 H A mem run .pre (to-claimed ν δ)) ∷ ‵ (flent (ν ∷ []) (Held R (length ys) b o δ)) ∷ Γ) E xs (s ∷ vint w64 n ∷ claim-val claim ∷ []))
+    pub calls-changed : {Cs : Calls 𝓤 H} {Λ : Loops 𝓤 H} {E : Env 𝓤 H} {Q : Post 𝓤 H} {d : Place} {xs : List Operand} {rest : Body} {Γ : List (Item 𝓤)}
+        → FmC 𝓤 H (W .laws) Cs → Triple 𝓤 (Cs #nodes·changed) (Changed 𝓤 H A mem run)
+        → ((ν : ℕ) (δ : GName) → Opds (Go {0}) W (raw (Changed 𝓤 H A mem run .pre (to-changed ν δ)) ∷ ‵ (flent (ν ∷ []) (Held R (length ys) b o δ)) ∷ Γ) E xs (s ∷ vint w64 n ∷ change-val change ∷ []))
         → ((w : Val) → Holds (hasTy tyUnit w) × WT w → Sq W (‵ (row R fullShare left b o) ∷ Γ) (lands Cs Λ E d w rest Q))
-        → Sq W (‵ (row R fullShare ys b o) ∷ Γ) (runs Cs Λ E (seq (call #nodes·claimed xs d) rest) Q)
-    calls-claimed fm known os k =
+        → Sq W (‵ (row R fullShare ys b o) ∷ Γ) (runs Cs Λ E (seq (call #nodes·changed xs d) rest) Q)
+    calls-changed fm known os k =
         use1 W (‵ (cells (laid R) ys b o)) (whole-in 𝓤 H A W R ys b o) $ lft-new ! tt (λ ν. move ! (1 ∷ []) $
         use1 W (later (some (λ (δ : GName). ‵ (Own ν δ) ⊛ ‵ (flent (ν ∷ []) (Held R (length ys) b o δ))))) (lends-slice 𝓤 H A W R (named 0) (ν ∷ []) ys b o room) $ await ! tt $ pick ! (λ δ. split ! $
-        move ! (2 ∷ 0 ∷ []) $ use2 W (raw (Claimed 𝓤 H A mem run .pre (to-claimed ν δ))) (asks-claimed ν δ) $
-        calls-at ! fm (Claimed 𝓤 H A mem run) known (to-claimed ν δ) (os ν δ) (λ w.
-        use1 W (later (some (λ (r : Unit {0}). ((‵ (flft (ν ∷ []) fullShare) ⊛ ‵ ftrue) ⊛ ‵ (unit .own r (w ∷ []))) ⊛ raw (ensured 𝓤 H A clm.ended (clm.clauses 𝓤 H A mem run) (ν ∷ [], tt) (x δ) tt r)))) (id⊢ 𝓤 _) $ await ! tt $ pick ! (λ r.
-        split ! $ move ! (1 ∷ []) $ use1 W (some (λ (zs : List Node × (Unit {0} × (Unit {0} × Unit {0}))). ‵ (lasts clm.ended (ν ∷ [], tt) (x δ) zs) ⊛ raw (fact 𝓤 (zs .0 ≡ left)))) (id⊢ 𝓤 _) $ pick ! (λ zs.
+        move ! (2 ∷ 0 ∷ []) $ use2 W (raw (Changed 𝓤 H A mem run .pre (to-changed ν δ))) (asks-changed ν δ) $
+        calls-at ! fm (Changed 𝓤 H A mem run) known (to-changed ν δ) (os ν δ) (λ w.
+        use1 W (later (some (λ (r : Unit {0}). ((‵ (flft (ν ∷ []) fullShare) ⊛ ‵ ftrue) ⊛ ‵ (unit .own r (w ∷ []))) ⊛ raw (ensured 𝓤 H A chg.ended (chg.clauses 𝓤 H A mem run) (ν ∷ [], tt) (x δ) tt r)))) (id⊢ 𝓤 _) $ await ! tt $ pick ! (λ r.
+        split ! $ move ! (1 ∷ []) $ use1 W (some (λ (zs : List Node × (Unit {0} × (Unit {0} × Unit {0}))). ‵ (lasts chg.ended (ν ∷ [], tt) (x δ) zs) ⊛ raw (fact 𝓤 (zs .0 ≡ left)))) (id⊢ 𝓤 _) $ pick ! (λ zs.
         split ! $ move ! (1 ∷ []) $ heard ! (zs .0 ≡ left) (λ e. fsplit ! $ fsplit ! $ move ! (1 ∷ []) $ feqL ! (λ long.
         -- [the last list; …; the token and the result; the lender's part; Γ]
         move ! (2 ∷ []) $ split ! $ move ! (1 ∷ []) $ peeks ! unit (Is unit) (shows 𝓤 H A unit) r (w ∷ []) (λ is. drop ! $

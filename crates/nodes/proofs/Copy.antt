@@ -1,4 +1,4 @@
--- The records of the addresses, read out of a table one by one into a blank one.
+-- The records of the addresses, read out of a table one by one into an empty one.
 -- Assumes nothing.
 use mathlib.Core.Path.{_≡_, refl, ap, _∙_}
 use mathlib.Core.Bool.{Bool, true, false}
@@ -6,11 +6,11 @@ use mathlib.Core.List.{List, [], _∷_, _++_, append-nil}
 use Prim.Native.Nat.{ℕ, zero, suc, _<_, _≤_}
 use native.Mathlib.Nat.{not-suc-le-zero, le-of-suc-le-suc}
 use native.Mathlib.Omega.{arith}
-use lib.ListN.{length, getD, set, take, drop, replicate, length-append, length-take, length-drop, drop-of-length-le}
+use lib.ListN.{length, getD, set, take, drop, length-append, length-take, length-drop, drop-of-length-le}
 use lib.Dec.{ltb}
 use borrow.Author.Tests.{ltb-false}
 use Rattle.frame.specs.Words.{if_then_else_}
-use Rattle.nodes.specs.Table.{addresses, absent}
+use Rattle.nodes.specs.Table.{addresses, absent, emptyTable}
 use Rattle.nodes.specs.Inside.{readableOf, recordsOf}
 use Rattle.nodes.specs.declared.Node.{Node}
 
@@ -43,6 +43,6 @@ copied-by : (ys out : List Node) → length out ≡ addresses → (b : Bool)
 copied-by ys out l true = refl
 copied-by ys out l false = copied-full addresses ys out l
 
-pub copied-all : (ys out : List Node) → out ≡ replicate addresses absent → length out ≡ addresses → copied (readableOf (length ys)) ys out ≡ recordsOf ys
+pub copied-all : (ys out : List Node) → out ≡ emptyTable → length out ≡ addresses → copied (readableOf (length ys)) ys out ≡ recordsOf ys
 unfolding readableOf
 copied-all ys out e l = copied-by ys out l (ltb (length ys) addresses) ∙ ap (λ (ns : List Node). if ltb (length ys) addresses then ns else take addresses ys) e

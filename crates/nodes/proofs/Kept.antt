@@ -10,7 +10,7 @@ use native.Mathlib.Omega.{arith}
 use lib.ListN.{length, getD, take, drop, length-take}
 use Rattle.frame.proofs.Words.{true-false}
 use Rattle.nodes.specs.Table.{addresses, absent, held, hasName, claimedOf, keepsRules}
-use Rattle.nodes.specs.Inside.{afterOf, eachFrom}
+use Rattle.nodes.specs.Inside.{claimedAt, eachFrom}
 use Rattle.nodes.specs.Laws.{Rules, NameOnce, TakenByLower}
 use Rattle.nodes.specs.declared.Node.{Node}
 use Rattle.nodes.specs.declared.Claim.{Claim}
@@ -21,14 +21,14 @@ use Rattle.nodes.proofs.Sound.{name-of, not-name-of, Became, took, was-
 -- ---- over any number of records
 
 module _ (claim : Claim) (k : ℕ) (ns : List Node) where
-  pub done-at : (a : ℕ) → a < k → a < length ns → getD (eachFrom (afterOf claim) k 0 ns) a absent ≡ afterOf claim a (getD ns a absent)
-  done-at a h l = each-inside (afterOf claim) k 0 ns absent a h l ∙ ap (λ (i : ℕ). afterOf claim i (getD ns a absent)) (zero-add a)
+  pub done-at : (a : ℕ) → a < k → a < length ns → getD (eachFrom (claimedAt claim) k 0 ns) a absent ≡ claimedAt claim a (getD ns a absent)
+  done-at a h l = each-inside (claimedAt claim) k 0 ns absent a h l ∙ ap (λ (i : ℕ). claimedAt claim i (getD ns a absent)) (zero-add a)
 
   module _ (short : length ns ≤ k) (rules : Rules ns) where
     abbrev out : ℕ → Node
-    out a = getD (eachFrom (afterOf claim) k 0 ns) a absent
+    out a = getD (eachFrom (claimedAt claim) k 0 ns) a absent
 
-    out-at : (a : ℕ) → a < length ns → out a ≡ afterOf claim a (getD ns a absent)
+    out-at : (a : ℕ) → a < length ns → out a ≡ claimedAt claim a (getD ns a absent)
     out-at a l = done-at a (omega arith) l
 
     zero-by : (a : ℕ) → a < length ns → Became claim a (getD ns a absent) → out a .present ≡ false → out a .name ≡ 0
@@ -58,38 +58,38 @@ module _ (claim : Claim) (k : ℕ) (ns : List Node) where
         rules .one-each a b l m (sym (ap (λ (n : Node). n .present) (x .0)) ∙ p) (sym (ap (λ (n : Node). n .present) (y .0)) ∙ q)
         (sym (ap (λ (n : Node). n .name) (x .0)) ∙ e ∙ ap (λ (n : Node). n .name) (y .0))
 
-    pub each-rules : Rules (eachFrom (afterOf claim) k 0 ns)
+    pub each-rules : Rules (eachFrom (claimedAt claim) k 0 ns)
     each-rules =
         record {
-          absent-zero = λ a l. let h : a < length ns = omega (arith, each-length (afterOf claim) k 0 ns) in zero-by a h (became claim a (getD ns a absent));
+          absent-zero = λ a l. let h : a < length ns = omega (arith, each-length (claimedAt claim) k 0 ns) in zero-by a h (became claim a (getD ns a absent));
           one-each = λ a b l m p q e.
-              let g : a < length ns = omega (arith, each-length (afterOf claim) k 0 ns) in
-              let h : b < length ns = omega (arith, each-length (afterOf claim) k 0 ns) in
+              let g : a < length ns = omega (arith, each-length (claimedAt claim) k 0 ns) in
+              let h : b < length ns = omega (arith, each-length (claimedAt claim) k 0 ns) in
               one-by a b g h p q e (present-by a g (became claim a (getD ns a absent)) p) (present-by b h (became claim b (getD ns b absent)) q);
         }
 
 take-short : (k : ℕ) (ns : List Node) → length (take k ns) ≤ k
 take-short k ns = simp length-take (omega arith)
 
-keeps : (claim : Claim) (k : ℕ) (ns : List Node) → keepsRules (take k ns) ≡ true → keepsRules (take k (eachFrom (afterOf claim) k 0 ns)) ≡ true
-keeps claim k ns e = rw (take-each (afterOf claim) k 0 ns) (of-rules _ (each-rules claim k (take k ns) (take-short k ns) (rules-of (take k ns) e)))
+keeps : (claim : Claim) (k : ℕ) (ns : List Node) → keepsRules (take k ns) ≡ true → keepsRules (take k (eachFrom (claimedAt claim) k 0 ns)) ≡ true
+keeps claim k ns e = rw (take-each (claimedAt claim) k 0 ns) (of-rules _ (each-rules claim k (take k ns) (take-short k ns) (rules-of (take k ns) e)))
 
 -- ---- over the addresses
 
 module _ (claim : Claim) (table : List Node) where
   pub claimed-length : length (claimedOf claim table) ≡ length table
-  claimed-length = rw (← pass-claims claim table) (each-length (afterOf claim) addresses 0 table)
+  claimed-length = rw (← pass-claims claim table) (each-length (claimedAt claim) addresses 0 table)
 
   pub claimed-past : drop addresses (claimedOf claim table) ≡ drop addresses table
-  claimed-past = rw (← pass-claims claim table) (drop-each (afterOf claim) addresses 0 table)
+  claimed-past = rw (← pass-claims claim table) (drop-each (claimedAt claim) addresses 0 table)
 
-  pub claimed-front : take addresses (claimedOf claim table) ≡ eachFrom (afterOf claim) addresses 0 (take addresses table)
-  claimed-front = rw (← pass-claims claim table) (take-each (afterOf claim) addresses 0 table)
+  pub claimed-front : take addresses (claimedOf claim table) ≡ eachFrom (claimedAt claim) addresses 0 (take addresses table)
+  claimed-front = rw (← pass-claims claim table) (take-each (claimedAt claim) addresses 0 table)
 
   pub claimed-keeps : keepsRules (take addresses table) ≡ true → keepsRules (take addresses (claimedOf claim table)) ≡ true
   claimed-keeps e = rw (← pass-claims claim table) (keeps claim addresses table e)
 
-  pub claimed-at : addresses ≤ length table → (a : ℕ) → a < addresses → getD (claimedOf claim table) a absent ≡ afterOf claim a (getD table a absent)
+  pub claimed-at : addresses ≤ length table → (a : ℕ) → a < addresses → getD (claimedOf claim table) a absent ≡ claimedAt claim a (getD table a absent)
   claimed-at enough a h = rw (← pass-claims claim table) (done-at claim addresses table a h (omega arith))
 
   once-by : addresses ≤ length table → (a : ℕ) → a < addresses → Became claim a (getD table a absent)

@@ -6,32 +6,37 @@ use mathlib.Core.List.{List}
 use Prim.Native.Nat.{ℕ, _≤_, _<_}
 use native.Mathlib.Omega.{arith}
 use lib.ListN.{length, getD, take, drop}
-use lib.Seq.{getD-take}
 use lib.Dec.{ltb}
 use borrow.Author.Tests.{ltb-true, ltb-false, lt-ltb, le-ltb, eqb-true, eqb-false, eq-eqb, ne-eqb}
 use Rattle.frame.specs.Words.{if_then_else_, given_then_, _=?_, Told, refused, gives}
 use Rattle.frame.specs.Bytes.{numberOf}
 use Rattle.frame.specs.Frame.{checkedOf}
+use Rattle.frame.specs.Standard.{greatestAddress, claimDgn}
 use Rattle.frame.specs.Laws.{toldButPriority}
 use Rattle.frame.specs.declared.Parts.{Parts}
 use Rattle.frame.specs.declared.BadFrame.the-variants as Bad
 use Rattle.frame.proofs.Words.{past-refusal, before-refusal, refused-gives, gives-same, by-test}
 use Rattle.frame.proofs.Laws.{badBack, bad-back, priority-ignored as frame-priority}
-use Rattle.nodes.specs.Table.{greatestAddress, addresses, absent, held, givesWay, clearedOf, claimedOf, keepsRules}
-use Rattle.nodes.specs.Call.{claimDgn, Asked, nothing, claims, askedBy, askedOf, tableOr, Outcome, nothingToDo, taken, heldByLower, silent, claimOutcome, answerOf, leftBy, Holder, nobody, holder, holderOf, lookedUpOf}
-use Rattle.nodes.specs.Promises.{toldHeard, toldLookedUp}
-use Rattle.nodes.specs.Inside.{afterOf, eachFrom}
-use Rattle.nodes.specs.Laws.{ToldHeardSame, ToldLookedUpSame, HearOnly, LookUpOnly, HearRefusedKeeps, HearNothingKeeps, LowestWins, PriorityIgnored, PastUntouched, PastUnread, LengthKept, RulesRead, RulesKept, TakenShown, HeldShown}
+use Rattle.nodes.specs.Table.{addresses, absent, held, givesWay, clearedOf, claimedOf, keepsRules}
+use Rattle.nodes.specs.Call.{Asked, nothing, claims, askedBy, askedOf, tableOr, Outcome, nothingToDo, taken, heldByLower, silent, claimOutcome, answerOf, leftBy, tableAfter, Holder, nobody, holder, holderOf, lookedUpOf, Whereabouts, nowhere, there, foundOf}
+use Rattle.nodes.specs.Promises.{toldHeard, toldLookedUp, toldFoundAddress}
+use Rattle.nodes.specs.Inside.{claimedAt, eachFrom}
+use Rattle.nodes.specs.Laws.{ToldHeardSame, ToldLookedUpSame, ToldFoundAddressSame, EmptyOnly, HearOnly, LookUpOnly, FindAddressOnly, HeardRefusalOnly, LookedUpRefusalOnly, FoundAddressRefusalOnly, HearRefusedKeeps, HearNothingKeeps, LowestWins, PriorityIgnored, PastUntouched, PastUnread, LengthKept, RulesRead, RulesKept, TakenShown, HeldShown, TakenFound}
 use Rattle.nodes.specs.declared.Node.{Node}
 use Rattle.nodes.specs.declared.Claim.{Claim}
 use Rattle.nodes.specs.declared.Heard.{Heard}
 use Rattle.nodes.specs.declared.Heard.the-variants as Heard
 use Rattle.nodes.specs.declared.LookedUp.{LookedUp}
 use Rattle.nodes.specs.declared.LookedUp.the-variants as LookedUp
+use Rattle.nodes.specs.declared.FoundAddress.{FoundAddress}
+use Rattle.nodes.specs.declared.FoundAddress.the-variants as FoundAddress
 use Rattle.nodes.proofs.Call.{asked-short, asked-broken, asked-bad, asked-sound, looked-at}
 use Rattle.nodes.proofs.Sound.{rules-of, of-rules, after-taken, after-held}
 use Rattle.nodes.proofs.Kept.{claimed-length, claimed-past, claimed-front, claimed-keeps, claimed-at}
 pub use Rattle.nodes.proofs.Kept.{name-once, taken-by-lower}
+pub use Rattle.nodes.proofs.Blank.{empty-keeps-rules, empty-has-nobody, empty-has-no-name}
+use Rattle.nodes.proofs.Find.{getD-front, holder-held}
+pub use Rattle.nodes.proofs.Find.{found-there, found-nowhere, found-shown}
 
 -- an answer is read back from what it tells
 
@@ -73,13 +78,43 @@ looked-back LookedUp.BrokenTable = refl
 pub told-looked-up-same : ToldLookedUpSame
 told-looked-up-same r s e = sym (looked-back r) ∙ ap lookedBack e ∙ looked-back s
 
+foundBack : Told Whereabouts → FoundAddress
+foundBack (gives nowhere) = FoundAddress.NoAddress
+foundBack (gives (there address)) = FoundAddress.At address
+foundBack (refused n) = if n =? 1 then FoundAddress.TableTooShort else FoundAddress.BrokenTable
+
+found-back : (r : FoundAddress) → foundBack (toldFoundAddress r) ≡ r
+unfolding foundBack
+found-back (FoundAddress.At address) = refl
+found-back FoundAddress.NoAddress = refl
+found-back FoundAddress.TableTooShort = refl
+found-back FoundAddress.BrokenTable = refl
+
+pub told-found-address-same : ToldFoundAddressSame
+told-found-address-same r s e = sym (found-back r) ∙ ap foundBack e ∙ found-back s
+
 -- no second answer
+
+pub empty-only : EmptyOnly
+empty-only r s p q = p .answer ∙ sym (q .answer)
 
 pub hear-only : HearOnly
 hear-only table id bytes r s after after′ p q = (told-heard-same r s (p .answer ∙ sym (q .answer)), p .table-after ∙ sym (q .table-after))
 
 pub look-up-only : LookUpOnly
 look-up-only table address r s p q = told-looked-up-same r s (p .answer ∙ sym (q .answer))
+
+pub find-address-only : FindAddressOnly
+find-address-only table name r s p q = told-found-address-same r s (p .answer ∙ sym (q .answer))
+
+pub heard-refusal-only : HeardRefusalOnly
+heard-refusal-only answer r s p q = p .number ∙ sym (q .number)
+
+pub looked-up-refusal-only : LookedUpRefusalOnly
+looked-up-refusal-only answer r s p q = p .number ∙ sym (q .number)
+
+pub found-address-refusal-only : FoundAddressRefusalOnly
+found-address-refusal-only answer r s p q = p .number ∙ sym (q .number)
 
 -- what a claim comes to
 
@@ -200,7 +235,7 @@ front-left : (told : Told Asked) (table other : List Node) → take addresses ta
     → take addresses (leftBy told table) ≡ take addresses (leftBy told other)
 front-left (refused n) table other e = e
 front-left (gives nothing) table other e = e
-front-left (gives (claims c)) table other e = claimed-front c table ∙ ap (eachFrom (afterOf c) addresses 0) e ∙ sym (claimed-front c other)
+front-left (gives (claims c)) table other e = claimed-front c table ∙ ap (eachFrom (claimedAt c) addresses 0) e ∙ sym (claimed-front c other)
 
 pub past-unread : PastUnread
 past-unread table other id bytes l e =
@@ -213,6 +248,11 @@ past-unread table other id bytes l e =
       looked-up = λ address r p.
           record {
             answer = p .answer ∙ ap (λ (n : ℕ). lookedUpOf n (take addresses table) address) l ∙ ap (λ (ns : List Node). lookedUpOf (length other) ns address) e;
+          };
+      found = λ name r p.
+          record {
+            answer = p .answer ∙ ap (λ (n : ℕ). foundOf n (take addresses table) name) l
+                ∙ ap (λ (ns : List Node). foundOf (length other) ns name) e;
           };
     }
 
@@ -257,21 +297,14 @@ claim-asked size records id bytes c e =
     let r₂ = before-refusal (keepsRules records) 2 _ (r₁ .1) in
     (ltb-false _ _ (r₁ .0), r₂ .0, name-by bytes (checkedOf id (length bytes)) c (r₂ .1))
 
-getD-front : (n a : ℕ) (ns : List Node) → a < n → getD (take n ns) a absent ≡ getD ns a absent
-getD-front n a ns h = rw getD-take
-
 -- what is looked up at the claim's source
 source-looked : (c : Claim) (table : List Node) → addresses ≤ length table → keepsRules (take addresses table) ≡ true → c .source ≤ greatestAddress
-    → lookedUpOf (length (claimedOf c table)) (take addresses (claimedOf c table)) (c .source) ≡ gives (holderOf (afterOf c (c .source) (getD table (c .source) absent)))
+    → lookedUpOf (length (claimedOf c table)) (take addresses (claimedOf c table)) (c .source) ≡ gives (holderOf (claimedAt c (c .source) (getD table (c .source) absent)))
 source-looked c table l k s =
     let h : c .source < addresses = omega arith in
     let l′ : addresses ≤ length (claimedOf c table) = omega (arith, claimed-length c table) in
     looked-at _ _ (c .source) l′ (claimed-keeps c table k) s
     ∙ ap (λ (n : Node). gives (holderOf n)) (getD-front addresses (c .source) (claimedOf c table) h ∙ claimed-at c table l (c .source) h)
-
-holder-held : (n : Node) → n .present ≡ true → holderOf n ≡ holder (n .name)
-unfolding holderOf
-holder-held n p = rw p
 
 module _ (table : List Node) (id : ℕ) (bytes : List ℕ) (a : ℕ) where
   abbrev shown : Told Asked → Told Holder
@@ -327,3 +360,7 @@ taken-shown table id bytes a e = taken-told table id bytes a (asked table id byt
 
 pub held-shown : HeldShown
 held-shown table id bytes a e = held-told table id bytes a (asked table id bytes) refl e
+
+pub taken-found : TakenFound
+taken-found table id bytes a e =
+    found-shown (tableAfter table id bytes) (numberOf bytes) a .1 (taken-shown table id bytes a e)

@@ -9,4 +9,6 @@ pub mod Pass
 pub mod Whole
 pub mod Sound
 pub mod Kept
+pub mod Blank
+pub mod Find
 pub mod Laws

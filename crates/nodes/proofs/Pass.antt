@@ -9,8 +9,9 @@ use lib.ListN.{getD, set, take, drop}
 use lib.Dec.{leb, eqb}
 use borrow.Author.Tests.{leb-true, leb-false, eq-eqb, ne-eqb}
 use Rattle.frame.specs.Words.{if_then_else_}
-use Rattle.nodes.specs.Table.{greatestAddress, addresses, absent, clearedOf, takenOf, clearedAll, claimedOf}
-use Rattle.nodes.specs.Inside.{afterOf, eachFrom}
+use Rattle.frame.specs.Standard.{greatestAddress}
+use Rattle.nodes.specs.Table.{addresses, absent, clearedOf, takenOf, clearedAll, claimedOf}
+use Rattle.nodes.specs.Inside.{claimedAt, eachFrom}
 use Rattle.nodes.specs.declared.Node.{Node}
 use Rattle.nodes.specs.declared.Claim.{Claim}
 
@@ -54,23 +55,23 @@ module _ (claim : Claim) (table : List Node) where
   h = takenOf (claim .name)
 
   -- over any number of records that has the source's among them, or is the addresses'
-  taken-one : (k : ℕ) → claim .source < k → eachFrom (afterOf claim) k 0 table
+  taken-one : (k : ℕ) → claim .source < k → eachFrom (claimedAt claim) k 0 table
       ≡ set (map f (take k table) ++ drop k table) (claim .source) (h (getD (map f (take k table) ++ drop k table) (claim .source) absent))
-  unfolding afterOf
+  unfolding claimedAt
   taken-one k l =
       let e : claim .source ≡ 0 + claim .source = omega arith in
       rw (← each-map f k 0 table) (each-one f h (claim .source) absent k 0 (claim .source) table e l)
 
-  taken-none : (k : ℕ) → k ≤ claim .source → eachFrom (afterOf claim) k 0 table ≡ map f (take k table) ++ drop k table
-  unfolding afterOf
+  taken-none : (k : ℕ) → k ≤ claim .source → eachFrom (claimedAt claim) k 0 table ≡ map f (take k table) ++ drop k table
+  unfolding claimedAt
   taken-none k l = each-none f h (claim .source) k 0 table (λ i a b e. omega arith) ∙ each-map f k 0 table
 
   by-source : (t : Bool) → leb (claim .source) greatestAddress ≡ t
-      → eachFrom (afterOf claim) addresses 0 table
+      → eachFrom (claimedAt claim) addresses 0 table
       ≡ (if t then set (clearedAll (claim .name) table) (claim .source) (h (getD (clearedAll (claim .name) table) (claim .source) absent)) else clearedAll (claim .name) table)
   by-source true e = let l : claim .source ≤ greatestAddress = leb-true _ _ e in taken-one addresses (omega arith)
   by-source false e = let l : greatestAddress < claim .source = leb-false _ _ e in taken-none addresses (omega arith)
 
-  pub pass-claims : eachFrom (afterOf claim) addresses 0 table ≡ claimedOf claim table
+  pub pass-claims : eachFrom (claimedAt claim) addresses 0 table ≡ claimedOf claim table
   unfolding claimedOf
   pass-claims = by-source (leb (claim .source) greatestAddress) refl

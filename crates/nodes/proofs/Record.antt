@@ -1,5 +1,5 @@
--- The rows and machine values that the walks by hand share: of a record, of the records of all addresses by value, of a claim.
--- A walk speaks of no field of a record; a record's size in bytes stands here alone.
+-- The rows and machine values that the walks by hand share: of a record, of the records of all addresses by value, of a change.
+-- A walk speaks of no field of a record and of no case of a change; a record's size in bytes stands here alone.
 -- Assumes nothing.
 use Prim.Native.Nat.{ℕ}
 use mathlib.Core.List.{List}
@@ -11,12 +11,13 @@ use denote.Memory.{pointee}
 use denote.Slice.{sliceTy}
 use denote.Steps.{only}
 use denote.Struct.Laws as LL
+use denote.Enum.Laws as EL
 use Rattle.nodes.specs.declared.Node.{Node}
-use Rattle.nodes.specs.declared.Claim.{Claim}
+use Rattle.nodes.specs.declared.Change.{Change}
 use Rattle.nodes.proofs.Node as T
 use Rattle.nodes.proofs.Node.Laws as T′
-use Rattle.nodes.proofs.Claim as K
-use Rattle.nodes.proofs.Claim.Laws as K′
+use Rattle.nodes.proofs.Change as K
+use Rattle.nodes.proofs.Change.Laws as K′
 
 -- a record, its machine values, and the bytes that it takes in memory
 abbrev pub R : RattleType
@@ -28,15 +29,15 @@ vals = LL.vals T.the-type T′.the-laws
 abbrev pub size : ℕ
 size = 16
 
--- a claim
+-- a change
 abbrev pub C : RattleType
 C = K.the-row
 
-abbrev pub claim-vals : Claim → List Val
-claim-vals = LL.vals K.the-type K′.the-laws
+abbrev pub change-vals : Change → List Val
+change-vals = EL.vals K.the-type K′.the-laws
 
-abbrev pub claim-val : Claim → Val
-claim-val c = only (claim-vals c)
+abbrev pub change-val : Change → Val
+change-val c = only (change-vals c)
 
 -- an array of records by value
 abbrev pub AR : ℕ → RattleType

@@ -12,7 +12,7 @@ use borrow.Author.Tests.{eqb-true, eqb-false, ltb-true, ltb-false, eq-eqb, ne-eq
 use Rattle.frame.specs.Words.{_and_, _or_}
 use Rattle.frame.proofs.Words.{both-true, true-false, by-test}
 use Rattle.nodes.specs.Table.{absent, held, hasName, givesWay, clearedOf, takenOf, soundRecord, heldIn, heldAgain, keepsRules}
-use Rattle.nodes.specs.Inside.{afterOf}
+use Rattle.nodes.specs.Inside.{claimedAt}
 use Rattle.nodes.specs.Laws.{Rules}
 use Rattle.nodes.specs.declared.Node.{Node}
 use Rattle.nodes.specs.declared.Claim.{Claim}
@@ -142,12 +142,12 @@ module _ (claim : Claim) (a : ℕ) (n : Node) where
   abbrev name : ℕ
   name = claim .name
 
-  elsewhere : (a ≡ claim .source → ⊥) → afterOf claim a n ≡ clearedOf name n
-  unfolding afterOf
+  elsewhere : (a ≡ claim .source → ⊥) → claimedAt claim a n ≡ clearedOf name n
+  unfolding claimedAt
   elsewhere e = rw (ne-eqb a (claim .source) e)
 
-  here : a ≡ claim .source → afterOf claim a n ≡ takenOf name (clearedOf name n)
-  unfolding afterOf
+  here : a ≡ claim .source → claimedAt claim a n ≡ takenOf name (clearedOf name n)
+  unfolding claimedAt
   here e = rw (eq-eqb a (claim .source) e)
 
   cleared-not : hasName name n ≡ false → clearedOf name n ≡ n
@@ -180,9 +180,9 @@ module _ (claim : Claim) (a : ℕ) (n : Node) where
 
   -- a record after a claim is the source's, taken; or cleared; or as it was, with another NAME than the claim's
   pub data Became : Type 0 where
-    took : a ≡ claim .source → (n .present ≡ true → (n .name ≡ name → ⊥) → name < n .name) → afterOf claim a n ≡ held name → Became
-    was-cleared : hasName name n ≡ true → afterOf claim a n ≡ absent → Became
-    stayed : hasName name n ≡ false → afterOf claim a n ≡ n → Became
+    took : a ≡ claim .source → (n .present ≡ true → (n .name ≡ name → ⊥) → name < n .name) → claimedAt claim a n ≡ held name → Became
+    was-cleared : hasName name n ≡ true → claimedAt claim a n ≡ absent → Became
+    stayed : hasName name n ≡ false → claimedAt claim a n ≡ n → Became
 
   pub became : Became
   became =
@@ -199,10 +199,10 @@ module _ (claim : Claim) (a : ℕ) (n : Node) where
       (λ h. stayed h (elsewhere s ∙ cleared-not h)))
 
   -- at its source a claim takes the record that gives way, and leaves any other with its lower NAME
-  pub after-taken : a ≡ claim .source → givesWay name (clearedOf name n) ≡ true → afterOf claim a n ≡ held name
+  pub after-taken : a ≡ claim .source → givesWay name (clearedOf name n) ≡ true → claimedAt claim a n ≡ held name
   after-taken s g = here s ∙ taken-gives (clearedOf name n) g
 
-  pub after-held : a ≡ claim .source → givesWay name (clearedOf name n) ≡ false → (afterOf claim a n ≡ n) × (n .present ≡ true) × (n .name < name)
+  pub after-held : a ≡ claim .source → givesWay name (clearedOf name n) ≡ false → (claimedAt claim a n ≡ n) × (n .present ≡ true) × (n .name < name)
   after-held s g =
       by-test (hasName name n) (λ h. true-false (sym absent-gives ∙ sym (ap (givesWay name) (cleared-has h)) ∙ g))
       (λ h. let g′ = sym (ap (givesWay name) (cleared-not h)) ∙ g in

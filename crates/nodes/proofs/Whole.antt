@@ -5,19 +5,20 @@ use mathlib.Core.Bool.{Bool, true, false}
 use mathlib.Core.List.{List}
 use Prim.Native.Nat.{ℕ, _≤_, _<_}
 use native.Mathlib.Omega.{arith}
-use lib.ListN.{length, take, replicate}
+use lib.ListN.{length, take}
 use lib.Dec.{ltb}
 use borrow.Author.Tests.{ltb-true, ltb-false}
 use Rattle.frame.specs.Words.{if_then_else_, Told, refused, gives}
 use Rattle.frame.proofs.Words.{past-refusal}
-use Rattle.nodes.specs.Table.{addresses, absent}
-use Rattle.nodes.specs.Call.{Asked, nothing, claims, askedOf, answerOf, leftBy, lookedUpOf}
-use Rattle.nodes.specs.Promises.{Hear, LookUp, toldLookedUp}
-use Rattle.nodes.specs.Inside.{afterOf, eachFrom, recordsOf, JudgedAs, turnsOf, claimOf}
+use Rattle.nodes.specs.Table.{addresses, emptyTable}
+use Rattle.nodes.specs.Call.{Asked, nothing, claims, askedOf, answerOf, leftBy, lookedUpOf, foundOf}
+use Rattle.nodes.specs.Promises.{Hear, LookUp, FindAddress, toldLookedUp, toldFoundAddress}
+use Rattle.nodes.specs.Inside.{afterOf, eachFrom, recordsOf, JudgedAs, turnsOf, changeOf}
 use Rattle.nodes.specs.declared.Node.{Node}
 use Rattle.nodes.specs.declared.Judged.{Judged}
 use Rattle.nodes.specs.declared.LookedUp.{LookedUp}
-use Rattle.nodes.proofs.Call.{asked-short, looked-short}
+use Rattle.nodes.specs.declared.FoundAddress.{FoundAddress}
+use Rattle.nodes.proofs.Call.{asked-short, looked-short, found-short}
 use Rattle.nodes.proofs.Pass.{pass-claims}
 
 -- nothing is asked but of a table that has all the addresses
@@ -31,8 +32,8 @@ turns-by size records id bytes (gives nothing) e = omega arith
 turns-by size records id bytes (gives (claims c)) e = given-long size records id bytes (claims c) e
 
 -- the pass leaves what the definition leaves
-pass-left : (told : Told Asked) (table : List Node) → eachFrom (afterOf (claimOf told)) (turnsOf told) 0 table ≡ leftBy told table
-unfolding eachFrom
+pass-left : (told : Told Asked) (table : List Node) → eachFrom (afterOf (changeOf told)) (turnsOf told) 0 table ≡ leftBy told table
+unfolding eachFrom afterOf
 pass-left (refused n) table = refl
 pass-left (gives nothing) table = refl
 pass-left (gives (claims c)) table = pass-claims c table
@@ -43,14 +44,14 @@ module _ (table : List Node) (id : ℕ) (bytes : List ℕ) where
   asked records = askedOf (length table) records id bytes
 
   same-by : (t : Bool) → ltb (length table) addresses ≡ t
-      → answerOf (if t then replicate addresses absent else take addresses table) (asked (if t then replicate addresses absent else take addresses table))
+      → answerOf (if t then emptyTable else take addresses table) (asked (if t then emptyTable else take addresses table))
       ≡ answerOf (take addresses table) (asked (take addresses table))
   same-by true e =
       let h : length table < addresses = ltb-true _ _ e in
-      ap (answerOf (replicate addresses absent)) (asked-short _ _ id bytes h) ∙ sym (ap (answerOf (take addresses table)) (asked-short _ _ id bytes h))
+      ap (answerOf emptyTable) (asked-short _ _ id bytes h) ∙ sym (ap (answerOf (take addresses table)) (asked-short _ _ id bytes h))
   same-by false e = refl
 
-  asked-by : (t : Bool) → ltb (length table) addresses ≡ t → asked (if t then replicate addresses absent else take addresses table) ≡ asked (take addresses table)
+  asked-by : (t : Bool) → ltb (length table) addresses ≡ t → asked (if t then emptyTable else take addresses table) ≡ asked (take addresses table)
   asked-by true e = let h : length table < addresses = ltb-true _ _ e in asked-short _ _ id bytes h ∙ sym (asked-short _ _ id bytes h)
   asked-by false e = refl
 
@@ -61,18 +62,31 @@ module _ (table : List Node) (id : ℕ) (bytes : List ℕ) where
     pub judged-inside : r .turns ≤ length table
     judged-inside = let h = turns-by (length table) (recordsOf table) id bytes (asked (recordsOf table)) refl in rw (j .turns) h
 
-    pub judged-heard : Hear table id bytes (r .answer) (eachFrom (afterOf (r .claim)) (r .turns) 0 table)
+    pub judged-heard : Hear table id bytes (r .answer) (eachFrom (afterOf (r .change)) (r .turns) 0 table)
     judged-heard =
         record {
           answer = j .answer ∙ same-by (ltb (length table) addresses) refl;
-          table-after = rw (j .turns, j .claim, asked-same) (pass-left (asked (take addresses table)) table);
+          table-after = rw (j .turns, j .change, asked-same) (pass-left (asked (take addresses table)) table);
         }
 
 module _ (table : List Node) (address : ℕ) where
   looked-by : (t : Bool) → ltb (length table) addresses ≡ t
-      → lookedUpOf (length table) (if t then replicate addresses absent else take addresses table) address ≡ lookedUpOf (length table) (take addresses table) address
+      → lookedUpOf (length table) (if t then emptyTable else take addresses table) address ≡ lookedUpOf (length table) (take addresses table) address
   looked-by true e = let h : length table < addresses = ltb-true _ _ e in looked-short _ _ address h ∙ sym (looked-short _ _ address h)
   looked-by false e = refl
 
   pub judged-looked : (r : LookedUp) → toldLookedUp r ≡ lookedUpOf (length table) (recordsOf table) address → LookUp table address r
   judged-looked r e = record { answer = e ∙ looked-by (ltb (length table) addresses) refl }
+
+module _ (table : List Node) (name : ℕ) where
+  found-by : (t : Bool) → ltb (length table) addresses ≡ t
+      → foundOf (length table) (if t then emptyTable else take addresses table) name
+      ≡ foundOf (length table) (take addresses table) name
+  found-by true e =
+      let h : length table < addresses = ltb-true _ _ e in
+      found-short _ _ name h ∙ sym (found-short _ _ name h)
+  found-by false e = refl
+
+  pub judged-found : (r : FoundAddress) → toldFoundAddress r ≡ foundOf (length table) (recordsOf table) name
+      → FindAddress table name r
+  judged-found r e = record { answer = e ∙ found-by (ltb (length table) addresses) refl }

@@ -1,26 +1,23 @@
--- What a call on the node table is told and what it leaves (document 01, "Refusal numbers" 1 to 6 and "Node table"). It goes by the
--- length of the table and the records of the addresses; no other record is read.
-use mathlib.Core.List.{List}
-use Prim.Native.Nat.{ℕ}
+-- What a call on the node table is told and what it leaves (document 01, "Refusal numbers" 1 to 6 and "Node table"). It
+-- goes by the length of the table and the records of the addresses; no other record is read.
+use mathlib.Core.List.{List, [], _∷_}
+use Prim.Native.Nat.{ℕ, suc}
 use lib.ListN.{length, getD, take}
 use Rattle.frame.specs.Words.{if_then_else_, given_then_, _<?_, _=?_, Told, refused, gives}
 use Rattle.frame.specs.Bytes.{numberOf}
 use Rattle.frame.specs.Frame.{checkedOf}
+use Rattle.frame.specs.Standard.{greatestAddress, claimDgn}
 use Rattle.frame.specs.declared.Parts.{Parts}
-use Rattle.nodes.specs.Table.{greatestAddress, addresses, absent, givesWay, clearedOf, claimedOf, keepsRules}
+use Rattle.nodes.specs.Table.{addresses, absent, hasName, givesWay, clearedOf, claimedOf, keepsRules}
 use Rattle.nodes.specs.declared.Node.{Node}
 use Rattle.nodes.specs.declared.Claim.{Claim}
-
--- the DGN of an address claim; EExxh to one destination is another
-abbrev pub claimDgn : ℕ
-claimDgn = 0xEEFF
 
 -- what a frame asks of the table
 pub data Asked : Type 0 where
   nothing : Asked
   claims : Claim → Asked
 
--- a claim has its NAME in the eight bytes, low byte first
+-- a claim has its NAME in the eight bytes, low byte first; EExxh to one destination is no claim to all
 unfoldable pub askedBy : Parts → List ℕ → Asked
 askedBy parts bytes =
     if parts .dgn =? claimDgn then claims (record { source = parts .source; name = numberOf bytes }) else
@@ -35,7 +32,9 @@ tableOr size records told =
 
 -- a table of `size` records, of which those of the addresses are `records`, hears a frame
 unfoldable pub askedOf : ℕ → List Node → ℕ → List ℕ → Told Asked
-askedOf size records id bytes = tableOr size records (given checkedOf id (length bytes) then (λ parts. gives (askedBy parts bytes)))
+askedOf size records id bytes =
+    tableOr size records
+    (given checkedOf id (length bytes) then (λ parts. gives (askedBy parts bytes)))
 
 -- what came of it
 pub data Outcome : Type 0 where
@@ -49,7 +48,8 @@ pub data Outcome : Type 0 where
 unfoldable pub claimOutcome : List Node → Claim → Outcome
 claimOutcome records claim =
     if greatestAddress <? claim .source then silent else
-    if givesWay (claim .name) (clearedOf (claim .name) (getD records (claim .source) absent)) then taken (claim .source) else
+    if givesWay (claim .name) (clearedOf (claim .name) (getD records (claim .source) absent)) then
+    taken (claim .source) else
     heldByLower (claim .source)
 
 abbrev pub outcomeOf : List Node → Asked → Outcome
@@ -84,3 +84,16 @@ unfoldable pub lookedUpOf : ℕ → List Node → ℕ → Told Holder
 lookedUpOf size records address =
     tableOr size records
     (if greatestAddress <? address then gives nobody else gives (holderOf (getD records address absent)))
+
+-- find_address: where a NAME is
+pub data Whereabouts : Type 0 where
+  nowhere : Whereabouts
+  there : ℕ → Whereabouts
+
+-- the address of the first record with the NAME, of records the first of which has the address a
+unfoldable pub addressFrom : ℕ → ℕ → List Node → Whereabouts
+addressFrom name a [] = nowhere
+addressFrom name a (n ∷ ns) = if hasName name n then there a else addressFrom name (suc a) ns
+
+unfoldable pub foundOf : ℕ → List Node → ℕ → Told Whereabouts
+foundOf size records name = tableOr size records (gives (addressFrom name 0 records))

@@ -1,18 +1,25 @@
--- What each public call of this crate promises: one proposition over its answer and the whole table at exit. The answers are read in
--- document 01's terms.
+-- What each public call of this crate promises: one proposition over its answer and the whole table at exit. The answers
+-- are read in document 01's terms.
 use mathlib.Core.Path.{_≡_}
 use mathlib.Core.List.{List}
 use Prim.Native.Nat.{ℕ}
 use lib.ListN.{length, take}
-use Rattle.frame.specs.Words.{Told, refused, gives}
+use Rattle.frame.specs.Words.{Told, refused, gives, numberIn}
 use Rattle.frame.specs.Promises.{refusalOf}
-use Rattle.nodes.specs.Table.{addresses}
-use Rattle.nodes.specs.Call.{Outcome, nothingToDo, taken, heldByLower, silent, Holder, nobody, holder, heardOf, tableAfter, lookedUpOf}
+use Rattle.nodes.specs.Table.{addresses, emptyTable}
+use Rattle.nodes.specs.Call.{Outcome, nothingToDo, taken, heldByLower, silent, Holder, nobody, holder, heardOf, tableAfter, lookedUpOf, Whereabouts, nowhere, there, foundOf}
 use Rattle.nodes.specs.declared.Node.{Node}
 use Rattle.nodes.specs.declared.Heard.{Heard}
 use Rattle.nodes.specs.declared.Heard.the-variants as Heard
 use Rattle.nodes.specs.declared.LookedUp.{LookedUp}
 use Rattle.nodes.specs.declared.LookedUp.the-variants as LookedUp
+use Rattle.nodes.specs.declared.FoundAddress.{FoundAddress}
+use Rattle.nodes.specs.declared.FoundAddress.the-variants as FoundAddress
+
+-- empty
+
+pub record Empty (r : List Node) : Type 0 where
+  pub answer : r ≡ emptyTable
 
 -- hear
 
@@ -29,6 +36,9 @@ pub record Hear (table : List Node) (id : ℕ) (bytes : List ℕ) (r : Heard) (a
   pub answer : toldHeard r ≡ heardOf table id bytes
   pub table-after : after ≡ tableAfter table id bytes
 
+pub record HeardRefusal (answer : Heard) (r : ℕ) : Type 0 where
+  pub number : r ≡ numberIn (toldHeard answer)
+
 -- look_up; the table is only read
 
 abbrev pub toldLookedUp : LookedUp → Told Holder
@@ -39,3 +49,20 @@ toldLookedUp LookedUp.BrokenTable = refused 2
 
 pub record LookUp (table : List Node) (address : ℕ) (r : LookedUp) : Type 0 where
   pub answer : toldLookedUp r ≡ lookedUpOf (length table) (take addresses table) address
+
+pub record LookedUpRefusal (answer : LookedUp) (r : ℕ) : Type 0 where
+  pub number : r ≡ numberIn (toldLookedUp answer)
+
+-- find_address; the table is only read
+
+abbrev pub toldFoundAddress : FoundAddress → Told Whereabouts
+toldFoundAddress (FoundAddress.At address) = gives (there address)
+toldFoundAddress FoundAddress.NoAddress = gives nowhere
+toldFoundAddress FoundAddress.TableTooShort = refused 1
+toldFoundAddress FoundAddress.BrokenTable = refused 2
+
+pub record FindAddress (table : List Node) (name : ℕ) (r : FoundAddress) : Type 0 where
+  pub answer : toldFoundAddress r ≡ foundOf (length table) (take addresses table) name
+
+pub record FoundAddressRefusal (answer : FoundAddress) (r : ℕ) : Type 0 where
+  pub number : r ≡ numberIn (toldFoundAddress answer)

@@ -1,22 +1,25 @@
--- The node table (document 01, "Node table"): record a stands for address a, and says whether a node holds it and with which NAME.
+-- The node table (document 01, "Node table"): record a stands for address a, and says whether a node holds it and with
+-- which NAME.
 use mathlib.Core.Bool.{Bool, true, false, not}
 use mathlib.Core.List.{List, [], _∷_, _++_, map}
 use Prim.Native.Nat.{ℕ}
-use lib.ListN.{getD, set, take, drop}
+use lib.ListN.{getD, set, take, drop, replicate}
 use Rattle.frame.specs.Words.{if_then_else_, _<?_, _≤?_, _=?_, _and_, _or_}
+use Rattle.frame.specs.Standard.{greatestAddress}
 use Rattle.nodes.specs.declared.Node.{Node}
 use Rattle.nodes.specs.declared.Claim.{Claim}
 
 -- the addresses are 0 to 253, and each has a record
-abbrev pub greatestAddress : ℕ
-greatestAddress = 253
-
 abbrev pub addresses : ℕ
 addresses = 254
 
 -- a cleared record is absent with NAME 0
 abbrev pub absent : Node
 absent = record { present = false; name = 0 }
+
+-- a table to start from, in which nobody has an address
+abbrev pub emptyTable : List Node
+emptyTable = replicate addresses absent
 
 abbrev pub held : ℕ → Node
 held name = record { present = true; name = name }

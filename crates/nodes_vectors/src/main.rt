@@ -1,18 +1,21 @@
-// Runs a bus on which nodes join, move, lose and fall silent, over tables of 254 and of 300 records, and over damaged tables and
-// frames; held to `stdout`.
-use frame::BadFrame;
+// Runs a bus on which nodes join, move, lose and fall silent, over tables of 254 and of 300 records, and over damaged
+// tables and frames; nodes are looked up by their address and found by their NAME; held to `stdout`.
 use libc::STDOUT_FILENO;
+use nodes::FoundAddress;
 use nodes::Heard;
 use nodes::LookedUp;
 use nodes::Node;
+use nodes::RECORDS;
 ghost use mathlib.Core.Path.{_≡_};
 ghost use Prim.Native.Nat.{_≤_};
 ghost use lib.ListN.{take};
-ghost use Rattle.nodes.specs.Promises.{Hear, LookUp};
+ghost use Rattle.nodes.specs.Promises.{Hear, LookUp, FindAddress};
 
 fn main() {
+    io::write_all(STDOUT_FILENO, b"an empty table\n");
+    nobody();
     io::write_all(STDOUT_FILENO, b"a table of 254 records\n");
-    bus(blank(), 254);
+    bus(start(), RECORDS);
     io::write_all(
         STDOUT_FILENO,
         b"a table of 300 records, of which those past 253 are not read\n",
@@ -25,6 +28,14 @@ fn main() {
     others();
     io::write_all(STDOUT_FILENO, b"damaged tables\n");
     damaged();
+}
+
+// Nobody has an address, and no NAME has one, also where what stands behind the table has.
+fn nobody() {
+    show(start(), RECORDS, 0);
+    show(start(), 300, 253);
+    find(start(), RECORDS, 0);
+    find(start(), 300, 500);
 }
 
 // Nodes join, move, lose and fall silent.
@@ -46,6 +57,9 @@ fn join(table: [Node; 300], size: usize) -> [Node; 300]
     let lower = claim(again, size, 0x54, 100);
     let higher = claim(lower, size, 0x54, 900);
     show(higher, size, 0x54);
+    find(higher, size, 100);
+    find(higher, size, 500);
+    find(higher, size, 300);
     higher
 }
 
@@ -57,6 +71,8 @@ fn leave(table: [Node; 300], size: usize) -> [Node; 300]
     show(moved, size, 0x55);
     show(moved, size, 0x9C);
     show(moved, size, 0x9D);
+    find(moved, size, 900);
+    find(moved, size, 300);
     // a node that claims an address of a lower NAME has left its old one
     let lost = claim(moved, size, 0x54, 300);
     show(lost, size, 0x54);
@@ -64,6 +80,7 @@ fn leave(table: [Node; 300], size: usize) -> [Node; 300]
     // from 254 a node says that it has no address
     let silent = claim(lost, size, 254, 900);
     show(silent, size, 0x55);
+    find(silent, size, 900);
     silent
 }
 
@@ -71,13 +88,17 @@ fn leave(table: [Node; 300], size: usize) -> [Node; 300]
 fn ends(table: [Node; 300], size: usize) -> [Node; 300]
     requires { ⌜ size ≤ 300 ⌝ }
 {
+    find(table, size, 0);
     let zero = claim(table, size, 0, 0);
     show(zero, size, 0);
+    find(zero, size, 0);
     let moved = claim(zero, size, 1, 0);
     show(moved, size, 0);
     show(moved, size, 1);
+    find(moved, size, 0);
     let top = claim(moved, size, 253, 0xFFFFFFFFFFFFFFFF);
     show(top, size, 253);
+    find(top, size, 0xFFFFFFFFFFFFFFFF);
     show(top, size, 254);
     show(top, size, 255);
     top
@@ -85,7 +106,7 @@ fn ends(table: [Node; 300], size: usize) -> [Node; 300]
 
 // What stands past record 253 would break the rules, and a claim has the NAME of one of these records.
 fn past() {
-    let mut table = blank();
+    let mut table = start();
     table[254] = node(true, 500);
     table[255] = node(true, 500);
     table[299] = node(false, 7);
@@ -96,56 +117,63 @@ fn past() {
 }
 
 fn others() {
-    let table = claim(blank(), 254, 0x54, 500);
+    let table = claim(start(), RECORDS, 0x54, 500);
     let heard = other(table);
     let left = refused(heard);
-    show(left, 254, 0x54);
+    show(left, RECORDS, 0x54);
 }
 
 fn other(table: [Node; 300]) -> [Node; 300] {
     let bytes = frame::bytes_of(100);
     // priority is ignored
-    let first = heard(table, 254, 0x00EEFF54, &bytes);
+    let first = heard(table, RECORDS, 0x00EEFF54, &bytes);
     // EE9Ch to one destination, 1EEFFh, and a request
-    let second = heard(first, 254, 0x18EE9C54, &bytes);
-    let third = heard(second, 254, 0x19EEFF54, &bytes);
-    heard(third, 254, 0x18EAFF54, &bytes)
+    let second = heard(first, RECORDS, 0x18EE9C54, &bytes);
+    let third = heard(second, RECORDS, 0x19EEFF54, &bytes);
+    heard(third, RECORDS, 0x18EAFF54, &bytes)
 }
 
 // 3, 4, 5, 6
 fn refused(table: [Node; 300]) -> [Node; 300] {
     let bytes = [0u8; 8];
-    let first = heard(table, 254, 0x38EEFF54, &bytes);
-    let second = heard(first, 254, 0x18EEFF54, &bytes[..7]);
-    let third = heard(second, 254, 0x1AEEFF54, &bytes);
-    let fourth = heard(third, 254, 0x18EEFFFF, &bytes);
-    heard(fourth, 254, 0x19FECAFE, &bytes)
+    let first = heard(table, RECORDS, 0x38EEFF54, &bytes);
+    let second = heard(first, RECORDS, 0x18EEFF54, &bytes[..7]);
+    let third = heard(second, RECORDS, 0x1AEEFF54, &bytes);
+    let fourth = heard(third, RECORDS, 0x18EEFFFF, &bytes);
+    heard(fourth, RECORDS, 0x19FECAFE, &bytes)
 }
 
 fn damaged() {
     // 1, also where 2 or 3 apply
-    let short = claim(claim(blank(), 253, 0x54, 500), 0, 0x54, 500);
+    let short = claim(claim(start(), 253, 0x54, 500), 0, 0x54, 500);
     show(short, 253, 0x54);
-    let mut twice = blank();
+    find(short, 253, 500);
+    find(short, 0, 500);
+    let mut twice = start();
     twice[3] = node(true, 500);
     twice[253] = node(true, 500);
     let bytes = frame::bytes_of(500);
     let unread = heard(twice, 253, 0x38EEFF54, &bytes);
     // 2, also where 3 applies; and the table stays as it is
-    let kept = heard(unread, 254, 0x38EEFF54, &bytes);
-    let still = claim(kept, 254, 0x54, 500);
-    show(still, 254, 3);
+    let kept = heard(unread, RECORDS, 0x38EEFF54, &bytes);
+    let still = claim(kept, RECORDS, 0x54, 500);
+    show(still, RECORDS, 3);
+    find(still, RECORDS, 500);
+    find(still, RECORDS, 7);
     record(still[3]);
     record(still[253]);
-    let mut named = blank();
+    let mut named = start();
     named[3] = node(false, 1);
-    let same = claim(named, 254, 0x54, 500);
+    let same = claim(named, RECORDS, 0x54, 500);
     record(same[3]);
+    // an absent record with a NAME is not found, but refused
+    find(same, RECORDS, 1);
     // two present records with NAME 0
-    let mut zeros = blank();
+    let mut zeros = start();
     zeros[3] = node(true, 0);
     zeros[4] = node(true, 0);
-    show(zeros, 254, 3);
+    show(zeros, RECORDS, 3);
+    find(zeros, RECORDS, 0);
 }
 
 // A table after a frame, and what was answered.
@@ -179,11 +207,25 @@ fn look_up(table: [Node; 300], size: usize, address: u8) -> LookedUp
     nodes::look_up(&lent[..size], address)
 }
 
-fn blank() -> [Node; 300] {
-    [Node {
-        present: false,
-        name: 0,
-    }; 300]
+// The address of a NAME in the first `size` records of a table.
+fn find_address(table: [Node; 300], size: usize, name: u64) -> FoundAddress
+    requires { ⌜ size ≤ 300 ⌝ }
+    ensures { λ r. ⌜ FindAddress (take size table) name r ⌝ }
+{
+    let lent = table;
+    nodes::find_address(&lent[..size], name)
+}
+
+// A table to start from, with records behind it that would break the rules.
+fn start() -> [Node; 300] {
+    let first = nodes::empty();
+    let mut table = [node(true, 500); 300];
+    let mut i: usize = 0;
+    while i < RECORDS {
+        table[i] = first[i];
+        i += 1;
+    }
+    table
 }
 
 fn node(present: bool, name: u64) -> Node {
@@ -220,14 +262,7 @@ fn told(answer: Heard) {
         Heard::HeldByLower(address) => at(b" held-by-lower=", address),
         Heard::Silent => line(b" silent"),
         Heard::NothingToDo => line(b" nothing to do"),
-        Heard::TableTooShort => refusal(1),
-        Heard::BrokenTable => refusal(2),
-        Heard::BadFrame(why) => match why {
-            BadFrame::IdentifierTooLarge => refusal(3),
-            BadFrame::NotEightBytes => refusal(4),
-            BadFrame::ReservedBitSet => refusal(5),
-            BadFrame::SourceNotAllowed => refusal(6),
-        },
+        Heard::TableTooShort | Heard::BrokenTable | Heard::BadFrame(_) => refusal(answer.refusal()),
     }
 }
 
@@ -236,11 +271,24 @@ fn show(table: [Node; 300], size: usize, address: u8)
 {
     io::write_all(STDOUT_FILENO, b"  address=");
     io::print_hex(STDOUT_FILENO, address as u64, 2);
-    match look_up(table, size, address) {
+    let answer = look_up(table, size, address);
+    match answer {
         LookedUp::Present(name) => named(b" name=", name),
         LookedUp::Absent => line(b" absent"),
-        LookedUp::TableTooShort => refusal(1),
-        LookedUp::BrokenTable => refusal(2),
+        LookedUp::TableTooShort | LookedUp::BrokenTable => refusal(answer.refusal()),
+    }
+}
+
+fn find(table: [Node; 300], size: usize, name: u64)
+    requires { ⌜ size ≤ 300 ⌝ }
+{
+    io::write_all(STDOUT_FILENO, b"  name=");
+    io::print_decimal(STDOUT_FILENO, name);
+    let answer = find_address(table, size, name);
+    match answer {
+        FoundAddress::At(address) => at(b" address=", address),
+        FoundAddress::NoAddress => line(b" no address"),
+        FoundAddress::TableTooShort | FoundAddress::BrokenTable => refusal(answer.refusal()),
     }
 }
 

@@ -1,4 +1,4 @@
--- `nodes::hear` meets its contract: a walk of its MIR, by hand. The borrow of the table is opened once: the row is lent on, shared, to `records`, then whole to `claimed`, and the borrow is closed at what that leaves.
+-- `nodes::hear` meets its contract: a walk of its MIR, by hand. The borrow of the table is opened once: the row is lent on, shared, to `records`, then whole to `changed`, and the borrow is closed at what that leaves.
 -- What `bytes` owns is had twice: one goes to `judge`, one is kept for the exit.
 -- Assumes nothing.
 use mathlib.Core.Path.{_≡_, refl, sym, ap, subst}
@@ -51,7 +51,7 @@ use Rattle.nodes.specs.Call.{askedOf}
 use Rattle.nodes.specs.Promises.{Hear}
 use Rattle.nodes.specs.Inside.{afterOf, eachFrom, recordsOf, JudgedAs}
 use Rattle.nodes.proofs.Array.{arrayTy, array-told, array-made, array-law}
-use Rattle.nodes.proofs.Calls.{Records, Claimed, calls-records, calls-claimed}
+use Rattle.nodes.proofs.Calls.{Records, Changed, calls-records, calls-changed}
 use Rattle.nodes.proofs.Each.{each-length}
 use Rattle.nodes.proofs.Whole.{judged-inside, judged-heard}
 use Rattle.nodes.proofs.Heard as E
@@ -66,9 +66,9 @@ use Rattle.nodes.proofs.flat.judge as judge
 use Rattle.nodes.proofs.flat.judge.Symbol as judge-def
 use Rattle.nodes.proofs.flat.judge.Symbol.{name as #nodes·judge}
 use Rattle.nodes.proofs.flat.judge.Met as judge-thm
-use Rattle.nodes.proofs.claimed.Symbol as claimed-def
-use Rattle.nodes.proofs.claimed.Symbol.{name as #nodes·claimed}
-use Rattle.nodes.proofs.claimed.Met as claimed-thm
+use Rattle.nodes.proofs.changed.Symbol as changed-def
+use Rattle.nodes.proofs.changed.Symbol.{name as #nodes·changed}
+use Rattle.nodes.proofs.changed.Met as changed-thm
 use Rattle.nodes.proofs.hear.Key.{name as #nodes·hear}
 use Rattle.nodes.proofs.hear as hear
 use Rattle.nodes.proofs.hear.Statement as stated
@@ -81,7 +81,7 @@ abbrev stayed : Stays (hear.ended .signature .params) (hear.ended .kept)
 stayed = (stay-slice (0 ∷ []) tt (plain (λ _. R)), (stay-dropped (plain (λ _. u32)) yes, (stay-none-slice (1 ∷ []) tt (plain (λ _. u8)) yes, tt)))
 
 module _ {M : Type 1} (𝓤 : URA M) (H : Heap 𝓤) (A : Atoms 𝓤) (mem : Memory → SProp 𝓤) (run : Routine → Fun 𝓤) where
-  -- the contract that the proof cites, beside `Records` and `Claimed`
+  -- the contract that the proof cites, beside `Records` and `Changed`
   abbrev Judge : Contract 𝓤
   Judge = tripleOf 𝓤 H A judge.signature (judge.spec 𝓤 H A mem run)
 
@@ -145,7 +145,7 @@ module _ {M : Type 1} (𝓤 : URA M) (H : Heap 𝓤) (A : Atoms 𝓤) (W : Given
   says-judge : (ns : List Node) (r : Judged) → ent 𝓤 (ensured 𝓤 H A judge.ended (judge.clauses 𝓤 H A mem run) (κ′, tt) (y ns) tt r) (fact 𝓤 (Judges ns r))
   says-judge ns r = exE 𝓤 _ (λ ws. snd∗ 𝓤 (sem 𝓤 H A (lasts judge.ended (κ′, tt) (y ns) ws)) (fact 𝓤 (Judges ns r)))
 
-  module _ (C : Calls 𝓤 H) (Λ : Loops 𝓤 H) (fm : FmC 𝓤 H (W .laws) C) (known-records : Triple 𝓤 (C #nodes·records) (Records 𝓤 H A mem run)) (known-judge : Triple 𝓤 (C #nodes·judge) (Judge 𝓤 H A mem run)) (known-claimed : Triple 𝓤 (C #nodes·claimed) (Claimed 𝓤 H A mem run)) where
+  module _ (C : Calls 𝓤 H) (Λ : Loops 𝓤 H) (fm : FmC 𝓤 H (W .laws) C) (known-records : Triple 𝓤 (C #nodes·records) (Records 𝓤 H A mem run)) (known-judge : Triple 𝓤 (C #nodes·judge) (Judge 𝓤 H A mem run)) (known-changed : Triple 𝓤 (C #nodes·changed) (Changed 𝓤 H A mem run)) where
     walk : ent 𝓤 (onEntry 𝓤 H A hear.signature (κ, (κ′, tt)) (q, (q′, tt)) x at) (WpFn 𝓤 H C Λ code.function (s ∷ vint w32 id ∷ s′ ∷ []) Post)
     walk =
         qed W ((‵ (flft κ q) ⊛ (‵ (flft κ′ q′) ⊛ ‵ ftrue)) ∷ ‵ (owns (MutSlice (named 0) κ R ∷ u32 ∷ ShrSlice (named 1) κ′ u8 ∷ []) x at) ∷ []) ∵ enter ! C Λ code.function (s ∷ vint w32 id ∷ s′ ∷ []) _ $
@@ -178,19 +178,19 @@ module _ {M : Type 1} (𝓤 : URA M) (H : Heap 𝓤) (A : Atoms 𝓤) (W : Given
         assigns ! (addr ! (from ! (fld ! refl (hop ! (look-in ! 26 (sub ! 0 refl (whole !))) (stop !))))) (from ! (stop !)) (init ! 8 refl (tt, tt)) $
         assigns ! (agg ! (and-then ! (load ! (from ! (stop !)) (look ! 8 refl)) (and-then ! (load ! (from ! (fld ! refl (stop !))) (look-in ! 26 (sub ! 1 refl (whole !)))) (no-more !)))) (from ! (stop !)) (init ! 6 refl (tt, (tt, (record { fits = room .0 }, tt)))) $
         move ! (2 ∷ []) $
-        calls-claimed 𝓤 H A W mem run b o ys room (r .turns) (r .claim) (parts .1 .0 .1) (parts .1 .1 .0) enough fm known-claimed
+        calls-changed 𝓤 H A W mem run b o ys room (r .turns) (r .change) (parts .1 .0 .1) (parts .1 .1 .0) enough fm known-changed
         (λ ν δ. and-then ! (load ! (from ! (stop !)) (look ! 7 refl)) (and-then ! (load ! (from ! (fld ! refl (stop !))) (look-in ! 21 (sub ! 1 refl (whole !)))) (and-then ! (load ! (from ! (fld ! refl (stop !))) (look-in ! 21 (sub ! 2 refl (whole !)))) (no-more !)))) (λ u wt.
         land ! (from ! (stop !)) (init ! 10 refl wt) $
         assigns ! (of-opd ! (load ! (from ! (fld ! refl (stop !))) (look-in ! 20 (sub ! 0 refl (whole !))))) (from ! (stop !)) (init ! 28 refl (EL.lawful E.the-type E′.the-laws 𝓤 H A W tt .typed (r .answer) _ (parts .0) .0)) $
-        move ! (0 ∷ 3 ∷ 4 ∷ 5 ∷ []) $ closes-slice ! tt R ys (eachFrom (afterOf (r .claim)) (r .turns) 0 ys) (each-length (afterOf (r .claim)) (r .turns) 0 ys) b o $
+        move ! (0 ∷ 3 ∷ 4 ∷ 5 ∷ []) $ closes-slice ! tt R ys (eachFrom (afterOf (r .change)) (r .turns) 0 ys) (each-length (afterOf (r .change)) (r .turns) 0 ys) b o $
         -- [obs; the borrow; the token; bytes' token; bytes'; _11; …]
         returns ! (look ! 27 refl) $ forget ! 5 refl $ forget ! 7 refl $ forget ! 9 refl $ forget ! 11 refl $ forget ! 13 refl $ forget ! 15 refl $ forget ! 17 refl $ forget ! 19 refl $ forget ! 21 refl $ forget ! 23 refl $ forget ! 25 refl $ forget ! 27 refl $
         move ! (27 ∷ 28 ∷ []) $ free1 ! $ move ! (25 ∷ 26 ∷ []) $ free1 ! $ move ! (23 ∷ 24 ∷ []) $ free1 ! $ move ! (21 ∷ 22 ∷ []) $ free1 ! $ move ! (19 ∷ 20 ∷ []) $ free1 ! $ move ! (17 ∷ 18 ∷ []) $ free1 ! $
         move ! (15 ∷ 16 ∷ []) $ free1 ! $ move ! (13 ∷ 14 ∷ []) $ free1 ! $ move ! (11 ∷ 12 ∷ []) $ free1 ! $ move ! (9 ∷ 10 ∷ []) $ free1 ! $ move ! (7 ∷ 8 ∷ []) $ free1 ! $ move ! (5 ∷ 6 ∷ []) $ free1 ! $ free0 ! $
-        by ! (exits (r .answer) _ _ (each-length (afterOf (r .claim)) (r .turns) 0 ys) (parts .0) (judged-heard ys id bs r judged))))))))))))))))))))
+        by ! (exits (r .answer) _ _ (each-length (afterOf (r .change)) (r .turns) 0 ys) (parts .0) (judged-heard ys id bs r judged))))))))))))))))))))
 
 module _ {M : Type 1} (𝓤 : URA M) (H : Heap 𝓤) (A : Atoms 𝓤) (W : Given 𝓤 H A) (mem : Memory → SProp 𝓤) (run : Routine → Fun 𝓤) where
-  hear-walks : (C : Calls 𝓤 H) (Λ : Loops 𝓤 H) → FmC 𝓤 H (W .laws) C → Triple 𝓤 (C #nodes·records) (Records 𝓤 H A mem run) → Triple 𝓤 (C #nodes·judge) (Judge 𝓤 H A mem run) → Triple 𝓤 (C #nodes·claimed) (Claimed 𝓤 H A mem run)
+  hear-walks : (C : Calls 𝓤 H) (Λ : Loops 𝓤 H) → FmC 𝓤 H (W .laws) C → Triple 𝓤 (C #nodes·records) (Records 𝓤 H A mem run) → Triple 𝓤 (C #nodes·judge) (Judge 𝓤 H A mem run) → Triple 𝓤 (C #nodes·changed) (Changed 𝓤 H A mem run)
       → Walks 𝓤 H A hear.ended stayed (WpFn 𝓤 H C Λ code.function) (hear.clauses 𝓤 H A mem run)
   hear-walks C Λ fm k₁ k₂ k₃ = walked 𝓤 H A hear.ended stayed (hear.clauses 𝓤 H A mem run) (WpFn 𝓤 H C Λ code.function)
       (λ κs. (slice-vals, (uint-vals w32, (slice-vals, tt)))) (λ κs. (mut-slice-tells (named 0) (κs .0) R, (uint-tells w32, (shr-slice-tells (named 1) (κs .1 .0) u8, tt))))
@@ -199,7 +199,7 @@ module _ {M : Type 1} (𝓤 : URA M) (H : Heap 𝓤) (A : Atoms 𝓤) (W : Given
       (are .0 .0 .1) (are .1 .0 .1) (are .1 .1 .0 .0 .1) C Λ fm k₁ k₂ k₃))
 
 hear-meets : {M : Type 1} (𝓤 : URA M) (H : Heap 𝓤) (A : Atoms 𝓤) (W : Given 𝓤 H A) (mem : Memory → SProp 𝓤) (run : Routine → Fun 𝓤) (𝓣 : Tables 𝓤 H)
-    → Triple 𝓤 (𝓣 .C #nodes·records) (Records 𝓤 H A mem run) → Triple 𝓤 (𝓣 .C #nodes·judge) (Judge 𝓤 H A mem run) → Triple 𝓤 (𝓣 .C #nodes·claimed) (Claimed 𝓤 H A mem run)
+    → Triple 𝓤 (𝓣 .C #nodes·records) (Records 𝓤 H A mem run) → Triple 𝓤 (𝓣 .C #nodes·judge) (Judge 𝓤 H A mem run) → Triple 𝓤 (𝓣 .C #nodes·changed) (Changed 𝓤 H A mem run)
     → Meets 𝓤 H A hear.signature (WpFn 𝓤 H (𝓣 .C) (𝓣 .Λ) code.function) (hear.spec 𝓤 H A mem run)
 hear-meets 𝓤 H A W mem run 𝓣 k₁ k₂ k₃ =
     walk-meets 𝓤 H A hear.ended stayed W
@@ -214,4 +214,4 @@ hear-spec 𝓤 H 𝓜 𝓖 𝓡 =
     (hear-meets 𝓤 H (𝓖 .A) (givenOf 𝓤 H 𝓜 𝓖) (𝓜 .mem) (𝓡 .run) (tablesOf 𝓤 H 𝓜 (tables 𝓤 H 𝓜 𝓡 code.env))
     (cited 𝓤 H (Records 𝓤 H (𝓖 .A) (𝓜 .mem) (𝓡 .run)) 𝓜 𝓡 code.env #nodes·records records-def.routine code.calls-nodes·records (records-thm.met 𝓤 H 𝓜 𝓖 𝓡))
     (cited 𝓤 H (Judge 𝓤 H (𝓖 .A) (𝓜 .mem) (𝓡 .run)) 𝓜 𝓡 code.env #nodes·judge judge-def.routine code.calls-nodes·flat·judge (judge-thm.met 𝓤 H 𝓜 𝓖 𝓡))
-    (cited 𝓤 H (Claimed 𝓤 H (𝓖 .A) (𝓜 .mem) (𝓡 .run)) 𝓜 𝓡 code.env #nodes·claimed claimed-def.routine code.calls-nodes·claimed (claimed-thm.met 𝓤 H 𝓜 𝓖 𝓡)))
+    (cited 𝓤 H (Changed 𝓤 H (𝓖 .A) (𝓜 .mem) (𝓡 .run)) 𝓜 𝓡 code.env #nodes·changed changed-def.routine code.calls-nodes·changed (changed-thm.met 𝓤 H 𝓜 𝓖 𝓡)))

@@ -4,8 +4,9 @@ use Prim.Native.Nat.{_<_}
 use native.Mathlib.Omega.{arith}
 use borrow.Author.Needs.{needs}
 use borrow.Author.Tests.{lt-ltb}
-use Rattle.nodes.specs.Table.{greatestAddress, givesWay}
+use Rattle.frame.specs.Standard.{greatestAddress}
 use Rattle.frame.proofs.Tests.{tests}
+use Rattle.nodes.specs.Table.{givesWay}
 use Rattle.nodes.specs.Call.{claimOutcome}
 use Rattle.nodes.proofs.flat.outcome.Statement.{statement}
 use Rattle.nodes.proofs.flat.outcome.Tie as tie

@@ -1,4 +1,4 @@
--- `nodes::claimed` meets its contract: a walk of its MIR, by hand. The borrow is opened once, before the loop, and closed once, after it.
+-- `nodes::changed` meets its contract: a walk of its MIR, by hand. The borrow is opened once, before the loop, and closed once, after it.
 -- A turn takes record i out of the row, calls `after` on it, and puts the result in its place.
 -- Assumes nothing.
 use mathlib.Core.Path.{_≡_, refl, sym, _∙_, ap, subst}
@@ -40,6 +40,7 @@ use denote.Index.{row, place-is, elem-out, elem-put, opens-slice, closes-slice}
 use denote.Signature.{plain}
 use denote.Steps.{owned, nothing, heard, peeks}
 use denote.Struct.Laws as LL
+use denote.Enum.Laws as EL
 use denote.Triple.Call.{calls-at}
 use denote.Triple.Clauses.{ensured, lasts}
 use denote.Triple.Entry.{Vals, onEntry}
@@ -51,24 +52,24 @@ use denote.Exit.{yes}
 use Rattle.nodes.specs.declared.Node.{Node}
 use Rattle.nodes.specs.Table.{absent}
 use Rattle.nodes.specs.Inside.{afterOf, eachFrom}
-use Rattle.nodes.specs.declared.Claim.{Claim}
+use Rattle.nodes.specs.declared.Change.{Change}
 use Rattle.nodes.proofs.Each.{each-length, each-at, each-step}
 use Rattle.nodes.proofs.Node as T
 use Rattle.nodes.proofs.Node.Laws as T′
-use Rattle.nodes.proofs.Claim as K
-use Rattle.nodes.proofs.Claim.Laws as K′
-use Rattle.nodes.proofs.Record.{R, vals, size, C, claim-vals, claim-val, word, mut-slice}
+use Rattle.nodes.proofs.Change as K
+use Rattle.nodes.proofs.Change.Laws as K′
+use Rattle.nodes.proofs.Record.{R, vals, size, C, change-vals, change-val, word, mut-slice}
 use Rattle.nodes.proofs.flat.after as after
 use Rattle.nodes.proofs.flat.after.Symbol as after-def
 use Rattle.nodes.proofs.flat.after.Symbol.{name as #nodes·after}
 use Rattle.nodes.proofs.flat.after.Met as after-thm
-use Rattle.nodes.proofs.claimed.Key.{name as #nodes·claimed}
-use Rattle.nodes.proofs.claimed as clm
-use Rattle.nodes.proofs.claimed.Statement as stated
-use Rattle.nodes.proofs.claimed.Code as code
-use Rattle.nodes.proofs.claimed.Code.Mir as code-mir
+use Rattle.nodes.proofs.changed.Key.{name as #nodes·changed}
+use Rattle.nodes.proofs.changed as chg
+use Rattle.nodes.proofs.changed.Statement as stated
+use Rattle.nodes.proofs.changed.Code as code
+use Rattle.nodes.proofs.changed.Code.Mir as code-mir
 
-abbrev stayed : Stays (clm.ended .signature .params) (clm.ended .kept)
+abbrev stayed : Stays (chg.ended .signature .params) (chg.ended .kept)
 stayed = (stay-slice (0 ∷ []) tt (plain (λ _. R)), (stay-dropped (plain (λ _. usize)) yes, (stay-dropped (plain (λ _. C)) yes, tt)))
 
 module _ {M : Type 1} (𝓤 : URA M) (H : Heap 𝓤) (A : Atoms 𝓤) (mem : Memory → SProp 𝓤) (run : Routine → Fun 𝓤) where
@@ -76,19 +77,19 @@ module _ {M : Type 1} (𝓤 : URA M) (H : Heap 𝓤) (A : Atoms 𝓤) (mem : Mem
   abbrev After : Contract 𝓤
   After = tripleOf 𝓤 H A after.signature (after.spec 𝓤 H A mem run)
 
-module _ {M : Type 1} (𝓤 : URA M) (H : Heap 𝓤) (A : Atoms 𝓤) (W : Given 𝓤 H A) (mem : Memory → SProp 𝓤) (run : Routine → Fun 𝓤) (κ : Lft) (q : Share) (b o : ℕ) (γ : GName) (ys : List Node) (n : ℕ) (claim : Claim)
-    (room : Room R (length ys)) (n-fits : n < 2 ^ 64) (sound : Is C claim (claim-vals claim)) (enough : n ≤ length ys) where
+module _ {M : Type 1} (𝓤 : URA M) (H : Heap 𝓤) (A : Atoms 𝓤) (W : Given 𝓤 H A) (mem : Memory → SProp 𝓤) (run : Routine → Fun 𝓤) (κ : Lft) (q : Share) (b o : ℕ) (γ : GName) (ys : List Node) (n : ℕ) (change : Change)
+    (room : Room R (length ys)) (n-fits : n < 2 ^ 64) (sound : Is C change (change-vals change)) (enough : n ≤ length ys) where
   abbrev Arg : Type 0
-  Arg = RefT (List Node) × (ℕ × (Claim × Unit {0}))
+  Arg = RefT (List Node) × (ℕ × (Change × Unit {0}))
 
   abbrev ref : List Node → RefT (List Node)
   ref l = record { ptr = (b, o); name = γ; now = l }
 
   abbrev x : Arg
-  x = (ref ys, (n, (claim, tt)))
+  x = (ref ys, (n, (change, tt)))
 
   abbrev f : ℕ → Node → Node
-  f a r = afterOf claim a r
+  f a r = afterOf change a r
 
   -- the loop's variant: i with i ≤ n, ordered by what is left
   abbrev Upto : Type 0
@@ -111,21 +112,21 @@ module _ {M : Type 1} (𝓤 : URA M) (H : Heap 𝓤) (A : Atoms 𝓤) (W : Given
   ws-length : (i : ℕ) → length (ws i) ≡ length ys
   ws-length i = each-length f i 0 ys
 
-  ws-step : (i : ℕ) (r : Node) → r ≡ afterOf claim i (getD (ws i) i absent) → set (ws i) i r ≡ ws (i + 1)
+  ws-step : (i : ℕ) (r : Node) → r ≡ afterOf change i (getD (ws i) i absent) → set (ws i) i r ≡ ws (i + 1)
   ws-step i r e =
       let next : i + 1 ≡ suc i = omega arith in
-      ap (set (ws i) i) (e ∙ ap (afterOf claim i) (each-at f i 0 ys absent) ∙ ap (λ (k : ℕ). f k (getD ys i absent)) (sym (zero-add i))) ∙ each-step f i 0 ys absent ∙ ap ws (sym next)
+      ap (set (ws i) i) (e ∙ ap (afterOf change i) (each-at f i 0 ys absent) ∙ ap (λ (k : ℕ). f k (getD ys i absent)) (sym (zero-add i))) ∙ each-step f i 0 ys absent ∙ ap ws (sym next)
 
-  abbrev at : Vals clm.signature (κ, tt)
-  at = (sliceVal (b, o) (length ys) ∷ [], (vint w64 n ∷ [], (claim-vals claim, tt)))
+  abbrev at : Vals chg.signature (κ, tt)
+  at = (sliceVal (b, o) (length ys) ∷ [], (vint w64 n ∷ [], (change-vals change, tt)))
 
   abbrev Post : Val → SProp 𝓤
-  Post = walkOf 𝓤 H A clm.ended stayed (clm.clauses 𝓤 H A mem run) .post (((κ, tt), (q, tt), tt, x, at), tt)
+  Post = walkOf 𝓤 H A chg.ended stayed (chg.clauses 𝓤 H A mem run) .post (((κ, tt), (q, tt), tt, x, at), tt)
 
   exits : ent 𝓤 (⋆ 𝓤 H A (‵ (fobs γ (codedHoleys R .code (heres R (ws n)))) ∷ ‵ (fbor κ (Held R (length (ws n)) b o γ)) ∷ ‵ (flft κ q) ∷ [])) (Post vunit)
   exits =
       qed W (‵ (fobs γ (codedHoleys R .code (heres R (ws n)))) ∷ ‵ (fbor κ (Held R (length (ws n)) b o γ)) ∷ ‵ (flft κ q) ∷ []) ∵
-      suffices ! _ (ends-at 𝓤 H A clm.ended stayed (clm.clauses 𝓤 H A mem run) W (((κ, tt), (q, tt), tt, x, at), tt) vunit tt (ws n, (tt, (tt, tt))) (ws-length n, (tt, (tt, tt)))) $ says ! refl $
+      suffices ! _ (ends-at 𝓤 H A chg.ended stayed (chg.clauses 𝓤 H A mem run) W (((κ, tt), (q, tt), tt, x, at), tt) vunit tt (ws n, (tt, (tt, tt))) (ws-length n, (tt, (tt, tt)))) $ says ! refl $
       nothing ! $ move ! (3 ∷ 0 ∷ []) $ join ! $
       frame ! $ fjoin ! $ pureI ! (at-slice R (ref (ws n)) (at .0)) (tt, (tt, tt)) (ap (λ (m : ℕ). sliceVal (b, o) m ∷ []) (sym (ws-length n)), subst (Room R) (sym (ws-length n)) room) $ fjoin ! $
       nothing ! $ nothing ! $ fjoin ! $ nothing ! $ fjoin ! $
@@ -133,16 +134,16 @@ module _ {M : Type 1} (𝓤 : URA M) (H : Heap 𝓤) (A : Atoms 𝓤) (W : Given
 
   -- ---- the call of `after` on the record r of the address i
   abbrev passed : ℕ → Node → After 𝓤 H A mem run .Ghost
-  passed i r = ((tt, tt, tt, (r, (i, (claim, tt))), (vals r, (vint w64 i ∷ [], (claim-vals claim, tt)))), tt)
+  passed i r = ((tt, tt, tt, (r, (i, (change, tt))), (vals r, (vint w64 i ∷ [], (change-vals change, tt)))), tt)
 
   asked : (i : ℕ) (r : Node) → i < 2 ^ 64 → Is R r (vals r) → ent 𝓤 (emp 𝓤) (After 𝓤 H A mem run .pre (passed i r))
   asked i r fits g =
-      qed W [] ∵ nothing ! $ owned ! C (Is C) (LL.makes K.the-type K′.the-plain 𝓤 H A) claim _ sound $ fjoin ! $
+      qed W [] ∵ nothing ! $ owned ! C (Is C) (EL.makes K.the-type K′.the-plain 𝓤 H A) change _ sound $ fjoin ! $
       owned ! usize (Is usize) (uint-makes 𝓤 H A W w64) i _ (refl, fits) $ fjoin ! $ owned ! R (Is R) (LL.makes T.the-type T′.the-plain 𝓤 H A) r _ g $ fjoin ! $ nothing ! $ join ! $ nothing ! $ move ! (1 ∷ 0 ∷ []) $ done !
 
   -- of its `ensured` the clause alone
-  said : (i : ℕ) (r s : Node) → ent 𝓤 (ensured 𝓤 H A after.ended (after.clauses 𝓤 H A mem run) tt (r, (i, (claim, tt))) tt s) (fact 𝓤 (s ≡ afterOf claim i r))
-  said i r s = exE 𝓤 _ (λ ws′. snd∗ 𝓤 (sem 𝓤 H A (lasts after.ended tt (r, (i, (claim, tt))) ws′)) (fact 𝓤 (s ≡ afterOf claim i r)))
+  said : (i : ℕ) (r s : Node) → ent 𝓤 (ensured 𝓤 H A after.ended (after.clauses 𝓤 H A mem run) tt (r, (i, (change, tt))) tt s) (fact 𝓤 (s ≡ afterOf change i r))
+  said i r s = exE 𝓤 _ (λ ws′. snd∗ 𝓤 (sem 𝓤 H A (lasts after.ended tt (r, (i, (change, tt))) ws′)) (fact 𝓤 (s ≡ afterOf change i r)))
 
   module _ (𝓣 : Tables 𝓤 H) (known : Triple 𝓤 (𝓣 .C #nodes·after) (After 𝓤 H A mem run)) (l₀ l₁ l₂ l₃ l₄ l₅ l₆ l₇ l₈ l₉ l₁₀ l₁₁ : ℕ) where
     abbrev Cs : Calls 𝓤 H
@@ -159,7 +160,7 @@ module _ {M : Type 1} (𝓤 : URA M) (H : Heap 𝓤) (A : Atoms 𝓤) (W : Given
     At i = ‵ (row R fullShare (ws (i .0)) b o) ∷ ‵ (fobor κ q (Held R (length ys) b o γ)) ∷ ‵ (fobs γ (codedHoleys R .code (heres R ys))) ∷ ‵ (fauth γ (codedHoleys R .code (heres R ys)))
         ∷ ‵ (froom tyPtr l₁₁ 0) ∷ ‵ (fdies tyPtr l₁₁) ∷ ‵ (froom word l₁₀ 0) ∷ ‵ (fdies word l₁₀) ∷ ‵ (froom T′.mir l₉ 0) ∷ ‵ (fdies T′.mir l₉) ∷ ‵ (froom tyPtr l₈ 0) ∷ ‵ (fdies tyPtr l₈)
         ∷ ‵ (froom word l₇ 0) ∷ ‵ (fdies word l₇) ∷ ‵ (froom T′.mir l₆ 0) ∷ ‵ (fdies T′.mir l₆) ∷ ‵ (froom tyBool l₅ 0) ∷ ‵ (fdies tyBool l₅) ∷ ‵ (fat fullShare word l₄ 0 (vint w64 (i .0))) ∷ ‵ (fdies word l₄)
-        ∷ ‵ (fat fullShare K′.mir l₃ 0 (claim-val claim)) ∷ ‵ (fdies K′.mir l₃) ∷ ‵ (fat fullShare word l₂ 0 (vint w64 n)) ∷ ‵ (fdies word l₂)
+        ∷ ‵ (fat fullShare K′.mir l₃ 0 (change-val change)) ∷ ‵ (fdies K′.mir l₃) ∷ ‵ (fat fullShare word l₂ 0 (vint w64 n)) ∷ ‵ (fdies word l₂)
         ∷ ‵ (fat fullShare mut-slice l₁ 0 (sliceVal (b, o) (length ys))) ∷ ‵ (fdies mut-slice l₁) ∷ ‵ (froom tyUnit l₀ 0) ∷ ‵ (fdies tyUnit l₀) ∷ []
 
     -- a turn's postcondition: it ends nearer, or the loop is left and the rest of the body runs
@@ -186,8 +187,8 @@ module _ {M : Type 1} (𝓤 : URA M) (H : Heap 𝓤) (A : Atoms 𝓤) (W : Given
         use0 W (raw (After 𝓤 H A mem run .pre (passed i (getD (ws i) i absent)))) (asked i (getD (ws i) i absent) i-fits g) $
         calls-at ! (fmOf 𝓤 H (W .laws) 𝓣) (After 𝓤 H A mem run) known (passed i (getD (ws i) i absent))
         (and-then ! (load ! (from ! (stop !)) (look ! 11 refl)) (and-then ! (load ! (from ! (stop !)) (look ! 21 refl)) (and-then ! (load ! (from ! (stop !)) (look ! 23 refl)) (no-more !)))) (λ v.
-        use1 W (later (some (λ (r : Node). (‵ ftrue ⊛ ‵ (R .own r (v ∷ []))) ⊛ raw (ensured 𝓤 H A after.ended (after.clauses 𝓤 H A mem run) tt (getD (ws i) i absent, (i, (claim, tt))) tt r)))) (id⊢ 𝓤 _) $ await ! tt $ pick ! (λ r.
-        split ! $ move ! (1 ∷ []) $ use1 W (raw (fact 𝓤 (r ≡ afterOf claim i (getD (ws i) i absent)))) (said i (getD (ws i) i absent) r) $ heard ! (r ≡ afterOf claim i (getD (ws i) i absent)) (λ e. split ! $ drop ! $
+        use1 W (later (some (λ (r : Node). (‵ ftrue ⊛ ‵ (R .own r (v ∷ []))) ⊛ raw (ensured 𝓤 H A after.ended (after.clauses 𝓤 H A mem run) tt (getD (ws i) i absent, (i, (change, tt))) tt r)))) (id⊢ 𝓤 _) $ await ! tt $ pick ! (λ r.
+        split ! $ move ! (1 ∷ []) $ use1 W (raw (fact 𝓤 (r ≡ afterOf change i (getD (ws i) i absent)))) (said i (getD (ws i) i absent) r) $ heard ! (r ≡ afterOf change i (getD (ws i) i absent)) (λ e. split ! $ drop ! $
         peeks ! R (Is R) (shows 𝓤 H A R) r (v ∷ []) (λ is.
         -- [what the result owns; t[i]; what it owned; the others; the open borrow; obs; auth; _11; …]
         land ! (from ! (stop !)) (init ! 17 refl (LL.lawful T.the-type T′.the-laws 𝓤 H A W .typed r _ is .0)) $
@@ -228,12 +229,12 @@ module _ {M : Type 1} (𝓤 : URA M) (H : Heap 𝓤) (A : Atoms 𝓤) (W : Given
     from-loop = first ! $ blocks ! $ loops ! 𝓣 Nearer Nearer-wf At turns (0, zero-le)
 
   -- the MIR up to the loop
-  walk : (𝓣 : Tables 𝓤 H) → Triple 𝓤 (𝓣 .C #nodes·after) (After 𝓤 H A mem run) → ent 𝓤 (onEntry 𝓤 H A clm.signature (κ, tt) (q, tt) x at)
-      (WpFn 𝓤 H (𝓣 .C) (𝓣 .Λ) code.function (sliceVal (b, o) (length ys) ∷ vint w64 n ∷ claim-val claim ∷ []) Post)
+  walk : (𝓣 : Tables 𝓤 H) → Triple 𝓤 (𝓣 .C #nodes·after) (After 𝓤 H A mem run) → ent 𝓤 (onEntry 𝓤 H A chg.signature (κ, tt) (q, tt) x at)
+      (WpFn 𝓤 H (𝓣 .C) (𝓣 .Λ) code.function (sliceVal (b, o) (length ys) ∷ vint w64 n ∷ change-val change ∷ []) Post)
   walk 𝓣 known =
-      qed W ((‵ (flft κ q) ⊛ ‵ ftrue) ∷ ‵ (owns (MutSlice (named 0) κ R ∷ usize ∷ C ∷ []) x at) ∷ []) ∵ enter ! (𝓣 .C) (𝓣 .Λ) code.function (sliceVal (b, o) (length ys) ∷ vint w64 n ∷ claim-val claim ∷ []) _ $
+      qed W ((‵ (flft κ q) ⊛ ‵ ftrue) ∷ ‵ (owns (MutSlice (named 0) κ R ∷ usize ∷ C ∷ []) x at) ∷ []) ∵ enter ! (𝓣 .C) (𝓣 .Λ) code.function (sliceVal (b, o) (length ys) ∷ vint w64 n ∷ change-val change ∷ []) _ $
       alloc1 ! (λ l₀. alloc1 ! (λ l₁. alloc1 ! (λ l₂. alloc1 ! (λ l₃. alloc1 ! (λ l₄. alloc1 ! (λ l₅. alloc1 ! (λ l₆. alloc1 ! (λ l₇. alloc1 ! (λ l₈. alloc1 ! (λ l₉. alloc1 ! (λ l₁₀. alloc1 ! (λ l₁₁. alloc0 ! $ params1 ! $
-      pass1 ! (init ! 20 refl (tt, (tt, (record { fits = room .0 }, tt)))) $ pass1 ! (init ! 18 refl (tt, record { fits = n-fits })) $ pass1 ! (init ! 16 refl (LL.lawful K.the-type K′.the-laws 𝓤 H A W .typed claim _ sound .0)) $ pass0 ! $
+      pass1 ! (init ! 20 refl (tt, (tt, (record { fits = room .0 }, tt)))) $ pass1 ! (init ! 18 refl (tt, record { fits = n-fits })) $ pass1 ! (init ! 16 refl (EL.lawful K.the-type K′.the-laws 𝓤 H A W tt .typed change _ sound .0)) $ pass0 ! $
       assigns ! (of-opd ! (lit ! tt)) (from ! (stop !)) (init ! 14 refl (tt, record { fits = lit< tt })) $
       move ! (25 ∷ []) $ fsplit ! $ fsplit ! $ move ! (1 ∷ []) $ fsplit ! $ move ! (28 ∷ []) $ split ! $ move ! (2 ∷ 3 ∷ 0 ∷ []) $
       opens-slice ! tt R ys b o $
@@ -243,19 +244,19 @@ module _ {M : Type 1} (𝓤 : URA M) (H : Heap 𝓤) (A : Atoms 𝓤) (W : Given
       from-loop 𝓣 known l₀ l₁ l₂ l₃ l₄ l₅ l₆ l₇ l₈ l₉ l₁₀ l₁₁))))))))))))
 
 module _ {M : Type 1} (𝓤 : URA M) (H : Heap 𝓤) (A : Atoms 𝓤) (W : Given 𝓤 H A) (mem : Memory → SProp 𝓤) (run : Routine → Fun 𝓤) where
-  claimed-walks : (𝓣 : Tables 𝓤 H) → Triple 𝓤 (𝓣 .C #nodes·after) (After 𝓤 H A mem run) → Walks 𝓤 H A clm.ended stayed (WpFn 𝓤 H (𝓣 .C) (𝓣 .Λ) code.function) (clm.clauses 𝓤 H A mem run)
-  claimed-walks 𝓣 known = walked 𝓤 H A clm.ended stayed (clm.clauses 𝓤 H A mem run) (WpFn 𝓤 H (𝓣 .C) (𝓣 .Λ) code.function) (λ κs. (slice-vals, (uint-vals w64, (claim-vals, tt)))) (λ κs. (mut-slice-tells (named 0) (κs .0) R, (uint-tells w64, (LL.tells K.the-type K′.the-laws, tt))))
+  changed-walks : (𝓣 : Tables 𝓤 H) → Triple 𝓤 (𝓣 .C #nodes·after) (After 𝓤 H A mem run) → Walks 𝓤 H A chg.ended stayed (WpFn 𝓤 H (𝓣 .C) (𝓣 .Λ) code.function) (chg.clauses 𝓤 H A mem run)
+  changed-walks 𝓣 known = walked 𝓤 H A chg.ended stayed (chg.clauses 𝓤 H A mem run) (WpFn 𝓤 H (𝓣 .C) (𝓣 .Λ) code.function) (λ κs. (slice-vals, (uint-vals w64, (change-vals, tt)))) (λ κs. (mut-slice-tells (named 0) (κs .0) R, (uint-tells w64, (EL.tells K.the-type K′.the-laws, tt))))
       (λ κs qs bounds a g are. needs 𝓤 (a .1 .0 ≤ length (now (a .0))) _ (λ enough.
       walk 𝓤 H A W mem run (κs .0) (qs .0) (a .0 .ptr .0) (a .0 .ptr .1) (a .0 .name) (a .0 .now) (a .1 .0) (a .1 .1 .0) (are .0 .0 .1) (are .1 .0 .1) (are .1 .1 .0) enough 𝓣 known))
 
-claimed-meets : {M : Type 1} (𝓤 : URA M) (H : Heap 𝓤) (A : Atoms 𝓤) (W : Given 𝓤 H A) (mem : Memory → SProp 𝓤) (run : Routine → Fun 𝓤) (𝓣 : Tables 𝓤 H) → Triple 𝓤 (𝓣 .C #nodes·after) (After 𝓤 H A mem run)
-    → Meets 𝓤 H A clm.signature (WpFn 𝓤 H (𝓣 .C) (𝓣 .Λ) code.function) (clm.spec 𝓤 H A mem run)
-claimed-meets 𝓤 H A W mem run 𝓣 known = walk-meets 𝓤 H A clm.ended stayed W (goes-slice 𝓤 H A W 1 0 tt (plain (λ _. R)), (goes-dropped 𝓤 H A W 1 (plain (λ _. usize)) yes (λ κs x f. refl), (goes-dropped 𝓤 H A W 1 (plain (λ _. C)) yes (λ κs x f. refl), tt))) (clm.clauses 𝓤 H A mem run) (WpFn 𝓤 H (𝓣 .C) (𝓣 .Λ) code.function) (WpFn-mono 𝓤 H (W .laws) 𝓣 code.function) (claimed-walks 𝓤 H A W mem run 𝓣 known)
+changed-meets : {M : Type 1} (𝓤 : URA M) (H : Heap 𝓤) (A : Atoms 𝓤) (W : Given 𝓤 H A) (mem : Memory → SProp 𝓤) (run : Routine → Fun 𝓤) (𝓣 : Tables 𝓤 H) → Triple 𝓤 (𝓣 .C #nodes·after) (After 𝓤 H A mem run)
+    → Meets 𝓤 H A chg.signature (WpFn 𝓤 H (𝓣 .C) (𝓣 .Λ) code.function) (chg.spec 𝓤 H A mem run)
+changed-meets 𝓤 H A W mem run 𝓣 known = walk-meets 𝓤 H A chg.ended stayed W (goes-slice 𝓤 H A W 1 0 tt (plain (λ _. R)), (goes-dropped 𝓤 H A W 1 (plain (λ _. usize)) yes (λ κs x f. refl), (goes-dropped 𝓤 H A W 1 (plain (λ _. C)) yes (λ κs x f. refl), tt))) (chg.clauses 𝓤 H A mem run) (WpFn 𝓤 H (𝓣 .C) (𝓣 .Λ) code.function) (WpFn-mono 𝓤 H (W .laws) 𝓣 code.function) (changed-walks 𝓤 H A W mem run 𝓣 known)
 
-pub claimed-spec : {M : Type 1} → stated.statement M
+pub changed-spec : {M : Type 1} → stated.statement M
 unfolding code.routine tablesOf
-claimed-spec 𝓤 H 𝓜 𝓖 𝓡 =
-    entered 𝓤 H (tripleOf 𝓤 H (𝓖 .A) clm.signature (clm.spec 𝓤 H (𝓖 .A) (𝓜 .mem) (𝓡 .run)))
-    (tables 𝓤 H 𝓜 𝓡 code.env .C) (tables 𝓤 H 𝓜 𝓡 code.env .Λ) #nodes·claimed code.function (code.unfolded 𝓤 H 𝓜 𝓡)
-    (claimed-meets 𝓤 H (𝓖 .A) (givenOf 𝓤 H 𝓜 𝓖) (𝓜 .mem) (𝓡 .run) (tablesOf 𝓤 H 𝓜 (tables 𝓤 H 𝓜 𝓡 code.env))
+changed-spec 𝓤 H 𝓜 𝓖 𝓡 =
+    entered 𝓤 H (tripleOf 𝓤 H (𝓖 .A) chg.signature (chg.spec 𝓤 H (𝓖 .A) (𝓜 .mem) (𝓡 .run)))
+    (tables 𝓤 H 𝓜 𝓡 code.env .C) (tables 𝓤 H 𝓜 𝓡 code.env .Λ) #nodes·changed code.function (code.unfolded 𝓤 H 𝓜 𝓡)
+    (changed-meets 𝓤 H (𝓖 .A) (givenOf 𝓤 H 𝓜 𝓖) (𝓜 .mem) (𝓡 .run) (tablesOf 𝓤 H 𝓜 (tables 𝓤 H 𝓜 𝓡 code.env))
     (cited 𝓤 H (After 𝓤 H (𝓖 .A) (𝓜 .mem) (𝓡 .run)) 𝓜 𝓡 code.env #nodes·after after-def.routine code.calls-nodes·flat·after (after-thm.met 𝓤 H 𝓜 𝓖 𝓡)))

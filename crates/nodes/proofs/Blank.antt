@@ -1,0 +1,81 @@
+-- Records that are all absent: they keep the rules, and nobody is among them.
+-- Assumes nothing.
+use mathlib.Core.Path.{_≡_, refl, ap, _∙_}
+use mathlib.Core.Bool.{true}
+use mathlib.Core.List.{List, _∷_, _++_}
+use Prim.Native.Nat.{ℕ, zero, suc, _≤_}
+use native.Mathlib.Omega.{arith}
+use lib.ListN.{length, getD, take, replicate, length-append, length-replicate}
+use lib.Dec.{ltb}
+use borrow.Author.Tests.{ltb-true, ltb-false}
+use Rattle.frame.specs.Words.{gives}
+use Rattle.frame.specs.Standard.{greatestAddress}
+use Rattle.frame.proofs.Words.{by-test}
+use Rattle.nodes.specs.Table.{addresses, absent, hasName, soundRecord, heldAgain, keepsRules}
+use Rattle.nodes.specs.Call.{nobody, holderOf, lookedUpOf, nowhere, addressFrom, foundOf}
+use Rattle.nodes.specs.Promises.{Empty}
+use Rattle.nodes.specs.Laws.{EmptyKeepsRules, EmptyHasNobody, EmptyHasNoName}
+use Rattle.nodes.specs.declared.Node.{Node}
+use Rattle.nodes.proofs.Call.{looked-past, looked-at, found-in}
+
+-- ---- any number of them
+
+front : (k : ℕ) (behind : List Node) → take k (replicate k absent ++ behind) ≡ replicate k absent
+front zero behind = refl
+front (suc k) behind = ap (λ (ns : List Node). absent ∷ ns) (front k behind)
+
+all-keep : (k : ℕ) → keepsRules (replicate k absent) ≡ true
+unfolding keepsRules soundRecord heldAgain
+all-keep zero = refl
+all-keep (suc k) = all-keep k
+
+all-absent : (k a : ℕ) → getD (replicate k absent) a absent ≡ absent
+all-absent zero a = refl
+all-absent (suc k) zero = refl
+all-absent (suc k) (suc a) = all-absent k a
+
+all-nameless : (name k a : ℕ) → addressFrom name a (replicate k absent) ≡ nowhere
+unfolding addressFrom hasName
+all-nameless name zero a = refl
+all-nameless name (suc k) a = all-nameless name k (suc a)
+
+-- ---- those of the addresses
+
+nobody-there : holderOf absent ≡ nobody
+unfolding holderOf
+nobody-there = refl
+
+module _ (r behind : List Node) (e : Empty r) where
+  front-is : take addresses (r ++ behind) ≡ replicate addresses absent
+  front-is = ap (λ (ns : List Node). take addresses (ns ++ behind)) (e .answer) ∙ front addresses behind
+
+  long : addresses ≤ length (r ++ behind)
+  long =
+      let l : length r ≡ addresses = ap length (e .answer) ∙ length-replicate addresses absent in
+      omega (arith, length-append r behind, l)
+
+  kept : keepsRules (take addresses (r ++ behind)) ≡ true
+  kept = ap keepsRules front-is ∙ all-keep addresses
+
+  absent-at : (a : ℕ) → getD (take addresses (r ++ behind)) a absent ≡ absent
+  absent-at a = ap (λ (ns : List Node). getD ns a absent) front-is ∙ all-absent addresses a
+
+  looked : (a : ℕ) → lookedUpOf (length (r ++ behind)) (take addresses (r ++ behind)) a ≡ gives nobody
+  looked a =
+      by-test (ltb greatestAddress a) (λ t. looked-past _ _ a long kept (ltb-true _ _ t))
+      (λ t. looked-at _ _ a long kept (ltb-false _ _ t)
+      ∙ ap (λ (n : Node). gives (holderOf n)) (absent-at a) ∙ ap gives nobody-there)
+
+  found : (name : ℕ) → foundOf (length (r ++ behind)) (take addresses (r ++ behind)) name ≡ gives nowhere
+  found name =
+      found-in _ _ name long kept
+      ∙ ap (λ (ns : List Node). gives (addressFrom name 0 ns)) front-is ∙ ap gives (all-nameless name addresses 0)
+
+pub empty-keeps-rules : EmptyKeepsRules
+empty-keeps-rules r behind e = (long r behind e, kept r behind e)
+
+pub empty-has-nobody : EmptyHasNobody
+empty-has-nobody r behind a e = looked r behind e a
+
+pub empty-has-no-name : EmptyHasNoName
+empty-has-no-name r behind name e = found r behind e name
