@@ -6,11 +6,11 @@ use mathlib.Core.List.{List}
 use Prim.Native.Nat.{ℕ, _<_}
 use native.Mathlib.Omega.{arith}
 use borrow.Author.Tests.{eq-eqb, ne-eqb}
-use lib.ListN.{length, replicate}
+use lib.ListN.{length}
 use Rattle.frame.specs.Words.{_=?_, Told, refused, gives, given_then_}
 use Rattle.frame.specs.Bytes.{numberOf}
-use Rattle.frame.specs.Frame.{frameBytes, checkedOf}
-use Rattle.frame.specs.Standard.{claimDgn}
+use Rattle.frame.specs.Frame.{checkedOf}
+use Rattle.frame.specs.Standard.{claimDgn, noFrame}
 use Rattle.frame.specs.Promises.{toldVerdict, refusalOf, bytesIf}
 use Rattle.frame.specs.declared.Parts.{Parts}
 use Rattle.frame.specs.declared.BadFrame.{BadFrame}
@@ -144,7 +144,7 @@ module _ (id : ℕ) (bytes : List ℕ) (c : Claim) (a v : Hearing) (t : toldHear
       }
 
   pub hear-keeps : (r : Heard) → isSentTold (toldHearing v) ≡ false → afterTold (toldHearing v) c ≡ c
-      → r ≡ record { claim = c; answer = a; id = 0; bytes = replicate frameBytes 0 } → Hear id bytes c r
+      → r ≡ record { claim = c; answer = a; id = noFrame .id; bytes = noFrame .bytes } → Hear id bytes c r
   hear-keeps r s f h =
       let n : isSentTold (heardOf id bytes c) ≡ false = ap isSentTold told ∙ s in
       let m : afterTold (heardOf id bytes c) c ≡ c = ap (λ (x : Told Outcome). afterTold x c) told ∙ f in

@@ -4,12 +4,12 @@ use mathlib.Core.Bool.{Bool, true, false}
 use mathlib.Core.List.{List}
 use mathlib.Core.Logic.{_↔_}
 use Prim.Native.Nat.{ℕ, _≤_, _<_, _%_, _^_}
-use lib.ListN.{length, getD, replicate}
+use lib.ListN.{length, getD}
 use Rattle.frame.specs.Words.{refused, gives}
 use Rattle.frame.specs.Bytes.{numberOf, bytesOf}
 use Rattle.frame.specs.Identifier.{identifierOf, identifiers}
 use Rattle.frame.specs.Frame.{frameBytes, checkedOf}
-use Rattle.frame.specs.Standard.{claimDgn, greatestAddress, noAddress}
+use Rattle.frame.specs.Standard.{claimDgn, greatestAddress, noAddress, noFrame}
 use Rattle.frame.specs.declared.Parts.{Parts}
 use Rattle.claim.specs.Claim.{heldAfter, claimPriority, keepsRules, holdsList, address, claimSource, claimId, claimBytes, held, standOf, begun, nothingToDo, outcomeOf, after}
 use Rattle.claim.specs.History.{Event, run, history, waitedSince}
@@ -69,7 +69,7 @@ HoldsListOnly = (c : Claim) (r s : Bool) → HoldsList c r → HoldsList c s →
 -- A refusal returns its number and nothing else: the state stays, and no frame stands beside it.
 
 abbrev pub NoFrame : ℕ → List ℕ → Type 0
-NoFrame id bytes = (id ≡ 0) × (bytes ≡ replicate frameBytes 0)
+NoFrame id bytes = (id ≡ noFrame .id) × (bytes ≡ noFrame .bytes)
 
 abbrev pub StartRefusedKeeps : Type 0
 StartRefusedKeeps =

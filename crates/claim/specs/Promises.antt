@@ -6,8 +6,8 @@ use Prim.Native.Nat.{ℕ}
 use lib.ListN.{length, replicate}
 use Rattle.frame.specs.Words.{if_then_else_, _=?_, _and_, Told, refused, gives, given_then_}
 use Rattle.frame.specs.Bytes.{numberOf}
-use Rattle.frame.specs.Frame.{frameBytes, checkedOf}
-use Rattle.frame.specs.Standard.{claimDgn}
+use Rattle.frame.specs.Frame.{checkedOf}
+use Rattle.frame.specs.Standard.{claimDgn, noFrame}
 use Rattle.frame.specs.Promises.{refusalOf}
 use Rattle.frame.specs.declared.Parts.{Parts}
 use Rattle.claim.specs.Candidates.{longestList, isWellFormed}
@@ -32,12 +32,12 @@ use Rattle.claim.specs.declared.ClaimFrame.{ClaimFrame}
 pub data Done : Type 0 where
   done : Done
 
--- beside an answer: the frame of our claim where it is sent, and zeros where nothing is
+-- beside an answer: the frame of our claim where it is to be sent, and no frame where nothing is
 abbrev pub idIf : Bool → Claim → ℕ
-idIf sent c = if sent then claimId c else 0
+idIf sent c = if sent then claimId c else noFrame .id
 
 abbrev pub bytesIf : Bool → Claim → List ℕ
-bytesIf sent c = if sent then claimBytes c else replicate frameBytes 0
+bytesIf sent c = if sent then claimBytes c else noFrame .bytes
 
 -- Claim::start
 

@@ -5,10 +5,11 @@ use crate::Hearing;
 use crate::state;
 use frame::Parts;
 use frame::Verdict;
+use frame::standard;
 ghost use mathlib.Core.Path.{_≡_};
 ghost use Prim.Native.Nat.{_<_};
-ghost use lib.ListN.{replicate};
 ghost use Rattle.frame.specs.Words.{gives};
+ghost use Rattle.frame.specs.Standard.{noFrame};
 ghost use Rattle.claim.specs.Claim.{claimId, claimBytes, lostBy, outcomeOf};
 ghost use Rattle.claim.specs.Promises.{toldHearing, metOf, heardOf};
 
@@ -36,7 +37,7 @@ fn meet(claim: Claim, parts: Parts, bytes: [u8; 8]) -> Hearing
     if !claim.holds_list() {
         return Hearing::ListMalformed;
     }
-    if parts.dgn != 0xEEFF {
+    if parts.dgn != standard::CLAIM {
         return Hearing::NothingToDo;
     }
     outcome(claim, parts.source, frame::number_of(bytes))
@@ -74,7 +75,7 @@ fn lost(claim: Claim) -> Hearing
     Hearing::FellSilent
 }
 
-// A state whose claim is sent with an answer.
+// A state whose claim is to be sent with an answer.
 pub fn sends(claim: Claim, answer: Hearing) -> Heard
     requires { ⌜ claim .position < 16 ⌝ }
     ensures { λ r. ⌜ r ≡ record { claim = claim; answer = answer; id = claimId claim; bytes = claimBytes claim } ⌝ }
@@ -88,14 +89,14 @@ pub fn sends(claim: Claim, answer: Hearing) -> Heard
     }
 }
 
-// A state beside an answer with which nothing is sent.
+// A state beside an answer with which nothing is to be sent.
 pub fn keeps(claim: Claim, answer: Hearing) -> Heard
-    ensures { λ r. ⌜ r ≡ record { claim = claim; answer = answer; id = 0; bytes = replicate 8 0 } ⌝ }
+    ensures { λ r. ⌜ r ≡ record { claim = claim; answer = answer; id = noFrame .id; bytes = noFrame .bytes } ⌝ }
 {
     Heard {
         claim,
         answer,
-        id: 0,
+        id: standard::NO_FRAME,
         bytes: [0u8; 8],
     }
 }

@@ -1,16 +1,23 @@
 // Claiming an address: the candidate list, the contest of NAMEs, the wait until an address is held (document 01, "Claiming an address").
 use frame::BadFrame;
+use frame::standard;
 ghost use Rattle.claim.specs.Promises.{Start, Hear, Pause, Stands, OurClaim, KeepsRules, HoldsList};
 
 mod contest;
 mod list;
 mod state;
 
+// A candidate list has at most 16 addresses.
+pub const CANDIDATES: usize = 16;
+
+// An address is held after 250 ms.
+pub const HELD_AFTER: u16 = 250;
+
 // A claim's state: the NAME, the candidate list (`count` addresses, then zeros), the position in it of the address that is claimed or held, the
 // milliseconds waited there, up to 250, and whether all addresses are lost.
 pub struct Claim {
     pub name: u64,
-    pub list: [u8; 16],
+    pub list: [u8; CANDIDATES],
     pub count: usize,
     pub position: usize,
     pub wait: u16,
@@ -23,7 +30,7 @@ pub enum Starting {
     ListMalformed,
 }
 
-// The new state, and the frame to send; zeros where the start is refused.
+// The new state, and the frame to send. Where the start is refused, the state is of zeros, and there is no frame.
 pub struct Started {
     pub claim: Claim,
     pub answer: Starting,
@@ -48,7 +55,7 @@ pub enum Hearing {
     ListMalformed,
 }
 
-// The state, and the frame to send; zeros where nothing is sent.
+// The state, and the frame to send; no frame where nothing is to be sent.
 pub struct Heard {
     pub claim: Claim,
     pub answer: Hearing,
@@ -84,7 +91,7 @@ pub enum Sending {
     ListMalformed,
 }
 
-// The frame of our claim; zeros where the state is refused.
+// The frame of our claim; no frame where the state is refused.
 pub struct ClaimFrame {
     pub answer: Sending,
     pub id: u32,
@@ -100,7 +107,7 @@ impl Claim {
             return Started {
                 claim: state::blank(),
                 answer: Starting::ListMalformed,
-                id: 0,
+                id: standard::NO_FRAME,
                 bytes: [0u8; 8],
             };
         }
@@ -179,14 +186,14 @@ impl Claim {
         if !self.keeps_rules() {
             return ClaimFrame {
                 answer: Sending::StateBroken,
-                id: 0,
+                id: standard::NO_FRAME,
                 bytes: [0u8; 8],
             };
         }
         if !self.holds_list() {
             return ClaimFrame {
                 answer: Sending::ListMalformed,
-                id: 0,
+                id: standard::NO_FRAME,
                 bytes: [0u8; 8],
             };
         }
@@ -204,7 +211,7 @@ impl Claim {
         if self.count <= self.position {
             return false;
         }
-        if 250 < self.wait {
+        if HELD_AFTER < self.wait {
             return false;
         }
         if !self.silent {
@@ -221,7 +228,7 @@ impl Claim {
         ensures { λ r. ⌜ HoldsList self r ⌝ }
     {
         let count = self.count;
-        if 16 < count {
+        if CANDIDATES < count {
             return false;
         }
         let list = self.list;

@@ -1,15 +1,19 @@
 // The acknowledgment's frame.
 use crate::Acknowledged;
 use crate::Acknowledging;
+use frame::standard;
 ghost use mathlib.Core.Path.{_≡_};
 ghost use Rattle.command.specs.Acknowledgment.{acknowledgmentId, acknowledgmentBytes};
 ghost use Rattle.command.specs.Private.{bareAcknowledged};
 
-// Priority 6, DGN E8xxh, xx the requester, from our address.
+// The identifier of an acknowledgment without requester and source: priority 6, DGN E800h.
+const ACKNOWLEDGMENT_ID: u32 = 6 * 0x4000000 + standard::ACKNOWLEDGMENT * 256;
+
+// DGN E8xxh, xx the requester, from our address.
 pub fn id_of(address: u8, requester: u8) -> u32
     ensures { λ r. ⌜ r ≡ acknowledgmentId address requester ⌝ }
 {
-    0x18E80000 + requester as u32 * 256 + address as u32
+    ACKNOWLEDGMENT_ID + requester as u32 * 256 + address as u32
 }
 
 pub fn bytes_of(requester: u8, code: u8, instance: u8, dgn: u32) -> [u8; 8]
@@ -18,7 +22,16 @@ pub fn bytes_of(requester: u8, code: u8, instance: u8, dgn: u32) -> [u8; 8]
     let low = (dgn % 256) as u8;
     let middle = (dgn / 256 % 256) as u8;
     let high = (dgn / 256 / 256 % 256) as u8;
-    [code, instance, 0xFF, 0xFF, requester, low, middle, high]
+    [
+        code,
+        instance,
+        standard::UNUSED,
+        standard::UNUSED,
+        requester,
+        low,
+        middle,
+        high,
+    ]
 }
 
 // An answer with no frame beside it.
@@ -27,7 +40,7 @@ pub fn bare(answer: Acknowledging) -> Acknowledged
 {
     Acknowledged {
         answer,
-        id: 0,
+        id: standard::NO_FRAME,
         bytes: [0u8; 8],
     }
 }

@@ -2,6 +2,7 @@
 use address::Address;
 use claim::Claim;
 use frame::BadFrame;
+use frame::standard;
 use handed::Handing;
 ghost use Rattle.command.specs.Promises.{Start, Route, Request, Acknowledge};
 
@@ -12,6 +13,9 @@ mod handed;
 mod hosted;
 mod picking;
 mod requests;
+
+// A hosted list has at most 16 entries.
+pub const ENTRIES: usize = 16;
 
 // A device that a node answers for: the DGN that commands it, the DGN of its status, its instance, and whether a command to instance 0 is for it
 // too (zero-is-all).
@@ -24,7 +28,7 @@ pub struct Entry {
 
 // A host: the hosted list, `count` entries and then entries of zeros.
 pub struct Host {
-    pub entries: [Entry; 16],
+    pub entries: [Entry; ENTRIES],
     pub count: usize,
 }
 
@@ -42,7 +46,7 @@ pub struct Started {
 
 // Positions in the hosted list, rising: `count` of them, then zeros.
 pub struct Positions {
-    pub at: [u8; 16],
+    pub at: [u8; ENTRIES],
     pub count: usize,
 }
 
@@ -82,7 +86,7 @@ pub enum Requesting {
     NoAddressHeld,
 }
 
-// The positions, and the frame to send; zeros where nothing is sent.
+// The positions, and the frame to send; no frame where nothing is to be sent.
 pub struct Requested {
     pub answer: Requesting,
     pub positions: Positions,
@@ -100,7 +104,7 @@ pub enum Acknowledging {
     NoAddressHeld,
 }
 
-// The frame to send; zeros where it is refused.
+// The frame to send; no frame where it is refused.
 pub struct Acknowledged {
     pub answer: Acknowledging,
     pub id: u32,
@@ -109,7 +113,7 @@ pub struct Acknowledged {
 
 impl Host {
     // Hosts the first `count` entries.
-    pub fn start(entries: [Entry; 16], count: usize) -> Started
+    pub fn start(entries: [Entry; ENTRIES], count: usize) -> Started
         ensures { λ r. ⌜ Start entries count r ⌝ }
     {
         let host = Host { entries, count };
@@ -165,13 +169,13 @@ pub fn acknowledge(claim: Claim, requester: u8, code: u8, instance: u8, dgn: u32
     if !claim.keeps_rules() {
         return acknowledgment::bare(Acknowledging::StateBroken);
     }
-    if 253 < requester {
+    if standard::GREATEST_ADDRESS < requester {
         return acknowledgment::bare(Acknowledging::RequesterNotAllowed);
     }
     if !claim.holds_list() {
         return acknowledgment::bare(Acknowledging::ListMalformed);
     }
-    if 0x1FFFF < dgn {
+    if standard::GREATEST_DGN < dgn {
         return acknowledgment::bare(Acknowledging::DgnTooLarge);
     }
     match address::stand(claim) {

@@ -1,4 +1,5 @@
 // The positions of the entries that a frame asks for, in one loop for commands and requests.
+use crate::ENTRIES;
 use crate::Entry;
 use crate::Host;
 use crate::Positions;
@@ -38,7 +39,7 @@ pub fn none() -> Positions
     ensures { λ r. ⌜ r ≡ filled [] ⌝ }
 {
     Positions {
-        at: [0u8; 16],
+        at: [0u8; ENTRIES],
         count: 0,
     }
 }

@@ -9,6 +9,7 @@ use crate::picking;
 use crate::picking::Asked;
 use claim::Claim;
 use frame::Parts;
+use frame::standard;
 ghost use mathlib.Core.Path.{_≡_};
 ghost use mathlib.Core.Bool.{true};
 ghost use Prim.Native.Nat.{_<_, _≤_};
@@ -22,16 +23,19 @@ ghost use Rattle.command.specs.Requests.{requestedDgn, isOurAddress, isO
 ghost use Rattle.command.specs.Promises.{RequestedBy};
 ghost use Rattle.command.specs.Private.{standAt, bareRequested};
 
+// The code of a NAK.
+const NAK: u8 = 1;
+
 // A sound frame.
 pub fn ask(host: Host, claim: Claim, parts: Parts, bytes: [u8; 8]) -> Requested
     requires { ⌜ (isSound claim ≡ true) × (host .count ≤ 16) ⌝ }
     ensures { λ r. ⌜ RequestedBy (askedOf parts bytes (hosted host) claim) r ⌝ }
 {
-    if frame::catalogue_form(parts.dgn) != 0xEA00 {
+    if frame::catalogue_form(parts.dgn) != standard::REQUEST {
         return bare(Requesting::NothingToDo);
     }
     let dgn = dgn_in(bytes);
-    if 0x1FFFF < dgn {
+    if standard::GREATEST_DGN < dgn {
         return bare(Requesting::DgnTooLarge);
     }
     reply(host, claim, (parts.dgn % 256) as u8, parts.source, dgn)
@@ -62,7 +66,7 @@ fn reply(host: Host, claim: Claim, to: u8, source: u8, dgn: u32) -> Requested
     if !is_ours(to, dgn, address) {
         return bare(Requesting::NothingToDo);
     }
-    if dgn == 0xEE00 {
+    if dgn == standard::ADDRESS_CLAIMED {
         return our_claim(claim);
     }
     match address {
@@ -75,7 +79,7 @@ fn reply(host: Host, claim: Claim, to: u8, source: u8, dgn: u32) -> Requested
 fn is_ours(to: u8, dgn: u32, address: Address) -> bool
     ensures { λ r. ⌜ r ≡ isOurs to dgn (standAt address) ⌝ }
 {
-    if to == 0xFF {
+    if to == standard::EVERYONE {
         return true;
     }
     match address {
@@ -89,7 +93,7 @@ fn is_ours(to: u8, dgn: u32, address: Address) -> bool
 fn is_claimed(to: u8, dgn: u32, address: u8) -> bool
     ensures { λ r. ⌜ r ≡ isOurAddress to dgn (claiming address) ⌝ }
 {
-    if dgn != 0xEE00 {
+    if dgn != standard::ADDRESS_CLAIMED {
         return false;
     }
     to == address
@@ -120,20 +124,20 @@ fn status(host: Host, address: u8, to: u8, source: u8, dgn: u32) -> Requested
         return Requested {
             answer: Requesting::Supported,
             positions,
-            id: 0,
+            id: standard::NO_FRAME,
             bytes: [0u8; 8],
         };
     }
-    if to == 0xFF {
+    if to == standard::EVERYONE {
         return bare(Requesting::Unsupported);
     }
-    if source == 254 {
+    if source == standard::NO_ADDRESS {
         return bare(Requesting::Unsupported);
     }
     nak(address, source, dgn)
 }
 
-// The acknowledgment that no entry supports the DGN: code 1, instance FFh.
+// The acknowledgment that no entry supports the DGN, of no instance.
 fn nak(address: u8, source: u8, dgn: u32) -> Requested
     ensures { λ r. ⌜ RequestedBy (gives (nak (acknowledgment address source nakCode unused dgn))) r ⌝ }
 {
@@ -141,7 +145,7 @@ fn nak(address: u8, source: u8, dgn: u32) -> Requested
         answer: Requesting::NakSent,
         positions: picking::none(),
         id: acknowledgment::id_of(address, source),
-        bytes: acknowledgment::bytes_of(source, 1, 0xFF, dgn),
+        bytes: acknowledgment::bytes_of(source, NAK, standard::UNUSED, dgn),
     }
 }
 
@@ -152,7 +156,7 @@ pub fn bare(answer: Requesting) -> Requested
     Requested {
         answer,
         positions: picking::none(),
-        id: 0,
+        id: standard::NO_FRAME,
         bytes: [0u8; 8],
     }
 }
