@@ -46,7 +46,7 @@ abbrev pub blank : Claim
 blank = record { name = 0; list = replicate longestList 0; count = 0; position = 0; wait = 0; silent = false }
 
 abbrev pub toldStarting : Starting → Told Done
-toldStarting Starting.Sent = gives done
+toldStarting Starting.SendClaim = gives done
 toldStarting Starting.ListMalformed = refused 16
 
 unfoldable pub startedOf : List ℕ → Told Done
@@ -63,10 +63,10 @@ pub record Start (name : ℕ) (list : List ℕ) (r : Started) : Type 0 where
 abbrev pub toldHearing : Hearing → Told Outcome
 toldHearing Hearing.NothingToDo = gives nothingToDo
 toldHearing Hearing.OwnName = gives ownName
-toldHearing Hearing.Repeated = gives repeated
-toldHearing Hearing.Moved = gives moved
-toldHearing Hearing.FellSilent = gives fellSilent
-toldHearing Hearing.StateBroken = refused 2
+toldHearing Hearing.SendClaimAgain = gives repeated
+toldHearing Hearing.SendNextClaim = gives moved
+toldHearing Hearing.SendCannotClaim = gives fellSilent
+toldHearing Hearing.BrokenState = refused 2
 toldHearing (Hearing.BadFrame why) = refused (refusalOf why)
 toldHearing Hearing.ListMalformed = refused 16
 
@@ -115,7 +115,7 @@ soundOf c =
 
 abbrev pub toldPausing : Pausing → Told Done
 toldPausing Pausing.Waited = gives done
-toldPausing Pausing.StateBroken = refused 2
+toldPausing Pausing.BrokenState = refused 2
 toldPausing Pausing.ListMalformed = refused 16
 
 pub record Pause (ms : ℕ) (c : Claim) (r : Paused) : Type 0 where
@@ -128,7 +128,7 @@ abbrev pub toldStanding : Standing → Told Stand
 toldStanding (Standing.Held a) = gives (held a)
 toldStanding (Standing.Claiming a) = gives (claiming a)
 toldStanding Standing.Silent = gives silent
-toldStanding Standing.StateBroken = refused 2
+toldStanding Standing.BrokenState = refused 2
 toldStanding Standing.ListMalformed = refused 16
 
 pub record Stands (c : Claim) (r : Standing) : Type 0 where
@@ -137,8 +137,8 @@ pub record Stands (c : Claim) (r : Standing) : Type 0 where
 -- Claim::our_claim
 
 abbrev pub toldSending : Sending → Told Done
-toldSending Sending.Sent = gives done
-toldSending Sending.StateBroken = refused 2
+toldSending Sending.Frame = gives done
+toldSending Sending.BrokenState = refused 2
 toldSending Sending.ListMalformed = refused 16
 
 pub record OurClaim (c : Claim) (r : ClaimFrame) : Type 0 where

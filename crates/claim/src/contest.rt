@@ -18,7 +18,7 @@ pub fn answer_to(claim: Claim, id: u32, bytes: &[u8]) -> Hearing
     ensures { λ r. ⌜ toldHearing r ≡ heardOf id (now (bytes .entry)) claim ⌝ }
 {
     if !claim.keeps_rules() {
-        return Hearing::StateBroken;
+        return Hearing::BrokenState;
     }
     let checked = frame::check(id, bytes);
     let verdict = checked.verdict;
@@ -60,7 +60,7 @@ fn outcome(claim: Claim, source: u8, name: u64) -> Hearing
         return lost(claim);
     }
     if claim.name < name {
-        return Hearing::Repeated;
+        return Hearing::SendClaimAgain;
     }
     Hearing::OwnName
 }
@@ -70,9 +70,9 @@ fn lost(claim: Claim) -> Hearing
     ensures { λ r. ⌜ toldHearing r ≡ gives (lostBy claim) ⌝ }
 {
     if claim.position + 1 < claim.count {
-        return Hearing::Moved;
+        return Hearing::SendNextClaim;
     }
-    Hearing::FellSilent
+    Hearing::SendCannotClaim
 }
 
 // A state whose claim is to be sent with an answer.

@@ -24,9 +24,9 @@ pub struct Claim {
     pub silent: bool,
 }
 
-// Started: our claim is sent; or refusal 16.
+// Started: our claim is to be sent; or refusal 16.
 pub enum Starting {
-    Sent,
+    SendClaim,
     ListMalformed,
 }
 
@@ -44,13 +44,13 @@ pub enum Hearing {
     NothingToDo,
     // A claim at our address with our own NAME.
     OwnName,
-    // A higher NAME: our claim is sent once more.
-    Repeated,
-    // A lower NAME: the next address is claimed.
-    Moved,
-    // A lower NAME, and no address is left: our claim is sent from 254.
-    FellSilent,
-    StateBroken,
+    // A higher NAME: our claim is to be sent once more.
+    SendClaimAgain,
+    // A lower NAME: we go on to the next address, and our claim of it is to be sent.
+    SendNextClaim,
+    // A lower NAME, and no address is left: we are silent, and our claim is to be sent from 254.
+    SendCannotClaim,
+    BrokenState,
     BadFrame(BadFrame),
     ListMalformed,
 }
@@ -66,7 +66,7 @@ pub struct Heard {
 // Waited; or refusal 2, 16.
 pub enum Pausing {
     Waited,
-    StateBroken,
+    BrokenState,
     ListMalformed,
 }
 
@@ -80,14 +80,14 @@ pub enum Standing {
     Held(u8),
     Claiming(u8),
     Silent,
-    StateBroken,
+    BrokenState,
     ListMalformed,
 }
 
-// Our claim is told; or refusal 2, 16.
+// The frame beside is our claim; or refusal 2, 16.
 pub enum Sending {
-    Sent,
-    StateBroken,
+    Frame,
+    BrokenState,
     ListMalformed,
 }
 
@@ -121,7 +121,7 @@ impl Claim {
         };
         Started {
             claim,
-            answer: Starting::Sent,
+            answer: Starting::SendClaim,
             id: state::claim_id(claim),
             bytes: frame::bytes_of(name),
         }
@@ -133,12 +133,12 @@ impl Claim {
     {
         let answer = contest::answer_to(self, id, bytes);
         match answer {
-            Hearing::Repeated => contest::sends(self, answer),
-            Hearing::Moved => contest::sends(state::at_next(self), answer),
-            Hearing::FellSilent => contest::sends(state::fallen(self), answer),
+            Hearing::SendClaimAgain => contest::sends(self, answer),
+            Hearing::SendNextClaim => contest::sends(state::at_next(self), answer),
+            Hearing::SendCannotClaim => contest::sends(state::fallen(self), answer),
             Hearing::NothingToDo => contest::keeps(self, answer),
             Hearing::OwnName => contest::keeps(self, answer),
-            Hearing::StateBroken => contest::keeps(self, answer),
+            Hearing::BrokenState => contest::keeps(self, answer),
             Hearing::BadFrame(_) => contest::keeps(self, answer),
             Hearing::ListMalformed => contest::keeps(self, answer),
         }
@@ -151,7 +151,7 @@ impl Claim {
         if !self.keeps_rules() {
             return Paused {
                 claim: self,
-                answer: Pausing::StateBroken,
+                answer: Pausing::BrokenState,
             };
         }
         if !self.holds_list() {
@@ -171,7 +171,7 @@ impl Claim {
         ensures { λ r. ⌜ Stands self r ⌝ }
     {
         if !self.keeps_rules() {
-            return Standing::StateBroken;
+            return Standing::BrokenState;
         }
         if !self.holds_list() {
             return Standing::ListMalformed;
@@ -185,7 +185,7 @@ impl Claim {
     {
         if !self.keeps_rules() {
             return ClaimFrame {
-                answer: Sending::StateBroken,
+                answer: Sending::BrokenState,
                 id: standard::NO_FRAME,
                 bytes: [0u8; 8],
             };
@@ -198,7 +198,7 @@ impl Claim {
             };
         }
         ClaimFrame {
-            answer: Sending::Sent,
+            answer: Sending::Frame,
             id: state::claim_id(self),
             bytes: frame::bytes_of(self.name),
         }

@@ -184,7 +184,7 @@ fn lose(claim: Claim) -> Claim {
         Standing::Claiming(a) => rival(claim, a, 0),
         Standing::Held(a) => rival(claim, a, 0),
         Standing::Silent => rival(claim, 0x80, 0),
-        Standing::StateBroken => claim,
+        Standing::BrokenState => claim,
         Standing::ListMalformed => claim,
     }
 }
@@ -195,7 +195,7 @@ fn start(name: u64, list: &[u8]) -> Claim {
     let answer = started.answer;
     let bytes = started.bytes;
     match answer {
-        Starting::Sent => sent(b"sent", started.id, bytes),
+        Starting::SendClaim => send(b"send claim", started.id, bytes),
         Starting::ListMalformed => refusal(16),
     }
     started.claim
@@ -217,10 +217,10 @@ fn hear(claim: Claim, id: u32, bytes: &[u8]) -> Claim {
     match answer {
         Hearing::NothingToDo => say(b"nothing to do\n"),
         Hearing::OwnName => say(b"own name\n"),
-        Hearing::Repeated => sent(b"repeated", heard.id, to_send),
-        Hearing::Moved => sent(b"moved", heard.id, to_send),
-        Hearing::FellSilent => sent(b"fell silent", heard.id, to_send),
-        Hearing::StateBroken => refusal(2),
+        Hearing::SendClaimAgain => send(b"send claim again", heard.id, to_send),
+        Hearing::SendNextClaim => send(b"send next claim", heard.id, to_send),
+        Hearing::SendCannotClaim => send(b"send cannot claim", heard.id, to_send),
+        Hearing::BrokenState => refusal(2),
         Hearing::BadFrame(why) => bad_frame(why),
         Hearing::ListMalformed => refusal(16),
     }
@@ -244,7 +244,7 @@ fn pause(claim: Claim, ms: u16) -> Claim {
     let answer = paused.answer;
     match answer {
         Pausing::Waited => say(b"waited\n"),
-        Pausing::StateBroken => refusal(2),
+        Pausing::BrokenState => refusal(2),
         Pausing::ListMalformed => refusal(16),
     }
     paused.claim
@@ -256,7 +256,7 @@ fn stands(claim: Claim) {
         Standing::Held(a) => at(b"held", a),
         Standing::Claiming(a) => at(b"claiming", a),
         Standing::Silent => say(b"silent\n"),
-        Standing::StateBroken => refusal(2),
+        Standing::BrokenState => refusal(2),
         Standing::ListMalformed => refusal(16),
     }
 }
@@ -267,8 +267,8 @@ fn ours(claim: Claim) {
     let answer = ours.answer;
     let bytes = ours.bytes;
     match answer {
-        Sending::Sent => sent(b"sent", ours.id, bytes),
-        Sending::StateBroken => refusal(2),
+        Sending::Frame => send(b"frame", ours.id, bytes),
+        Sending::BrokenState => refusal(2),
         Sending::ListMalformed => refusal(16),
     }
 }
@@ -280,7 +280,7 @@ fn at(text: &[u8], address: u8) {
     say(b"\n");
 }
 
-fn sent(text: &[u8], id: u32, bytes: [u8; 8]) {
+fn send(text: &[u8], id: u32, bytes: [u8; 8]) {
     say(text);
     say(b" id=");
     io::print_hex(STDOUT_FILENO, id as u64, 8);

@@ -129,14 +129,14 @@ supported-requested p ps e =
     record { answer = ap (λ (l : List ℕ). gives (supported l)) (ap listed e ∙ listed-filled ps); positions = e; sent-id = refl; sent-bytes = refl }
 
 module _ (p : Positions) (frame : Frame) (id : ℕ) (bytes : List ℕ) (e : p ≡ filled []) (i : id ≡ frame .id) (b : bytes ≡ frame .bytes) where
-  pub claims-requested : RequestedBy (gives (claims frame)) (record { answer = Requesting.ClaimSent; positions = p; id = id; bytes = bytes })
+  pub claims-requested : RequestedBy (gives (claims frame)) (record { answer = Requesting.SendClaim; positions = p; id = id; bytes = bytes })
   claims-requested = record { answer = λ j. gives (claims (record { id = i j; bytes = b j })); positions = e; sent-id = i; sent-bytes = b }
 
-  pub nak-requested : RequestedBy (gives (nak frame)) (record { answer = Requesting.NakSent; positions = p; id = id; bytes = bytes })
+  pub nak-requested : RequestedBy (gives (nak frame)) (record { answer = Requesting.SendNak; positions = p; id = id; bytes = bytes })
   nak-requested = record { answer = λ j. gives (nak (record { id = i j; bytes = b j })); positions = e; sent-id = i; sent-bytes = b }
 
 pub formed-acknowledged : (frame : Frame) (id : ℕ) (bytes : List ℕ) → id ≡ frame .id → bytes ≡ frame .bytes
-    → AcknowledgedBy (gives frame) (record { answer = Acknowledging.Formed; id = id; bytes = bytes })
+    → AcknowledgedBy (gives frame) (record { answer = Acknowledging.Send; id = id; bytes = bytes })
 formed-acknowledged frame id bytes i b = record { answer = λ j. gives (record { id = i j; bytes = b j }); sent-id = i; sent-bytes = b }
 
 -- a command, step by step

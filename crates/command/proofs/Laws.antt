@@ -61,7 +61,7 @@ routingBack : Told Outcome → Routing
 routingBack (gives Commands.nothingToDo) = Routing.NothingToDo
 routingBack (gives (picks ps)) = Routing.Picked
 routingBack (refused n) =
-    if n =? 2 then Routing.StateBroken else
+    if n =? 2 then Routing.BrokenState else
     if n =? 16 then Routing.ListMalformed else
     if n =? 18 then Routing.NoAddressHeld else
     Routing.BadFrame (frame-laws.badBack n)
@@ -70,7 +70,7 @@ routing-back : (r : Routing) (ps : List ℕ) → routingBack (toldRouting r ps) 
 unfolding routingBack
 routing-back Routing.NothingToDo ps = refl
 routing-back Routing.Picked ps = refl
-routing-back Routing.StateBroken ps = refl
+routing-back Routing.BrokenState ps = refl
 routing-back (Routing.BadFrame IdentifierTooLarge) ps = ap Routing.BadFrame (frame-laws.bad-back IdentifierTooLarge)
 routing-back (Routing.BadFrame NotEightBytes) ps = ap Routing.BadFrame (frame-laws.bad-back NotEightBytes)
 routing-back (Routing.BadFrame ReservedBitSet) ps = ap Routing.BadFrame (frame-laws.bad-back ReservedBitSet)
@@ -83,12 +83,12 @@ told-routing-same r s ps qs e = sym (routing-back r ps) ∙ ap routingBack e ∙
 
 requestingBack : Told Reply → Requesting
 requestingBack (gives Requests.nothingToDo) = Requesting.NothingToDo
-requestingBack (gives (claims f)) = Requesting.ClaimSent
+requestingBack (gives (claims f)) = Requesting.SendClaim
 requestingBack (gives (supported ps)) = Requesting.Supported
-requestingBack (gives (nak f)) = Requesting.NakSent
+requestingBack (gives (nak f)) = Requesting.SendNak
 requestingBack (gives unsupported) = Requesting.Unsupported
 requestingBack (refused n) =
-    if n =? 2 then Requesting.StateBroken else
+    if n =? 2 then Requesting.BrokenState else
     if n =? 16 then Requesting.ListMalformed else
     if n =? 17 then Requesting.DgnTooLarge else
     if n =? 18 then Requesting.NoAddressHeld else
@@ -97,11 +97,11 @@ requestingBack (refused n) =
 requesting-back : (r : Requesting) (ps : List ℕ) (f : Frame) → requestingBack (toldRequesting r ps f) ≡ r
 unfolding requestingBack
 requesting-back Requesting.NothingToDo ps f = refl
-requesting-back Requesting.ClaimSent ps f = refl
+requesting-back Requesting.SendClaim ps f = refl
 requesting-back Requesting.Supported ps f = refl
-requesting-back Requesting.NakSent ps f = refl
+requesting-back Requesting.SendNak ps f = refl
 requesting-back Requesting.Unsupported ps f = refl
-requesting-back Requesting.StateBroken ps f = refl
+requesting-back Requesting.BrokenState ps f = refl
 requesting-back (Requesting.BadFrame IdentifierTooLarge) ps f = ap Requesting.BadFrame (frame-laws.bad-back IdentifierTooLarge)
 requesting-back (Requesting.BadFrame NotEightBytes) ps f = ap Requesting.BadFrame (frame-laws.bad-back NotEightBytes)
 requesting-back (Requesting.BadFrame ReservedBitSet) ps f = ap Requesting.BadFrame (frame-laws.bad-back ReservedBitSet)
@@ -114,9 +114,9 @@ pub told-requesting-same : the.ToldRequestingSame
 told-requesting-same r s ps qs f g e = sym (requesting-back r ps f) ∙ ap requestingBack e ∙ requesting-back s qs g
 
 acknowledgingBack : Told Frame → Acknowledging
-acknowledgingBack (gives f) = Acknowledging.Formed
+acknowledgingBack (gives f) = Acknowledging.Send
 acknowledgingBack (refused n) =
-    if n =? 2 then Acknowledging.StateBroken else
+    if n =? 2 then Acknowledging.BrokenState else
     if n =? 6 then Acknowledging.RequesterNotAllowed else
     if n =? 16 then Acknowledging.ListMalformed else
     if n =? 17 then Acknowledging.DgnTooLarge else
@@ -124,8 +124,8 @@ acknowledgingBack (refused n) =
 
 acknowledging-back : (r : Acknowledging) (f : Frame) → acknowledgingBack (toldAcknowledging r f) ≡ r
 unfolding acknowledgingBack
-acknowledging-back Acknowledging.Formed f = refl
-acknowledging-back Acknowledging.StateBroken f = refl
+acknowledging-back Acknowledging.Send f = refl
+acknowledging-back Acknowledging.BrokenState f = refl
 acknowledging-back Acknowledging.RequesterNotAllowed f = refl
 acknowledging-back Acknowledging.ListMalformed f = refl
 acknowledging-back Acknowledging.DgnTooLarge f = refl

@@ -242,13 +242,13 @@ claims-came to source dgn es c reply frame e unanswered = let z : _≡_ {A = ℕ
 claims-came to source dgn es c reply frame e (denied address s o n t q) = let z : _≡_ {A = ℕ} 0 1 = cc in absurd (omega arith)
 
 -- no other answer has a frame
-unsent : (a : Requesting) (ps : List ℕ) (frame : Frame) → (a ≡ Requesting.NakSent → ⊥) → (a ≡ Requesting.ClaimSent → ⊥) → sentIn (toldRequesting a ps frame) ≡ noFrame
+unsent : (a : Requesting) (ps : List ℕ) (frame : Frame) → (a ≡ Requesting.SendNak → ⊥) → (a ≡ Requesting.SendClaim → ⊥) → sentIn (toldRequesting a ps frame) ≡ noFrame
 unsent Requesting.NothingToDo ps frame n m = refl
-unsent Requesting.ClaimSent ps frame n m = absurd (m refl)
+unsent Requesting.SendClaim ps frame n m = absurd (m refl)
 unsent Requesting.Supported ps frame n m = refl
-unsent Requesting.NakSent ps frame n m = absurd (n refl)
+unsent Requesting.SendNak ps frame n m = absurd (n refl)
 unsent Requesting.Unsupported ps frame n m = refl
-unsent Requesting.StateBroken ps frame n m = refl
+unsent Requesting.BrokenState ps frame n m = refl
 unsent (Requesting.BadFrame why) ps frame n m = refl
 unsent Requesting.ListMalformed ps frame n m = refl
 unsent Requesting.DgnTooLarge ps frame n m = refl

@@ -34,10 +34,10 @@ use Rattle.command.specs.declared.Started.{Started}
 use Rattle.command.specs.declared.Routing.{Routing}
 use Rattle.command.specs.declared.Routed.{Routed}
 use Rattle.command.specs.declared.Requesting.{Requesting}
-use Rattle.command.specs.declared.Requesting.the-variants.{ClaimSent, NakSent}
+use Rattle.command.specs.declared.Requesting.the-variants.{SendClaim, SendNak}
 use Rattle.command.specs.declared.Requested.{Requested}
 use Rattle.command.specs.declared.Acknowledging.{Acknowledging}
-use Rattle.command.specs.declared.Acknowledging.the-variants.{Formed}
+use Rattle.command.specs.declared.Acknowledging.the-variants.{Send}
 use Rattle.command.specs.declared.Acknowledged.{Acknowledged}
 
 -- An answer read in document 01's terms loses nothing.
@@ -256,13 +256,13 @@ NakIsSound =
 abbrev pub RequestSendsOurs : Type 0
 RequestSendsOurs =
     (id : ℕ) (bytes : List ℕ) (h : Host) (c : Claim) (r : Requested) → Request id bytes h c r
-    → (r .answer ≡ NakSent → (address : ℕ) × (standOf c ≡ held address) × (sourceOf (r .id) ≡ address))
-    × (r .answer ≡ ClaimSent → (requestedDgn bytes ≡ addressClaimed) × (sourceOf (r .id) ≡ claimSource c))
-    × ((r .answer ≡ NakSent → ⊥) → (r .answer ≡ ClaimSent → ⊥) → NoFrame (r .id) (r .bytes))
+    → (r .answer ≡ SendNak → (address : ℕ) × (standOf c ≡ held address) × (sourceOf (r .id) ≡ address))
+    × (r .answer ≡ SendClaim → (requestedDgn bytes ≡ addressClaimed) × (sourceOf (r .id) ≡ claimSource c))
+    × ((r .answer ≡ SendNak → ⊥) → (r .answer ≡ SendClaim → ⊥) → NoFrame (r .id) (r .bytes))
 
 abbrev pub AcknowledgeSendsOurs : Type 0
 AcknowledgeSendsOurs =
-    (c : Claim) (requester code instance dgn : ℕ) (r : Acknowledged) → Acknowledge c requester code instance dgn r → r .answer ≡ Formed
+    (c : Claim) (requester code instance dgn : ℕ) (r : Acknowledged) → Acknowledge c requester code instance dgn r → r .answer ≡ Send
     → (address : ℕ) × (standOf c ≡ held address)
     × (checkedOf (r .id) (length (r .bytes)) ≡ gives (record { priority = acknowledgmentPriority; dgn = acknowledgmentDgn + requester; source = address }))
 

@@ -25,7 +25,7 @@ use Rattle.command.specs.declared.picking.Asked.the-variants.{Hosted, Co
 use Rattle.command.specs.declared.address.Address.{Address}
 use Rattle.command.specs.declared.address.Address.the-variants.{Held, Claimed, Nowhere}
 use Rattle.command.specs.declared.handed.Handing.{Handing}
-use Rattle.command.specs.declared.handed.Handing.the-variants.{Sound, StateBroken, BadFrame, ListMalformed}
+use Rattle.command.specs.declared.handed.Handing.the-variants.{Sound, BrokenState, BadFrame, ListMalformed}
 use Rattle.command.specs.declared.handed.Handed.{Handed}
 
 -- the entries that are asked for
@@ -45,7 +45,7 @@ standAt Nowhere = silent
 
 abbrev pub toldHanding : Handing → Told Parts
 toldHanding (Sound parts) = gives parts
-toldHanding StateBroken = refused 2
+toldHanding BrokenState = refused 2
 toldHanding (BadFrame why) = refused (refusalOf why)
 toldHanding ListMalformed = refused 16
 

@@ -50,7 +50,7 @@ Start entries count r = StartedBy (record { entries = entries; count = count }) 
 abbrev pub toldRouting : Routing → List ℕ → Told Outcome
 toldRouting Routing.NothingToDo ps = gives Commands.nothingToDo
 toldRouting Routing.Picked ps = gives (picks ps)
-toldRouting Routing.StateBroken ps = refused 2
+toldRouting Routing.BrokenState ps = refused 2
 toldRouting (Routing.BadFrame why) ps = refused (refusalOf why)
 toldRouting Routing.ListMalformed ps = refused 16
 toldRouting Routing.NoAddressHeld ps = refused 18
@@ -72,11 +72,11 @@ Route id bytes h c r = RoutedBy (routedOf id bytes h c) r
 
 abbrev pub toldRequesting : Requesting → List ℕ → Frame → Told Reply
 toldRequesting Requesting.NothingToDo ps frame = gives Requests.nothingToDo
-toldRequesting Requesting.ClaimSent ps frame = gives (claims frame)
+toldRequesting Requesting.SendClaim ps frame = gives (claims frame)
 toldRequesting Requesting.Supported ps frame = gives (supported ps)
-toldRequesting Requesting.NakSent ps frame = gives (nak frame)
+toldRequesting Requesting.SendNak ps frame = gives (nak frame)
 toldRequesting Requesting.Unsupported ps frame = gives unsupported
-toldRequesting Requesting.StateBroken ps frame = refused 2
+toldRequesting Requesting.BrokenState ps frame = refused 2
 toldRequesting (Requesting.BadFrame why) ps frame = refused (refusalOf why)
 toldRequesting Requesting.ListMalformed ps frame = refused 16
 toldRequesting Requesting.DgnTooLarge ps frame = refused 17
@@ -111,8 +111,8 @@ Request id bytes h c r = RequestedBy (requestedOf id bytes h c) r
 -- acknowledge: an answer, and the frame that stands beside it
 
 abbrev pub toldAcknowledging : Acknowledging → Frame → Told Frame
-toldAcknowledging Acknowledging.Formed frame = gives frame
-toldAcknowledging Acknowledging.StateBroken frame = refused 2
+toldAcknowledging Acknowledging.Send frame = gives frame
+toldAcknowledging Acknowledging.BrokenState frame = refused 2
 toldAcknowledging Acknowledging.RequesterNotAllowed frame = refused 6
 toldAcknowledging Acknowledging.ListMalformed frame = refused 16
 toldAcknowledging Acknowledging.DgnTooLarge frame = refused 17

@@ -56,7 +56,7 @@ pub enum Routing {
     NothingToDo,
     // The command is for the positions beside, which may be none.
     Picked,
-    StateBroken,
+    BrokenState,
     BadFrame(BadFrame),
     ListMalformed,
     NoAddressHeld,
@@ -71,15 +71,15 @@ pub struct Routed {
 pub enum Requesting {
     // No request, or not for us.
     NothingToDo,
-    // Our claim is sent.
-    ClaimSent,
+    // Our claim is to be sent.
+    SendClaim,
     // The positions beside support the DGN, and each answers with its status.
     Supported,
-    // No entry supports the DGN: a NAK is sent.
-    NakSent,
-    // No entry supports the DGN, and nothing is sent: the request is global, or from a node without an address.
+    // No entry supports the DGN: a NAK is to be sent.
+    SendNak,
+    // No entry supports the DGN, and nothing is to be sent: the request is global, or from a node without an address.
     Unsupported,
-    StateBroken,
+    BrokenState,
     BadFrame(BadFrame),
     ListMalformed,
     DgnTooLarge,
@@ -94,10 +94,10 @@ pub struct Requested {
     pub bytes: [u8; 8],
 }
 
-// An acknowledgment is formed; or refusal 2, 6, 16, 17, 18.
+// The acknowledgment beside is to be sent; or refusal 2, 6, 16, 17, 18.
 pub enum Acknowledging {
-    Formed,
-    StateBroken,
+    Send,
+    BrokenState,
     RequesterNotAllowed,
     ListMalformed,
     DgnTooLarge,
@@ -137,7 +137,7 @@ impl Host {
         let answer = handed.answer;
         let eight = handed.bytes;
         match answer {
-            Handing::StateBroken => commands::bare(Routing::StateBroken),
+            Handing::BrokenState => commands::bare(Routing::BrokenState),
             Handing::BadFrame(why) => commands::bare(Routing::BadFrame(why)),
             Handing::ListMalformed => commands::bare(Routing::ListMalformed),
             Handing::Sound(parts) => {
@@ -154,7 +154,7 @@ impl Host {
         let answer = handed.answer;
         let eight = handed.bytes;
         match answer {
-            Handing::StateBroken => requests::bare(Requesting::StateBroken),
+            Handing::BrokenState => requests::bare(Requesting::BrokenState),
             Handing::BadFrame(why) => requests::bare(Requesting::BadFrame(why)),
             Handing::ListMalformed => requests::bare(Requesting::ListMalformed),
             Handing::Sound(parts) => requests::ask(self, claim, parts, eight),
@@ -167,7 +167,7 @@ pub fn acknowledge(claim: Claim, requester: u8, code: u8, instance: u8, dgn: u32
     ensures { λ r. ⌜ Acknowledge claim requester code instance dgn r ⌝ }
 {
     if !claim.keeps_rules() {
-        return acknowledgment::bare(Acknowledging::StateBroken);
+        return acknowledgment::bare(Acknowledging::BrokenState);
     }
     if standard::GREATEST_ADDRESS < requester {
         return acknowledgment::bare(Acknowledging::RequesterNotAllowed);
@@ -180,7 +180,7 @@ pub fn acknowledge(claim: Claim, requester: u8, code: u8, instance: u8, dgn: u32
     }
     match address::stand(claim) {
         Address::Held(from) => Acknowledged {
-            answer: Acknowledging::Formed,
+            answer: Acknowledging::Send,
             id: acknowledgment::id_of(from, requester),
             bytes: acknowledgment::bytes_of(requester, code, instance, dgn),
         },

@@ -107,7 +107,7 @@ fn our_claim(claim: Claim) -> Requested
     let ours = claim.our_claim();
     let bytes = ours.bytes;
     Requested {
-        answer: Requesting::ClaimSent,
+        answer: Requesting::SendClaim,
         positions: picking::none(),
         id: ours.id,
         bytes,
@@ -142,7 +142,7 @@ fn nak(address: u8, source: u8, dgn: u32) -> Requested
     ensures { λ r. ⌜ RequestedBy (gives (nak (acknowledgment address source nakCode unused dgn))) r ⌝ }
 {
     Requested {
-        answer: Requesting::NakSent,
+        answer: Requesting::SendNak,
         positions: picking::none(),
         id: acknowledgment::id_of(address, source),
         bytes: acknowledgment::bytes_of(source, NAK, standard::UNUSED, dgn),

@@ -313,7 +313,7 @@ fn routed(host: Host, claim: Claim, id: u32, bytes: &[u8]) {
     match answer {
         Routing::NothingToDo => say(b" nothing to do\n"),
         Routing::Picked => positions(routed.positions),
-        Routing::StateBroken => refusal(2),
+        Routing::BrokenState => refusal(2),
         Routing::BadFrame(why) => bad_frame(why),
         Routing::ListMalformed => refusal(16),
         Routing::NoAddressHeld => refusal(18),
@@ -347,11 +347,11 @@ fn requested(host: Host, claim: Claim, id: u32, bytes: &[u8]) {
     let to_send = requested.bytes;
     match answer {
         Requesting::NothingToDo => say(b" nothing to do\n"),
-        Requesting::ClaimSent => sent(b" our claim", requested.id, to_send),
+        Requesting::SendClaim => send(b" send claim", requested.id, to_send),
         Requesting::Supported => positions(requested.positions),
-        Requesting::NakSent => sent(b" NAK", requested.id, to_send),
+        Requesting::SendNak => send(b" send NAK", requested.id, to_send),
         Requesting::Unsupported => say(b" unsupported\n"),
-        Requesting::StateBroken => refusal(2),
+        Requesting::BrokenState => refusal(2),
         Requesting::BadFrame(why) => bad_frame(why),
         Requesting::ListMalformed => refusal(16),
         Requesting::DgnTooLarge => refusal(17),
@@ -378,8 +378,8 @@ fn acknowledge(claim: Claim, requester: u8, code: u8, instance: u8, dgn: u32) {
     let answer = formed.answer;
     let bytes = formed.bytes;
     match answer {
-        Acknowledging::Formed => sent(b" formed", formed.id, bytes),
-        Acknowledging::StateBroken => refusal(2),
+        Acknowledging::Send => send(b" send", formed.id, bytes),
+        Acknowledging::BrokenState => refusal(2),
         Acknowledging::RequesterNotAllowed => refusal(6),
         Acknowledging::ListMalformed => refusal(16),
         Acknowledging::DgnTooLarge => refusal(17),
@@ -418,7 +418,7 @@ fn position(at: u8, i: usize, count: usize) {
     io::print_decimal(STDOUT_FILENO, at as u64);
 }
 
-fn sent(text: &[u8], id: u32, bytes: [u8; 8]) {
+fn send(text: &[u8], id: u32, bytes: [u8; 8]) {
     say(text);
     say(b" id=");
     io::print_hex(STDOUT_FILENO, id as u64, 8);

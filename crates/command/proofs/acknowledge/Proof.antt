@@ -5,7 +5,7 @@ use borrow.Author.Needs.{needs}
 use Rattle.command.specs.Acknowledgment.{acknowledgment}
 use Rattle.command.specs.declared.address.Address.{Address}
 use Rattle.claim.proofs.Calls.{sound-well}
-use Rattle.command.specs.declared.Acknowledging.the-variants.{StateBroken, RequesterNotAllowed, ListMalformed, DgnTooLarge, NoAddressHeld}
+use Rattle.command.specs.declared.Acknowledging.the-variants.{BrokenState, RequesterNotAllowed, ListMalformed, DgnTooLarge, NoAddressHeld}
 use Rattle.command.specs.Private.{standAt}
 use Rattle.command.specs.Handed.{addressHeld}
 use Rattle.frame.specs.Words.{refused}
@@ -22,7 +22,7 @@ bare-requires c κs = search needs
 returns : tie.Need-returns
 returns c =
     let k = sym (c .before .before .keeps-rules .ensures .answer) ∙ not-true _ (c .before .if1 .taken) in
-    rw (acknowledged-broken _ _ _ _ _ k) (bare-acknowledged (refused 2) StateBroken _ refl refl (c .bare .ensures))
+    rw (acknowledged-broken _ _ _ _ _ k) (bare-acknowledged (refused 2) BrokenState _ refl refl (c .bare .ensures))
 
 bare-requires-2 : tie.Need-bare-requires-2
 bare-requires-2 c κs = search needs

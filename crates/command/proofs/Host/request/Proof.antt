@@ -47,8 +47,8 @@ returns : tie.Need-returns
 returns c =
     let i = c .before .before .before .before in
     let a = i .before .before .args in
-    let n = handing-refused (a .id) (a .bytes .now) (a .self) (a .claim) _ (i .hand-in .ensures) Handing.StateBroken 2 (c .before .enum-told .given .1) refl in
-    rw (requested-refused (a .id) (a .bytes .now) (a .self) (a .claim) 2 n) (bare-requested (refused 2) Requesting.StateBroken _ refl refl refl (c .bare .ensures))
+    let n = handing-refused (a .id) (a .bytes .now) (a .self) (a .claim) _ (i .hand-in .ensures) Handing.BrokenState 2 (c .before .enum-told .given .1) refl in
+    rw (requested-refused (a .id) (a .bytes .now) (a .self) (a .claim) 2 n) (bare-requested (refused 2) Requesting.BrokenState _ refl refl refl (c .bare .ensures))
 
 returns-2 : tie.Need-returns-2
 returns-2 c =
