@@ -350,7 +350,7 @@ hear-sends-ours id bytes c r p e =
     let s : isSentTold (heardOf id bytes c) ≡ true = ap isSentTold (sym (p .answer)) ∙ e in
     let n = node-told (heardOf id bytes c) c in (
       (p .sent-id ∙ rw s (ap claimId (sym (p .state))), p .sent-bytes ∙ rw s (ap claimBytes (sym (p .state)))),
-      record { name = ap (λ (d : Claim). d .name) (p .state) ∙ n .name; list = ap (λ (d : Claim). d .list) (p .state) ∙ n .list; count = ap (λ (d : Claim). d .count) (p .state) ∙ n .count },
+      record { name = ap (λ (d : Claim). d .name) (p .state) ∙ n .name; list = ap (λ (d : Claim). d .list) (p .state) ∙ n .list; candidates = ap (λ (d : Claim). d .candidates) (p .state) ∙ n .candidates },
     )
 
 pub hear-sends-nothing : the.HearSendsNothing

@@ -128,7 +128,7 @@ RunSound = (c : Claim) (es : List Event) → isSound c ≡ true → isSound (run
 pub record SameNode (d c : Claim) : Type 0 where
   pub name : d .name ≡ c .name
   pub list : d .list ≡ c .list
-  pub count : d .count ≡ c .count
+  pub candidates : d .candidates ≡ c .candidates
 
 abbrev pub NodeStays : Type 0
 NodeStays = (c : Claim) (es : List Event) → SameNode (run c es) c

@@ -43,7 +43,7 @@ bytesIf sent c = if sent then claimBytes c else noFrame .bytes
 
 -- the all-zero state, beside a refused start
 abbrev pub blank : Claim
-blank = record { name = 0; list = replicate longestList 0; count = 0; position = 0; wait = 0; silent = false }
+blank = record { name = 0; list = replicate longestList 0; candidates = 0; position = 0; wait = 0; silent = false }
 
 abbrev pub toldStarting : Starting → Told Done
 toldStarting Starting.SendClaim = gives done

@@ -31,7 +31,7 @@ pub fn answer_to(claim: Claim, id: u32, bytes: &[u8]) -> Hearing
 
 // A sound frame, heard by a state that keeps its rules.
 fn meet(claim: Claim, parts: Parts, bytes: [u8; 8]) -> Hearing
-    requires { ⌜ claim .position < claim .count ⌝ }
+    requires { ⌜ claim .position < claim .candidates ⌝ }
     ensures { λ r. ⌜ toldHearing r ≡ metOf parts bytes claim ⌝ }
 {
     if !claim.holds_list() {
@@ -69,7 +69,7 @@ fn lost(claim: Claim) -> Hearing
     requires { ⌜ claim .position < 16 ⌝ }
     ensures { λ r. ⌜ toldHearing r ≡ gives (lostBy claim) ⌝ }
 {
-    if claim.position + 1 < claim.count {
+    if claim.position + 1 < claim.candidates {
         return Hearing::SendNextClaim;
     }
     Hearing::SendCannotClaim

@@ -13,12 +13,12 @@ pub const CANDIDATES: usize = 16;
 // An address is held after 250 ms.
 pub const HELD_AFTER: u16 = 250;
 
-// A claim's state: the NAME, the candidate list (`count` addresses, then zeros), the position in it of the address that is claimed or held, the
-// milliseconds waited there, up to 250, and whether all addresses are lost.
+// A claim's state: the NAME, the candidate list (`candidates` addresses, then zeros), the position in it of the address
+// that is claimed or held, the milliseconds waited there, up to 250, and whether all addresses are lost.
 pub struct Claim {
     pub name: u64,
     pub list: [u8; CANDIDATES],
-    pub count: usize,
+    pub candidates: usize,
     pub position: usize,
     pub wait: u16,
     pub silent: bool,
@@ -114,7 +114,7 @@ impl Claim {
         let claim = Claim {
             name,
             list: list::filled(list),
-            count: list.len(),
+            candidates: list.len(),
             position: 0,
             wait: 0,
             silent: false,
@@ -208,7 +208,7 @@ impl Claim {
     pub fn keeps_rules(self) -> bool
         ensures { λ r. ⌜ KeepsRules self r ⌝ }
     {
-        if self.count <= self.position {
+        if self.candidates <= self.position {
             return false;
         }
         if HELD_AFTER < self.wait {
@@ -227,11 +227,11 @@ impl Claim {
     pub fn holds_list(self) -> bool
         ensures { λ r. ⌜ HoldsList self r ⌝ }
     {
-        let count = self.count;
-        if CANDIDATES < count {
+        let candidates = self.candidates;
+        if CANDIDATES < candidates {
             return false;
         }
         let list = self.list;
-        list::well_formed(&list[0..count])
+        list::well_formed(&list[0..candidates])
     }
 }

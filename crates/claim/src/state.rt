@@ -20,7 +20,7 @@ pub fn blank() -> Claim
     Claim {
         name: 0,
         list: [0u8; CANDIDATES],
-        count: 0,
+        candidates: 0,
         position: 0,
         wait: 0,
         silent: false,
@@ -58,13 +58,13 @@ pub fn waited(claim: Claim, ms: u16) -> Claim
 
 // The same NAME and list, elsewhere.
 fn placed(claim: Claim, position: usize, wait: u16, silent: bool) -> Claim
-    ensures { λ r. ⌜ r ≡ record { name = claim .name; list = claim .list; count = claim .count; position = position; wait = wait; silent = silent } ⌝ }
+    ensures { λ r. ⌜ r ≡ record { name = claim .name; list = claim .list; candidates = claim .candidates; position = position; wait = wait; silent = silent } ⌝ }
 {
     let list = claim.list;
     Claim {
         name: claim.name,
         list,
-        count: claim.count,
+        candidates: claim.candidates,
         position,
         wait,
         silent,

@@ -140,7 +140,7 @@ fn refused() {
     hear(sound, 0x1AEEFF81, &bytes);
     hear(sound, 0x18EEFFFF, &bytes);
     hear(sound, 0x18EBFFFE, &bytes);
-    // 16: the third address repeats the first; a count of 17
+    // 16: the third address repeats the first; 17 candidates
     let malformed = state(3, 1, 0, false);
     hear(malformed, 0x18EEFF81, &bytes);
     hear(state(17, 1, 0, false), 0x18EEFF81, &bytes);
@@ -157,11 +157,11 @@ fn refused() {
 }
 
 // A state handed in: the list begins 80h, 81h, 80h.
-fn state(count: usize, position: usize, wait: u16, silent: bool) -> Claim {
+fn state(candidates: usize, position: usize, wait: u16, silent: bool) -> Claim {
     Claim {
         name: OURS,
         list: [0x80u8, 0x81, 0x80, 0, 0, 0, 0, 0, 0, 0, 0, 0, 0, 0, 0, 0],
-        count,
+        candidates,
         position,
         wait,
         silent,

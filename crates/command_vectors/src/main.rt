@@ -223,7 +223,7 @@ fn state(wait: u16, silent: bool) -> Claim {
     Claim {
         name: NAME,
         list: [0x9Cu8, 0, 0, 0, 0, 0, 0, 0, 0, 0, 0, 0, 0, 0, 0, 0],
-        count: 1,
+        candidates: 1,
         position: 0,
         wait,
         silent,
@@ -235,7 +235,7 @@ fn malformed() -> Claim {
     Claim {
         name: NAME,
         list: [0x9Cu8, 0x9C, 0, 0, 0, 0, 0, 0, 0, 0, 0, 0, 0, 0, 0, 0],
-        count: 2,
+        candidates: 2,
         position: 0,
         wait: HELD,
         silent: false,

@@ -124,7 +124,7 @@ eightSenders =
 
 -- a node that holds 9Ch
 abbrev pub holding9C : Claim
-holding9C = record { name = 1; list = 0x9C ∷ replicate 15 0; count = 1; position = 0; wait = 250; silent = false }
+holding9C = record { name = 1; list = 0x9C ∷ replicate 15 0; candidates = 1; position = 0; wait = 250; silent = false }
 
 -- The lines, each by a name.
 
