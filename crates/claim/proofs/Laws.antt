@@ -166,6 +166,21 @@ keeps-rules-only c r s p q = p .answer ∙ sym (q .answer)
 pub holds-list-only : the.HoldsListOnly
 holds-list-only c r s p q = p .answer ∙ sym (q .answer)
 
+pub starting-refusal-only : the.StartingRefusalOnly
+starting-refusal-only answer r s p q = p .number ∙ sym (q .number)
+
+pub hearing-refusal-only : the.HearingRefusalOnly
+hearing-refusal-only answer r s p q = p .number ∙ sym (q .number)
+
+pub pausing-refusal-only : the.PausingRefusalOnly
+pausing-refusal-only answer r s p q = p .number ∙ sym (q .number)
+
+pub standing-refusal-only : the.StandingRefusalOnly
+standing-refusal-only answer r s p q = p .number ∙ sym (q .number)
+
+pub sending-refusal-only : the.SendingRefusalOnly
+sending-refusal-only answer r s p q = p .number ∙ sym (q .number)
+
 -- a refusal keeps
 
 pub start-refused-keeps : the.StartRefusedKeeps

@@ -4,7 +4,7 @@ use mathlib.Core.Bool.{Bool, false, not}
 use mathlib.Core.List.{List}
 use Prim.Native.Nat.{ℕ}
 use lib.ListN.{length, replicate}
-use Rattle.frame.specs.Words.{if_then_else_, _=?_, _and_, Told, refused, gives, given_then_}
+use Rattle.frame.specs.Words.{if_then_else_, _=?_, _and_, Told, refused, gives, numberIn, given_then_}
 use Rattle.frame.specs.Bytes.{numberOf}
 use Rattle.frame.specs.Frame.{checkedOf}
 use Rattle.frame.specs.Standard.{claimDgn, noFrame}
@@ -58,6 +58,9 @@ pub record Start (name : ℕ) (list : List ℕ) (r : Started) : Type 0 where
   pub sent-id : r .id ≡ idIf (isWellFormed list) (begun name list)
   pub sent-bytes : r .bytes ≡ bytesIf (isWellFormed list) (begun name list)
 
+pub record StartingRefusal (answer : Starting) (r : ℕ) : Type 0 where
+  pub number : r ≡ numberIn (toldStarting answer)
+
 -- Claim::hear
 
 abbrev pub toldHearing : Hearing → Told Outcome
@@ -100,6 +103,9 @@ pub record Hear (id : ℕ) (bytes : List ℕ) (c : Claim) (r : Heard) : Type 0 w
   pub sent-id : r .id ≡ idIf (isSentTold (heardOf id bytes c)) (afterTold (heardOf id bytes c) c)
   pub sent-bytes : r .bytes ≡ bytesIf (isSentTold (heardOf id bytes c)) (afterTold (heardOf id bytes c) c)
 
+pub record HearingRefusal (answer : Hearing) (r : ℕ) : Type 0 where
+  pub number : r ≡ numberIn (toldHearing answer)
+
 -- a state handed in with no frame: 2, then 16
 
 abbrev pub isSound : Claim → Bool
@@ -122,6 +128,9 @@ pub record Pause (ms : ℕ) (c : Claim) (r : Paused) : Type 0 where
   pub answer : toldPausing (r .answer) ≡ soundOf c
   pub state : r .claim ≡ (if isSound c then pause ms c else c)
 
+pub record PausingRefusal (answer : Pausing) (r : ℕ) : Type 0 where
+  pub number : r ≡ numberIn (toldPausing answer)
+
 -- Claim::stands
 
 abbrev pub toldStanding : Standing → Told Stand
@@ -134,6 +143,9 @@ toldStanding Standing.ListMalformed = refused 16
 pub record Stands (c : Claim) (r : Standing) : Type 0 where
   pub answer : toldStanding r ≡ (given soundOf c then λ _. gives (standOf c))
 
+pub record StandingRefusal (answer : Standing) (r : ℕ) : Type 0 where
+  pub number : r ≡ numberIn (toldStanding answer)
+
 -- Claim::our_claim
 
 abbrev pub toldSending : Sending → Told Done
@@ -145,6 +157,9 @@ pub record OurClaim (c : Claim) (r : ClaimFrame) : Type 0 where
   pub answer : toldSending (r .answer) ≡ soundOf c
   pub sent-id : r .id ≡ idIf (isSound c) c
   pub sent-bytes : r .bytes ≡ bytesIf (isSound c) c
+
+pub record SendingRefusal (answer : Sending) (r : ℕ) : Type 0 where
+  pub number : r ≡ numberIn (toldSending answer)
 
 -- Claim::keeps_rules and Claim::holds_list
 

@@ -1,7 +1,7 @@
 // Claiming an address: the candidate list, the contest of NAMEs, the wait until an address is held (document 01, "Claiming an address").
 use frame::BadFrame;
 use frame::standard;
-ghost use Rattle.claim.specs.Promises.{Start, Hear, Pause, Stands, OurClaim, KeepsRules, HoldsList};
+ghost use Rattle.claim.specs.Promises.{Start, Hear, Pause, Stands, OurClaim, KeepsRules, HoldsList, StartingRefusal, HearingRefusal, PausingRefusal, StandingRefusal, SendingRefusal};
 
 mod contest;
 mod list;
@@ -96,6 +96,82 @@ pub struct ClaimFrame {
     pub answer: Sending,
     pub id: u32,
     pub bytes: [u8; 8],
+}
+
+impl Starting {
+    // The number of the refusal; 0 where our claim is to be sent.
+    pub fn refusal(self) -> u8
+        ensures { λ r. ⌜ StartingRefusal self r ⌝ }
+    {
+        let answer = self;
+        match answer {
+            Starting::SendClaim => 0,
+            Starting::ListMalformed => 16,
+        }
+    }
+}
+
+impl Hearing {
+    // The number of the refusal; 0 where the frame is heard.
+    pub fn refusal(self) -> u8
+        ensures { λ r. ⌜ HearingRefusal self r ⌝ }
+    {
+        let answer = self;
+        match answer {
+            Hearing::NothingToDo => 0,
+            Hearing::OwnName => 0,
+            Hearing::SendClaimAgain => 0,
+            Hearing::SendNextClaim => 0,
+            Hearing::SendCannotClaim => 0,
+            Hearing::BrokenState => 2,
+            Hearing::BadFrame(why) => why.refusal(),
+            Hearing::ListMalformed => 16,
+        }
+    }
+}
+
+impl Pausing {
+    // The number of the refusal; 0 where the claim has waited.
+    pub fn refusal(self) -> u8
+        ensures { λ r. ⌜ PausingRefusal self r ⌝ }
+    {
+        let answer = self;
+        match answer {
+            Pausing::Waited => 0,
+            Pausing::BrokenState => 2,
+            Pausing::ListMalformed => 16,
+        }
+    }
+}
+
+impl Standing {
+    // The number of the refusal; 0 where it is told where the claim stands.
+    pub fn refusal(self) -> u8
+        ensures { λ r. ⌜ StandingRefusal self r ⌝ }
+    {
+        let answer = self;
+        match answer {
+            Standing::Held(_) => 0,
+            Standing::Claiming(_) => 0,
+            Standing::Silent => 0,
+            Standing::BrokenState => 2,
+            Standing::ListMalformed => 16,
+        }
+    }
+}
+
+impl Sending {
+    // The number of the refusal; 0 where the frame is told.
+    pub fn refusal(self) -> u8
+        ensures { λ r. ⌜ SendingRefusal self r ⌝ }
+    {
+        let answer = self;
+        match answer {
+            Sending::Frame => 0,
+            Sending::BrokenState => 2,
+            Sending::ListMalformed => 16,
+        }
+    }
 }
 
 impl Claim {

@@ -163,6 +163,48 @@ acknowledge-only c requester code instance dgn r s p q =
     let b = p .sent-bytes ∙ sym (q .sent-bytes) in
     λ i. record { answer = a i; id = d i; bytes = b i }
 
+pub starting-refusal-only : the.StartingRefusalOnly
+starting-refusal-only answer r s p q = p .number ∙ sym (q .number)
+
+pub routing-refusal-only : the.RoutingRefusalOnly
+routing-refusal-only answer r s p q = p .number ∙ sym (q .number)
+
+pub requesting-refusal-only : the.RequestingRefusalOnly
+requesting-refusal-only answer r s p q = p .number ∙ sym (q .number)
+
+pub acknowledging-refusal-only : the.AcknowledgingRefusalOnly
+acknowledging-refusal-only answer r s p q = p .number ∙ sym (q .number)
+
+-- the number of a refusal is the same whatever stands beside
+
+pub routing-refusal-any : the.RoutingRefusalAny
+routing-refusal-any Routing.NothingToDo r ps p = p .number
+routing-refusal-any Routing.Picked r ps p = p .number
+routing-refusal-any Routing.BrokenState r ps p = p .number
+routing-refusal-any (Routing.BadFrame why) r ps p = p .number
+routing-refusal-any Routing.ListMalformed r ps p = p .number
+routing-refusal-any Routing.NoAddressHeld r ps p = p .number
+
+pub requesting-refusal-any : the.RequestingRefusalAny
+requesting-refusal-any Requesting.NothingToDo r ps frame p = p .number
+requesting-refusal-any Requesting.SendClaim r ps frame p = p .number
+requesting-refusal-any Requesting.Supported r ps frame p = p .number
+requesting-refusal-any Requesting.SendNak r ps frame p = p .number
+requesting-refusal-any Requesting.Unsupported r ps frame p = p .number
+requesting-refusal-any Requesting.BrokenState r ps frame p = p .number
+requesting-refusal-any (Requesting.BadFrame why) r ps frame p = p .number
+requesting-refusal-any Requesting.ListMalformed r ps frame p = p .number
+requesting-refusal-any Requesting.DgnTooLarge r ps frame p = p .number
+requesting-refusal-any Requesting.NoAddressHeld r ps frame p = p .number
+
+pub acknowledging-refusal-any : the.AcknowledgingRefusalAny
+acknowledging-refusal-any Acknowledging.Send r frame p = p .number
+acknowledging-refusal-any Acknowledging.BrokenState r frame p = p .number
+acknowledging-refusal-any Acknowledging.RequesterNotAllowed r frame p = p .number
+acknowledging-refusal-any Acknowledging.ListMalformed r frame p = p .number
+acknowledging-refusal-any Acknowledging.DgnTooLarge r frame p = p .number
+acknowledging-refusal-any Acknowledging.NoAddressHeld r frame p = p .number
+
 -- a refusal keeps
 
 pub start-refused-keeps : the.StartRefusedKeeps

@@ -6,7 +6,7 @@ use mathlib.Core.List.{List, [], _∷_}
 use mathlib.Core.Logic.{_↔_}
 use Prim.Native.Nat.{ℕ, _+_, _≤_, _<_, _%_, _^_}
 use lib.ListN.{length, take, getD}
-use Rattle.frame.specs.Words.{refused, gives}
+use Rattle.frame.specs.Words.{refused, gives, numberIn}
 use Rattle.frame.specs.Identifier.{identifiers, greatestDgn, dgnOf, sourceOf, isAddressed, destinationOf, catalogueForm}
 use Rattle.frame.specs.Frame.{checkedOf}
 use Rattle.frame.specs.Standard.{Frame, acknowledgmentDgn, addressClaimed, everyone, greatestAddress, requestDgn}
@@ -26,7 +26,7 @@ use Rattle.command.specs.Commands.{hasCommand, isMeant, picks, routedOf}
 use Rattle.command.specs.Acknowledgment.{acknowledgmentPriority, acknowledgedOf}
 use Rattle.command.specs.Requests as Requests
 use Rattle.command.specs.Requests.{requestedDgn, supports, supported, nak, unsupported, replyOf, requestedOf}
-use Rattle.command.specs.Promises.{Start, Route, Request, Acknowledge, toldStarting, toldRouting, toldRequesting, toldAcknowledging}
+use Rattle.command.specs.Promises.{Start, Route, Request, Acknowledge, StartingRefusal, RoutingRefusal, RequestingRefusal, AcknowledgingRefusal, toldStarting, toldRouting, toldRequesting, toldAcknowledging}
 use Rattle.command.specs.declared.Entry.{Entry}
 use Rattle.command.specs.declared.Host.{Host}
 use Rattle.command.specs.declared.Starting.{Starting}
@@ -69,6 +69,34 @@ abbrev pub AcknowledgeOnly : Type 0
 AcknowledgeOnly =
     (c : Claim) (requester code instance dgn : ℕ) (r s : Acknowledged)
     → Acknowledge c requester code instance dgn r → Acknowledge c requester code instance dgn s → r ≡ s
+
+abbrev pub StartingRefusalOnly : Type 0
+StartingRefusalOnly = (answer : Starting) (r s : ℕ) → StartingRefusal answer r → StartingRefusal answer s → r ≡ s
+
+abbrev pub RoutingRefusalOnly : Type 0
+RoutingRefusalOnly = (answer : Routing) (r s : ℕ) → RoutingRefusal answer r → RoutingRefusal answer s → r ≡ s
+
+abbrev pub RequestingRefusalOnly : Type 0
+RequestingRefusalOnly = (answer : Requesting) (r s : ℕ) → RequestingRefusal answer r → RequestingRefusal answer s → r ≡ s
+
+abbrev pub AcknowledgingRefusalOnly : Type 0
+AcknowledgingRefusalOnly = (answer : Acknowledging) (r s : ℕ) → AcknowledgingRefusal answer r → AcknowledgingRefusal answer s → r ≡ s
+
+-- The number of a refusal is the answer's alone: it is the same whatever positions and frame stand beside.
+
+abbrev pub RoutingRefusalAny : Type 0
+RoutingRefusalAny =
+    (answer : Routing) (r : ℕ) (ps : List ℕ) → RoutingRefusal answer r → r ≡ numberIn (toldRouting answer ps)
+
+abbrev pub RequestingRefusalAny : Type 0
+RequestingRefusalAny =
+    (answer : Requesting) (r : ℕ) (ps : List ℕ) (frame : Frame) → RequestingRefusal answer r
+    → r ≡ numberIn (toldRequesting answer ps frame)
+
+abbrev pub AcknowledgingRefusalAny : Type 0
+AcknowledgingRefusalAny =
+    (answer : Acknowledging) (r : ℕ) (frame : Frame) → AcknowledgingRefusal answer r
+    → r ≡ numberIn (toldAcknowledging answer frame)
 
 -- A refusal returns its number and nothing else: no positions and no frame stand beside it. Host and claim are handed in by value, and stay.
 

@@ -2,7 +2,7 @@
 use mathlib.Core.Path.{_≡_}
 use mathlib.Core.List.{List, []}
 use Prim.Native.Nat.{ℕ}
-use Rattle.frame.specs.Words.{if_then_else_, Told, refused, gives}
+use Rattle.frame.specs.Words.{if_then_else_, Told, refused, gives, numberIn}
 use Rattle.frame.specs.Standard.{Frame, noFrame}
 use Rattle.frame.specs.Promises.{refusalOf}
 use Rattle.claim.specs.Promises.{Done, done}
@@ -45,6 +45,9 @@ pub record StartedBy (h : Host) (r : Started) : Type 0 where
 abbrev pub Start : List Entry → ℕ → Started → Type 0
 Start entries count r = StartedBy (record { entries = entries; count = count }) r
 
+pub record StartingRefusal (answer : Starting) (r : ℕ) : Type 0 where
+  pub number : r ≡ numberIn (toldStarting answer)
+
 -- Host::route: an answer, and the positions that stand beside it
 
 abbrev pub toldRouting : Routing → List ℕ → Told Outcome
@@ -67,6 +70,10 @@ pub record RoutedBy (told : Told Outcome) (r : Routed) : Type 0 where
 
 abbrev pub Route : ℕ → List ℕ → Host → Claim → Routed → Type 0
 Route id bytes h c r = RoutedBy (routedOf id bytes h c) r
+
+-- the number is the same whatever positions stand beside the answer
+pub record RoutingRefusal (answer : Routing) (r : ℕ) : Type 0 where
+  pub number : r ≡ numberIn (toldRouting answer [])
 
 -- Host::request: an answer, the positions and the frame that stand beside it
 
@@ -108,6 +115,10 @@ pub record RequestedBy (told : Told Reply) (r : Requested) : Type 0 where
 abbrev pub Request : ℕ → List ℕ → Host → Claim → Requested → Type 0
 Request id bytes h c r = RequestedBy (requestedOf id bytes h c) r
 
+-- the number is the same whatever positions and frame stand beside the answer
+pub record RequestingRefusal (answer : Requesting) (r : ℕ) : Type 0 where
+  pub number : r ≡ numberIn (toldRequesting answer [] noFrame)
+
 -- acknowledge: an answer, and the frame that stands beside it
 
 abbrev pub toldAcknowledging : Acknowledging → Frame → Told Frame
@@ -129,3 +140,7 @@ pub record AcknowledgedBy (told : Told Frame) (r : Acknowledged) : Type 0 where
 
 abbrev pub Acknowledge : Claim → ℕ → ℕ → ℕ → ℕ → Acknowledged → Type 0
 Acknowledge c requester code instance dgn r = AcknowledgedBy (acknowledgedOf c requester code instance dgn) r
+
+-- the number is the same whatever frame stands beside the answer
+pub record AcknowledgingRefusal (answer : Acknowledging) (r : ℕ) : Type 0 where
+  pub number : r ≡ numberIn (toldAcknowledging answer noFrame)

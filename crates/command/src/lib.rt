@@ -4,7 +4,7 @@ use claim::Claim;
 use frame::BadFrame;
 use frame::standard;
 use handed::Handing;
-ghost use Rattle.command.specs.Promises.{Start, Route, Request, Acknowledge};
+ghost use Rattle.command.specs.Promises.{Start, Route, Request, Acknowledge, StartingRefusal, RoutingRefusal, RequestingRefusal, AcknowledgingRefusal};
 
 mod acknowledgment;
 mod address;
@@ -109,6 +109,74 @@ pub struct Acknowledged {
     pub answer: Acknowledging,
     pub id: u32,
     pub bytes: [u8; 8],
+}
+
+impl Starting {
+    // The number of the refusal; 0 where the list is hosted.
+    pub fn refusal(self) -> u8
+        ensures { λ r. ⌜ StartingRefusal self r ⌝ }
+    {
+        let answer = self;
+        match answer {
+            Starting::Hosted => 0,
+            Starting::ListMalformed => 16,
+        }
+    }
+}
+
+impl Routing {
+    // The number of the refusal; 0 where the frame is heard.
+    pub fn refusal(self) -> u8
+        ensures { λ r. ⌜ RoutingRefusal self r ⌝ }
+    {
+        let answer = self;
+        match answer {
+            Routing::NothingToDo => 0,
+            Routing::Picked => 0,
+            Routing::BrokenState => 2,
+            Routing::BadFrame(why) => why.refusal(),
+            Routing::ListMalformed => 16,
+            Routing::NoAddressHeld => 18,
+        }
+    }
+}
+
+impl Requesting {
+    // The number of the refusal; 0 where the frame is heard.
+    pub fn refusal(self) -> u8
+        ensures { λ r. ⌜ RequestingRefusal self r ⌝ }
+    {
+        let answer = self;
+        match answer {
+            Requesting::NothingToDo => 0,
+            Requesting::SendClaim => 0,
+            Requesting::Supported => 0,
+            Requesting::SendNak => 0,
+            Requesting::Unsupported => 0,
+            Requesting::BrokenState => 2,
+            Requesting::BadFrame(why) => why.refusal(),
+            Requesting::ListMalformed => 16,
+            Requesting::DgnTooLarge => 17,
+            Requesting::NoAddressHeld => 18,
+        }
+    }
+}
+
+impl Acknowledging {
+    // The number of the refusal; 0 where the acknowledgment is to be sent.
+    pub fn refusal(self) -> u8
+        ensures { λ r. ⌜ AcknowledgingRefusal self r ⌝ }
+    {
+        let answer = self;
+        match answer {
+            Acknowledging::Send => 0,
+            Acknowledging::BrokenState => 2,
+            Acknowledging::RequesterNotAllowed => 6,
+            Acknowledging::ListMalformed => 16,
+            Acknowledging::DgnTooLarge => 17,
+            Acknowledging::NoAddressHeld => 18,
+        }
+    }
 }
 
 impl Host {
