@@ -12,7 +12,7 @@ use lib.Seq.{take-at, length-take-le}
 use Rattle.frame.specs.Words.{if_then_else_, _≤?_, _=?_, _and_, Told, refused, gives, given_then_}
 use Rattle.frame.specs.Identifier.{greatestDgn, destinationOf, catalogueForm}
 use Rattle.frame.specs.Frame.{checkedOf}
-use Rattle.frame.specs.Standard.{Frame}
+use Rattle.frame.specs.Standard.{Frame, dgnAt}
 use Rattle.frame.specs.Laws.{toldButPriority}
 use Rattle.frame.specs.declared.Parts.{Parts}
 use Rattle.frame.specs.declared.BadFrame.the-variants.{IdentifierTooLarge, NotEightBytes, ReservedBitSet, SourceNotAllowed}
@@ -28,7 +28,7 @@ use Rattle.command.specs.Commands as Commands
 use Rattle.command.specs.Commands.{hasCommand, isElsewhere, Outcome, picks, routeOf, routedOf}
 use Rattle.command.specs.Acknowledgment.{acknowledgedOf}
 use Rattle.command.specs.Requests as Requests
-use Rattle.command.specs.Requests.{requestedDgn, Reply, claims, supported, nak, unsupported, askedOf, requestedOf}
+use Rattle.command.specs.Requests.{requestedDgn, Reply, claims, supported, nak, unsupported, askedOf, answerOf, requestedOf}
 use Rattle.command.specs.Promises.{toldStarting, startedOf, toldRouting, toldRequesting, toldAcknowledging}
 use Rattle.command.specs.Laws as the
 use Rattle.command.specs.declared.Host.{Host}
@@ -41,7 +41,7 @@ use Rattle.command.specs.declared.Requesting.the-variants as Requesting
 use Rattle.command.specs.declared.Acknowledging.{Acknowledging}
 use Rattle.command.specs.declared.Acknowledging.the-variants as Acknowledging
 use Rattle.command.proofs.Handing.{well-few, handed-broken, handed-lists}
-use Rattle.command.proofs.Answers.{acknowledged-broken, acknowledged-nobody, acknowledged-ill, acknowledged-large, acknowledged-unheld, routed-refused, requested-refused, route-other, route-held, route-unheld, asked-other, asked-large}
+use Rattle.command.proofs.Answers.{acknowledged-broken, acknowledged-nobody, acknowledged-ill, acknowledged-large, acknowledged-unheld, routed-refused, requested-refused, route-other, route-held, route-unheld, answer-other, answer-large}
 
 -- an answer is read back from what it tells
 
@@ -286,12 +286,12 @@ routed-but : (t : Told Parts) (bytes : List ℕ) (h : Host) (c : Claim)
 routed-but (refused n) bytes h c = refl
 routed-but (gives p) bytes h c = refl
 
-asked-but : (t : Told Parts) (bytes : List ℕ) (h : Host) (c : Claim)
-    → (given t then λ p. askedOf p bytes (hosted h) c)
-    ≡ (given toldButPriority t then λ q. askedOf (record { priority = 0; dgn = q .0; source = q .1 }) bytes (hosted h) c)
-unfolding askedOf
-asked-but (refused n) bytes h c = refl
-asked-but (gives p) bytes h c = refl
+answer-but : (t : Told Parts) (bytes : List ℕ) (h : Host) (c : Claim)
+    → (given t then λ p. answerOf p bytes (hosted h) c)
+    ≡ (given toldButPriority t then λ q. answerOf (record { priority = 0; dgn = q .0; source = q .1 }) bytes (hosted h) c)
+unfolding answerOf
+answer-but (refused n) bytes h c = refl
+answer-but (gives p) bytes h c = refl
 
 pub priority-ignored : the.PriorityIgnored
 unfolding routedOf requestedOf
@@ -299,7 +299,7 @@ priority-ignored id id′ bytes h c l l′ e =
     let q = frame-laws.priority-ignored id id′ (length bytes) l l′ e in
     let t : toldButPriority (handedIn id bytes h c) ≡ toldButPriority (handedIn id′ bytes h c) = handed-but id bytes h c ∙ rw q (sym (handed-but id′ bytes h c)) in (
       rw (routed-but (handedIn id bytes h c) bytes h c, t) (sym (routed-but (handedIn id′ bytes h c) bytes h c)),
-      rw (asked-but (handedIn id bytes h c) bytes h c, t) (sym (asked-but (handedIn id′ bytes h c) bytes h c)),
+      rw (answer-but (handedIn id bytes h c) bytes h c, t) (sym (answer-but (handedIn id′ bytes h c) bytes h c)),
     )
 
 -- only the entries count
@@ -314,7 +314,7 @@ past-count-ignored id bytes h h′ c n e =
     let w = well-same h h′ n e in
     let t : handedIn id bytes h c ≡ handedIn id bytes h′ c = rw w in (
       (λ i. given t i then λ p. routeOf (p .dgn) (getD bytes 0 0) (e i) (standOf c)),
-      (λ i. given t i then λ p. askedOf p bytes (e i) c),
+      (λ i. given t i then λ p. answerOf p bytes (e i) c),
     )
 
 hosted-begun : (h : Host) → h .count ≤ length (h .entries) → hosted (begun h) ≡ hosted h
@@ -366,25 +366,25 @@ command-elsewhere id bytes h c p to address e s d n =
 
 pub other-dgn : the.OtherDgn
 unfolding requestedOf
-other-dgn id bytes h c p e n = rw e (asked-other p bytes (hosted h) c n)
+other-dgn id bytes h c p e n = rw e (answer-other p bytes (hosted h) c n)
 
 pub request-too-large : the.RequestTooLarge
 unfolding requestedOf
-request-too-large id bytes h c p e d l = rw e (asked-large p bytes (hosted h) c (requestedDgn bytes) d refl l)
+request-too-large id bytes h c p e d l = rw e (answer-large p bytes (hosted h) c (askedOf p bytes) d refl l)
 
-later-asked : (parts : Parts) (bytes bytes′ : List ℕ) (h : Host) (c : Claim) → requestedDgn bytes ≡ requestedDgn bytes′
-    → askedOf parts bytes (hosted h) c ≡ askedOf parts bytes′ (hosted h) c
-unfolding askedOf
-later-asked parts bytes bytes′ h c d = rw d
+later-answer : (parts : Parts) (bytes bytes′ : List ℕ) (h : Host) (c : Claim) → requestedDgn bytes ≡ requestedDgn bytes′
+    → answerOf parts bytes (hosted h) c ≡ answerOf parts bytes′ (hosted h) c
+unfolding answerOf
+later-answer parts bytes bytes′ h c d = rw d
 
 pub later-bytes-ignored : the.LaterBytesIgnored
-unfolding requestedOf requestedDgn handedIn
+unfolding requestedOf requestedDgn dgnAt handedIn
 later-bytes-ignored id bytes bytes′ h c l e =
     let d : requestedDgn bytes ≡ requestedDgn bytes′ = rw e in
     let t : handedIn id bytes h c ≡ handedIn id bytes′ h c = rw l in
     rw t (go (handedIn id bytes′ h c) d)
   where
     go : (t : Told Parts) → requestedDgn bytes ≡ requestedDgn bytes′
-        → (given t then λ p. askedOf p bytes (hosted h) c) ≡ (given t then λ p. askedOf p bytes′ (hosted h) c)
+        → (given t then λ p. answerOf p bytes (hosted h) c) ≡ (given t then λ p. answerOf p bytes′ (hosted h) c)
     go (refused n) d = refl
-    go (gives p) d = later-asked p bytes bytes′ h c d
+    go (gives p) d = later-answer p bytes bytes′ h c d

@@ -7,7 +7,7 @@ use mathlib.Core.Logic.{_↔_}
 use Prim.Native.Nat.{ℕ, _+_, _≤_, _<_, _%_, _^_}
 use lib.ListN.{length, take, getD}
 use Rattle.frame.specs.Words.{refused, gives, numberIn}
-use Rattle.frame.specs.Identifier.{identifiers, greatestDgn, dgnOf, sourceOf, isAddressed, destinationOf, catalogueForm}
+use Rattle.frame.specs.Identifier.{identifiers, greatestDgn, dgnOf, sourceOf, partsOf, isAddressed, destinationOf, catalogueForm}
 use Rattle.frame.specs.Frame.{checkedOf}
 use Rattle.frame.specs.Standard.{Frame, acknowledgmentDgn, addressClaimed, everyone, greatestAddress, requestDgn}
 use Rattle.frame.specs.Promises.{destined}
@@ -25,7 +25,7 @@ use Rattle.command.specs.Commands as Commands
 use Rattle.command.specs.Commands.{hasCommand, isMeant, picks, routedOf}
 use Rattle.command.specs.Acknowledgment.{acknowledgmentPriority, acknowledgedOf}
 use Rattle.command.specs.Requests as Requests
-use Rattle.command.specs.Requests.{requestedDgn, supports, supported, nak, unsupported, replyOf, requestedOf}
+use Rattle.command.specs.Requests.{requestedDgn, Asked, askedOf, supports, supported, nak, unsupported, replyOf, requestedOf}
 use Rattle.command.specs.Promises.{Start, Route, Request, Acknowledge, StartingRefusal, RoutingRefusal, RequestingRefusal, AcknowledgingRefusal, toldStarting, toldRouting, toldRequesting, toldAcknowledging}
 use Rattle.command.specs.declared.Entry.{Entry}
 use Rattle.command.specs.declared.Host.{Host}
@@ -245,12 +245,14 @@ LaterBytesIgnored =
 
 abbrev pub ClaimingForClaimOnly : Type 0
 ClaimingForClaimOnly =
-    (to source dgn address : ℕ) (es : List Entry) (c : Claim) → standOf c ≡ claiming address → (to ≡ everyone → ⊥) → (dgn ≡ addressClaimed → ⊥)
-    → replyOf to source dgn es c ≡ gives Requests.nothingToDo
+    (asked : Asked) (address : ℕ) (es : List Entry) (c : Claim) → standOf c ≡ claiming address
+    → (asked .destination ≡ everyone → ⊥) → (asked .dgn ≡ addressClaimed → ⊥)
+    → replyOf asked es c ≡ gives Requests.nothingToDo
 
 abbrev pub SilentOnlyGlobal : Type 0
 SilentOnlyGlobal =
-    (to source dgn : ℕ) (es : List Entry) (c : Claim) → standOf c ≡ silent → (to ≡ everyone → ⊥) → replyOf to source dgn es c ≡ gives Requests.nothingToDo
+    (asked : Asked) (es : List Entry) (c : Claim) → standOf c ≡ silent → (asked .destination ≡ everyone → ⊥)
+    → replyOf asked es c ≡ gives Requests.nothingToDo
 
 -- Positions and NAKs are given from a held address only, and a NAK to one node only, which asked for what no entry supports: it is directed to our
 -- address, and comes from one.
@@ -263,14 +265,14 @@ PickedHeld =
 abbrev pub SupportedHeld : Type 0
 SupportedHeld =
     (id : ℕ) (bytes : List ℕ) (h : Host) (c : Claim) (ps : List ℕ) → requestedOf id bytes h c ≡ gives (supported ps)
-    → (address : ℕ) × (standOf c ≡ held address) × (ps ≡ positionsWhere (supports (requestedDgn bytes)) (hosted h))
+    → (address : ℕ) × (standOf c ≡ held address) × (ps ≡ positionsWhere (supports (askedOf (partsOf id) bytes)) (hosted h))
 
 pub record NakSound (id : ℕ) (bytes : List ℕ) (h : Host) (c : Claim) (frame : Frame) : Type 0 where
   pub address : ℕ
   pub holds : standOf c ≡ held address
   pub directed : destinationOf (dgnOf id) ≡ address
   pub requester : sourceOf id ≤ greatestAddress
-  pub unsupported : any (supports (requestedDgn bytes)) (hosted h) ≡ false
+  pub unsupported : any (supports (askedOf (partsOf id) bytes)) (hosted h) ≡ false
   pub parts : checkedOf (frame .id) (length (frame .bytes))
       ≡ gives (record { priority = acknowledgmentPriority; dgn = acknowledgmentDgn + sourceOf id; source = address })
 

@@ -225,7 +225,7 @@ impl Host {
             Handing::BrokenState => requests::bare(Requesting::BrokenState),
             Handing::BadFrame(why) => requests::bare(Requesting::BadFrame(why)),
             Handing::ListMalformed => requests::bare(Requesting::ListMalformed),
-            Handing::Sound(parts) => requests::ask(self, claim, parts, eight),
+            Handing::Sound(parts) => requests::answer(self, claim, parts, eight),
         }
     }
 }
