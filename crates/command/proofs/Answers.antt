@@ -24,11 +24,11 @@ use Rattle.frame.proofs.Words.{both-true}
 use Rattle.command.specs.Hosted.{hosted}
 use Rattle.command.specs.Positions.{positionsWhere, filled, listed}
 use Rattle.command.specs.Handed.{handedIn, addressHeld}
-use Rattle.command.specs.Acknowledgment.{claimFrame, acknowledgment, acknowledgedOf}
+use Rattle.command.specs.Acknowledgment.{claimFrame, acknowledgmentFrame, acknowledgedOf}
 use Rattle.command.specs.Commands as Commands
 use Rattle.command.specs.Commands.{hasCommand, isMeant, isElsewhere, Outcome, picks, routeOf, routedOf}
 use Rattle.command.specs.Requests as Requests
-use Rattle.command.specs.Requests.{requestedDgn, Asked, askedOf, supports, isOurs, nakFrame, Reply, claims, supported, nak, unsupported, statusOf, replyOf, answerOf, requestedOf}
+use Rattle.command.specs.Requests.{requestedDgn, Asked, askedOf, supports, isOurs, nakTo, Reply, claims, supported, nak, unsupported, statusOf, replyOf, answerOf, requestedOf}
 use Rattle.command.specs.Promises.{toldRouting, pickedIn, RoutedBy, toldRequesting, supportedIn, sentIn, RequestedBy, toldAcknowledging, formedIn, AcknowledgedBy}
 use Rattle.command.specs.Private.{bareRouted, bareRequested, bareAcknowledged}
 use Rattle.command.specs.declared.Entry.{Entry}
@@ -40,6 +40,7 @@ use Rattle.command.specs.declared.Routed.{Routed}
 use Rattle.command.specs.declared.Requesting.{Requesting}
 use Rattle.command.specs.declared.Requesting.the-variants as Requesting
 use Rattle.command.specs.declared.Requested.{Requested}
+use Rattle.command.specs.declared.Acknowledgment.{Acknowledgment}
 use Rattle.command.specs.declared.Acknowledging.{Acknowledging}
 use Rattle.command.specs.declared.Acknowledging.the-variants as Acknowledging
 use Rattle.command.specs.declared.Acknowledged.{Acknowledged}
@@ -82,40 +83,42 @@ sound-stands c r s e =
 
 -- an acknowledgment, step by step
 
-module _ (c : Claim) (requester code instance dgn : ℕ) where
-  pub acknowledged-broken : keepsRules c ≡ false → acknowledgedOf c requester code instance dgn ≡ refused 2
+module _ (c : Claim) (reply : Acknowledgment) where
+  pub acknowledged-broken : keepsRules c ≡ false → acknowledgedOf c reply ≡ refused 2
   unfolding acknowledgedOf
   acknowledged-broken k = rw k
 
-  pub acknowledged-nobody : keepsRules c ≡ true → greatestAddress < requester → acknowledgedOf c requester code instance dgn ≡ refused 6
+  pub acknowledged-nobody : keepsRules c ≡ true → greatestAddress < reply .requester → acknowledgedOf c reply ≡ refused 6
   unfolding acknowledgedOf
   acknowledged-nobody k q = rw (k, lt-ltb _ _ q)
 
-  pub acknowledged-ill : keepsRules c ≡ true → requester ≤ greatestAddress → holdsList c ≡ false → acknowledgedOf c requester code instance dgn ≡ refused 16
+  pub acknowledged-ill : keepsRules c ≡ true → reply .requester ≤ greatestAddress → holdsList c ≡ false
+      → acknowledgedOf c reply ≡ refused 16
   unfolding acknowledgedOf
   acknowledged-ill k q h = rw (k, le-ltb _ _ q, h)
 
-  pub acknowledged-large : keepsRules c ≡ true → requester ≤ greatestAddress → holdsList c ≡ true → greatestDgn < dgn
-      → acknowledgedOf c requester code instance dgn ≡ refused 17
+  pub acknowledged-large : keepsRules c ≡ true → reply .requester ≤ greatestAddress → holdsList c ≡ true
+      → greatestDgn < reply .dgn → acknowledgedOf c reply ≡ refused 17
   unfolding acknowledgedOf
   acknowledged-large k q h d = rw (k, le-ltb _ _ q, h, lt-ltb _ _ d)
 
-  pub acknowledged-past : keepsRules c ≡ true → requester ≤ greatestAddress → holdsList c ≡ true → dgn ≤ greatestDgn
-      → acknowledgedOf c requester code instance dgn
-      ≡ (given addressHeld (standOf c) then λ address. gives (acknowledgment address requester code instance dgn))
+  pub acknowledged-past : keepsRules c ≡ true → reply .requester ≤ greatestAddress → holdsList c ≡ true
+      → reply .dgn ≤ greatestDgn
+      → acknowledgedOf c reply
+      ≡ (given addressHeld (standOf c) then λ address. gives (acknowledgmentFrame address reply))
   unfolding acknowledgedOf
   acknowledged-past k q h d = rw (k, le-ltb _ _ q, h, le-ltb _ _ d)
 
   -- where we stand decides
 
   pub acknowledged-held : (stand : Stand) (address : ℕ) → standOf c ≡ stand → addressHeld stand ≡ gives address
-      → keepsRules c ≡ true → requester ≤ greatestAddress → holdsList c ≡ true → dgn ≤ greatestDgn
-      → acknowledgedOf c requester code instance dgn ≡ gives (acknowledgment address requester code instance dgn)
+      → keepsRules c ≡ true → reply .requester ≤ greatestAddress → holdsList c ≡ true → reply .dgn ≤ greatestDgn
+      → acknowledgedOf c reply ≡ gives (acknowledgmentFrame address reply)
   acknowledged-held stand address s a k q h d = acknowledged-past k q h d ∙ rw (s, a)
 
   pub acknowledged-unheld : (stand : Stand) → standOf c ≡ stand → addressHeld stand ≡ refused 18
-      → keepsRules c ≡ true → requester ≤ greatestAddress → holdsList c ≡ true → dgn ≤ greatestDgn
-      → acknowledgedOf c requester code instance dgn ≡ refused 18
+      → keepsRules c ≡ true → reply .requester ≤ greatestAddress → holdsList c ≡ true → reply .dgn ≤ greatestDgn
+      → acknowledgedOf c reply ≡ refused 18
   acknowledged-unheld stand s a k q h d = acknowledged-past k q h d ∙ rw (s, a)
 
 -- an answer with positions or a frame beside it
@@ -176,7 +179,7 @@ module _ (asked : Asked) (es : List Entry) where
   status-nobody address n t s = rw (n, ne-eqb (asked .destination) everyone t, eq-eqb (asked .source) noAddress s)
 
   pub status-nak : (address : ℕ) → any (supports asked) es ≡ false → (asked .destination ≡ everyone → ⊥)
-      → (asked .source ≡ noAddress → ⊥) → statusOf asked es address ≡ nak (nakFrame address asked)
+      → (asked .source ≡ noAddress → ⊥) → statusOf asked es address ≡ nak (acknowledgmentFrame address (nakTo asked))
   unfolding statusOf
   status-nak address n t s = rw (n, ne-eqb (asked .destination) everyone t, ne-eqb (asked .source) noAddress s)
 

@@ -38,6 +38,7 @@ use Rattle.command.specs.declared.Routing.{Routing}
 use Rattle.command.specs.declared.Routing.the-variants as Routing
 use Rattle.command.specs.declared.Requesting.{Requesting}
 use Rattle.command.specs.declared.Requesting.the-variants as Requesting
+use Rattle.command.specs.declared.Acknowledgment.{Acknowledgment}
 use Rattle.command.specs.declared.Acknowledging.{Acknowledging}
 use Rattle.command.specs.declared.Acknowledging.the-variants as Acknowledging
 use Rattle.command.proofs.Handing.{well-few, handed-broken, handed-lists}
@@ -157,7 +158,7 @@ request-only id bytes h c r s p q =
     λ i. record { answer = a i; positions = x i; id = d i; bytes = b i }
 
 pub acknowledge-only : the.AcknowledgeOnly
-acknowledge-only c requester code instance dgn r s p q =
+acknowledge-only c reply r s p q =
     let a = told-acknowledging-same (r .answer) (s .answer) _ _ (p .answer ∙ sym (q .answer)) in
     let d = p .sent-id ∙ sym (q .sent-id) in
     let b = p .sent-bytes ∙ sym (q .sent-bytes) in
@@ -225,8 +226,8 @@ request-refused-keeps id bytes h c r n p e =
     (p .positions ∙ rw t, (p .sent-id ∙ rw t, p .sent-bytes ∙ rw t))
 
 pub acknowledge-refused-keeps : the.AcknowledgeRefusedKeeps
-acknowledge-refused-keeps c requester code instance dgn r n p e =
-    let t : acknowledgedOf c requester code instance dgn ≡ refused n = sym (p .answer) ∙ e in
+acknowledge-refused-keeps c reply r n p e =
+    let t : acknowledgedOf c reply ≡ refused n = sym (p .answer) ∙ e in
     (p .sent-id ∙ rw t, p .sent-bytes ∙ rw t)
 
 -- the lowest number wins
@@ -247,14 +248,14 @@ lowest-wins id bytes h c =
     ill true b p w = rw w
     ill false b p w = refl
 
-pub acknowledge-lowest-wins : (c : Claim) (requester code instance dgn : ℕ) → the.AcknowledgeLowestWins c requester code instance dgn
-acknowledge-lowest-wins c requester code instance dgn =
+pub acknowledge-lowest-wins : (c : Claim) (a : Acknowledgment) → the.AcknowledgeLowestWins c a
+acknowledge-lowest-wins c reply =
     record {
-      two = acknowledged-broken c requester code instance dgn;
-      six = acknowledged-nobody c requester code instance dgn;
-      sixteen = acknowledged-ill c requester code instance dgn;
-      seventeen = λ s q d. let b = both-true (keepsRules c) (holdsList c) s in acknowledged-large c requester code instance dgn (b .0) q (b .1) d;
-      eighteen = λ s q d a. let b = both-true (keepsRules c) (holdsList c) s in acknowledged-unheld c requester code instance dgn (standOf c) refl a (b .0) q (b .1) d;
+      two = acknowledged-broken c reply;
+      six = acknowledged-nobody c reply;
+      sixteen = acknowledged-ill c reply;
+      seventeen = λ s q d. let b = both-true (keepsRules c) (holdsList c) s in acknowledged-large c reply (b .0) q (b .1) d;
+      eighteen = λ s q d a. let b = both-true (keepsRules c) (holdsList c) s in acknowledged-unheld c reply (standOf c) refl a (b .0) q (b .1) d;
     }
 
 -- a frame is read by its DGN and its source alone

@@ -11,7 +11,7 @@ use Rattle.frame.specs.Words.{_≤?_, _<?_, _=?_, gives}
 use Rattle.frame.specs.Bytes.{bytesOf}
 use Rattle.frame.specs.Identifier.{identifierOf, identifiers, greatestDgn, priorityOf, reservedOf, dgnOf, sourceOf, partsOf, catalogueForm}
 use Rattle.frame.specs.Frame.{frameBytes, sourceAllowed, checkedOf}
-use Rattle.frame.specs.Standard.{Frame, acknowledgmentDgn, addressClaimed, everyone, greatestAddress, noAddress, noFrame, requestDgn, unused}
+use Rattle.frame.specs.Standard.{Frame, acknowledgmentDgn, addressClaimed, everyone, greatestAddress, noAddress, noFrame, requestDgn}
 use Rattle.frame.specs.declared.Parts.{Parts}
 use Rattle.frame.proofs.Words.{by-test, both-true, true-false, past-refusal, before-refusal, refused-gives, gives-same, not-flips}
 use Rattle.frame.proofs.Frame.{checked-given}
@@ -27,15 +27,16 @@ use Rattle.command.specs.Positions.{positionsWhere, listed}
 use Rattle.command.specs.Handed.{handedIn, addressHeld}
 use Rattle.command.specs.Commands as Commands
 use Rattle.command.specs.Commands.{hasCommand, picks, routeOf, routedOf}
-use Rattle.command.specs.Acknowledgment.{claimFrame, acknowledgmentPriority, acknowledgmentId, acknowledgmentBytes, acknowledgment, acknowledgedOf}
+use Rattle.command.specs.Acknowledgment.{claimFrame, acknowledgmentPriority, acknowledgmentId, acknowledgmentBytes, acknowledgmentFrame, acknowledgedOf}
 use Rattle.command.specs.Requests as Requests
-use Rattle.command.specs.Requests.{requestedDgn, Asked, askedOf, supports, isOurAddress, isOurs, nakCode, nakFrame, Reply, claims, supported, nak, unsupported, statusOf, replyOf, answerOf, requestedOf}
+use Rattle.command.specs.Requests.{requestedDgn, Asked, askedOf, supports, isOurAddress, isOurs, nakTo, Reply, claims, supported, nak, unsupported, statusOf, replyOf, answerOf, requestedOf}
 use Rattle.command.specs.Promises.{sentIn, toldRequesting, toldAcknowledging}
 use Rattle.command.specs.Laws as the
 use Rattle.command.specs.declared.Entry.{Entry}
 use Rattle.command.specs.declared.Host.{Host}
 use Rattle.command.specs.declared.Requesting.{Requesting}
 use Rattle.command.specs.declared.Requesting.the-variants as Requesting
+use Rattle.command.specs.declared.Acknowledgment.{Acknowledgment}
 use Rattle.command.specs.declared.Acknowledging.{Acknowledging}
 use Rattle.command.proofs.Handing.{handed-fine}
 use Rattle.command.proofs.Answers.{acknowledged-held, reply-elsewhere, status-supported, status-global, status-nobody, status-nak}
@@ -88,11 +89,12 @@ source-low source dgn h =
     let m : source ≡ 254 → ⊥ = λ e. omega arith in
     rw (ne-eqb source 255 n, ne-eqb source 254 m)
 
-acknowledgment-checked : (address requester code instance dgn : ℕ) → address ≤ greatestAddress → requester < 256
-    → checkedOf (acknowledgmentId address requester) (length (acknowledgmentBytes requester code instance dgn))
-    ≡ gives (record { priority = acknowledgmentPriority; dgn = acknowledgmentDgn + requester; source = address })
+acknowledgment-checked : (address : ℕ) (reply : Acknowledgment) → address ≤ greatestAddress → reply .requester < 256
+    → checkedOf (acknowledgmentId address (reply .requester)) (length (acknowledgmentBytes reply))
+    ≡ gives (record { priority = acknowledgmentPriority; dgn = acknowledgmentDgn + reply .requester; source = address })
 unfolding acknowledgmentId acknowledgmentBytes bytesOf identifierOf priorityOf reservedOf dgnOf sourceOf
-acknowledgment-checked address requester code instance dgn h q =
+acknowledgment-checked address reply h q =
+    let requester = reply .requester in
     let id = acknowledgmentId address requester in
     let i : id < identifiers = omega arith in
     let r : reservedOf id ≡ 0 = omega arith in
@@ -143,7 +145,7 @@ pub data Came (asked : Asked) (es : List Entry) (c : Claim) : Reply → Type 0 w
   unanswered : Came asked es c unsupported
   denied : (address : ℕ) → standOf c ≡ held address → isOurs asked (held address) ≡ true
       → any (supports asked) es ≡ false → (asked .destination ≡ everyone → ⊥) → (asked .source ≡ noAddress → ⊥)
-      → Came asked es c (nak (nakFrame address asked))
+      → Came asked es c (nak (acknowledgmentFrame address (nakTo asked)))
 
 came-held : (asked : Asked) (es : List Entry) (c : Claim) (address : ℕ) → standOf c ≡ held address
     → isOurs asked (held address) ≡ true → Came asked es c (statusOf asked es address)
@@ -229,14 +231,14 @@ nak-came id bytes h c reply frame e s l (reported address t) = let z : _≡_ {A 
 nak-came id bytes h c reply frame e s l unanswered = let z : _≡_ {A = ℕ} 0 1 = cc in absurd (omega arith)
 nak-came id bytes h c reply frame e s l (denied address t o n d q) =
     let asked = askedOf (partsOf id) bytes in
-    let f : frame ≡ nakFrame address asked = cc in
+    let f : frame ≡ acknowledgmentFrame address (nakTo asked) = cc in
     record {
       address = address;
       holds = t;
       directed = our-address asked address o d;
       requester = omega (arith, q);
       unsupported = n;
-      parts = rw f (acknowledgment-checked address (sourceOf id) nakCode unused (requestedDgn bytes) (held-low c address s t) (omega arith));
+      parts = rw f (acknowledgment-checked address (nakTo asked) (held-low c address s t) (omega arith));
     }
 
 pub nak-is-sound : the.NakIsSound
@@ -287,28 +289,29 @@ request-sends-ours id bytes h c r p =
 
 -- an acknowledgment
 
-formed-by : {P : Type 0} (c : Claim) (requester code instance dgn : ℕ) (frame : Frame) → acknowledgedOf c requester code instance dgn ≡ gives frame
-    → ((address : ℕ) → standOf c ≡ held address → isSound c ≡ true → requester ≤ greatestAddress → frame ≡ acknowledgment address requester code instance dgn → P) → P
+formed-by : {P : Type 0} (c : Claim) (reply : Acknowledgment) (frame : Frame) → acknowledgedOf c reply ≡ gives frame
+    → ((address : ℕ) → standOf c ≡ held address → isSound c ≡ true → reply .requester ≤ greatestAddress
+    → frame ≡ acknowledgmentFrame address reply → P) → P
 unfolding acknowledgedOf
-formed-by c requester code instance dgn frame e k =
+formed-by c reply frame e k =
     let r₂ = past-refusal (not (keepsRules c)) 2 _ e in
-    let r₆ = past-refusal (greatestAddress <? requester) 6 _ (r₂ .1) in
+    let r₆ = past-refusal (greatestAddress <? reply .requester) 6 _ (r₂ .1) in
     let r₁₆ = past-refusal (not (holdsList c)) 16 _ (r₆ .1) in
-    let r₁₇ = past-refusal (greatestDgn <? dgn) 17 _ (r₁₆ .1) in
+    let r₁₇ = past-refusal (greatestDgn <? reply .dgn) 17 _ (r₁₆ .1) in
     given-past (addressHeld (standOf c)) _ (r₁₇ .1)
     (λ address a m. k address (held-address (standOf c) address a) (sound-well c (not-flips _ (r₂ .0)) (not-flips _ (r₁₆ .0)) .1) (ltb-false _ _ (r₆ .0)) (sym (gives-same m)))
 
 pub acknowledge-sends-ours : the.AcknowledgeSendsOurs
-acknowledge-sends-ours c requester code instance dgn r p a =
+acknowledge-sends-ours c reply r p a =
     let frame : Frame = record { id = r .id; bytes = r .bytes } in
-    let t : acknowledgedOf c requester code instance dgn ≡ gives frame = sym (p .answer) ∙ ap (λ (x : Acknowledging). toldAcknowledging x frame) a in
-    formed-by c requester code instance dgn frame t
+    let t : acknowledgedOf c reply ≡ gives frame = sym (p .answer) ∙ ap (λ (x : Acknowledging). toldAcknowledging x frame) a in
+    formed-by c reply frame t
     (λ address s k q e.
-    let f = acknowledgment-checked address requester code instance dgn (held-low c address k s) (omega arith) in
+    let f = acknowledgment-checked address reply (held-low c address k s) (omega arith) in
     (address, s, rw (ap (λ (x : Frame). x .id) e, ap (λ (x : Frame). x .bytes) e) f))
 
 pub example-eleven : the.ExampleEleven
 unfolding addressHeld acknowledgmentId acknowledgmentBytes identifierOf bytesOf
 example-eleven c s e =
     let b = both-true (keepsRules c) (holdsList c) s in
-    acknowledged-held c 0x44 3 2 0x1FFE7 (held 0x9C) 0x9C e refl (b .0) (omega arith) (b .1) (omega arith)
+    acknowledged-held c (record { code = 3; instance = 2; requester = 0x44; dgn = 0x1FFE7 }) (held 0x9C) 0x9C e refl (b .0) (omega arith) (b .1) (omega arith)

@@ -36,6 +36,7 @@ use Rattle.command.specs.declared.Routed.{Routed}
 use Rattle.command.specs.declared.Requesting.{Requesting}
 use Rattle.command.specs.declared.Requesting.the-variants.{SendClaim, SendNak}
 use Rattle.command.specs.declared.Requested.{Requested}
+use Rattle.command.specs.declared.Acknowledgment.{Acknowledgment}
 use Rattle.command.specs.declared.Acknowledging.{Acknowledging}
 use Rattle.command.specs.declared.Acknowledging.the-variants.{Send}
 use Rattle.command.specs.declared.Acknowledged.{Acknowledged}
@@ -67,8 +68,7 @@ RequestOnly = (id : ℕ) (bytes : List ℕ) (h : Host) (c : Claim) (r s : Reques
 
 abbrev pub AcknowledgeOnly : Type 0
 AcknowledgeOnly =
-    (c : Claim) (requester code instance dgn : ℕ) (r s : Acknowledged)
-    → Acknowledge c requester code instance dgn r → Acknowledge c requester code instance dgn s → r ≡ s
+    (c : Claim) (a : Acknowledgment) (r s : Acknowledged) → Acknowledge c a r → Acknowledge c a s → r ≡ s
 
 abbrev pub StartingRefusalOnly : Type 0
 StartingRefusalOnly = (answer : Starting) (r s : ℕ) → StartingRefusal answer r → StartingRefusal answer s → r ≡ s
@@ -117,7 +117,7 @@ RequestRefusedKeeps =
 
 abbrev pub AcknowledgeRefusedKeeps : Type 0
 AcknowledgeRefusedKeeps =
-    (c : Claim) (requester code instance dgn : ℕ) (r : Acknowledged) (n : ℕ) → Acknowledge c requester code instance dgn r
+    (c : Claim) (a : Acknowledgment) (r : Acknowledged) (n : ℕ) → Acknowledge c a r
     → toldAcknowledging (r .answer) (record { id = r .id; bytes = r .bytes }) ≡ refused n → NoFrame (r .id) (r .bytes)
 
 -- The lowest number wins: what is handed in is refused with 2, then 3 to 6, then 16, before anything is asked of the frame.
@@ -130,13 +130,13 @@ pub record LowestWins (id : ℕ) (bytes : List ℕ) (h : Host) (c : Claim) : Typ
   pub passed-on : (n : ℕ) → handedIn id bytes h c ≡ refused n → (routedOf id bytes h c ≡ refused n) × (requestedOf id bytes h c ≡ refused n)
 
 -- An acknowledgment: 2, then 6, 16, 17, 18.
-pub record AcknowledgeLowestWins (c : Claim) (requester code instance dgn : ℕ) : Type 0 where
-  pub two : keepsRules c ≡ false → acknowledgedOf c requester code instance dgn ≡ refused 2
-  pub six : keepsRules c ≡ true → greatestAddress < requester → acknowledgedOf c requester code instance dgn ≡ refused 6
-  pub sixteen : keepsRules c ≡ true → requester ≤ greatestAddress → holdsList c ≡ false → acknowledgedOf c requester code instance dgn ≡ refused 16
-  pub seventeen : isSound c ≡ true → requester ≤ greatestAddress → greatestDgn < dgn → acknowledgedOf c requester code instance dgn ≡ refused 17
-  pub eighteen : isSound c ≡ true → requester ≤ greatestAddress → dgn ≤ greatestDgn → addressHeld (standOf c) ≡ refused 18
-      → acknowledgedOf c requester code instance dgn ≡ refused 18
+pub record AcknowledgeLowestWins (c : Claim) (a : Acknowledgment) : Type 0 where
+  pub two : keepsRules c ≡ false → acknowledgedOf c a ≡ refused 2
+  pub six : keepsRules c ≡ true → greatestAddress < a .requester → acknowledgedOf c a ≡ refused 6
+  pub sixteen : keepsRules c ≡ true → a .requester ≤ greatestAddress → holdsList c ≡ false → acknowledgedOf c a ≡ refused 16
+  pub seventeen : isSound c ≡ true → a .requester ≤ greatestAddress → greatestDgn < a .dgn → acknowledgedOf c a ≡ refused 17
+  pub eighteen : isSound c ≡ true → a .requester ≤ greatestAddress → a .dgn ≤ greatestDgn → addressHeld (standOf c) ≡ refused 18
+      → acknowledgedOf c a ≡ refused 18
 
 -- Priority is ignored on receipt.
 abbrev pub PriorityIgnored : Type 0
@@ -292,13 +292,14 @@ RequestSendsOurs =
 
 abbrev pub AcknowledgeSendsOurs : Type 0
 AcknowledgeSendsOurs =
-    (c : Claim) (requester code instance dgn : ℕ) (r : Acknowledged) → Acknowledge c requester code instance dgn r → r .answer ≡ Send
+    (c : Claim) (a : Acknowledgment) (r : Acknowledged) → Acknowledge c a r → r .answer ≡ Send
     → (address : ℕ) × (standOf c ≡ held address)
-    × (checkedOf (r .id) (length (r .bytes)) ≡ gives (record { priority = acknowledgmentPriority; dgn = acknowledgmentDgn + requester; source = address }))
+    × (checkedOf (r .id) (length (r .bytes))
+    ≡ gives (record { priority = acknowledgmentPriority; dgn = acknowledgmentDgn + a .requester; source = address }))
 
 -- Document 01's example (11): holding 9Ch, code 3 to 44h for SLIDE_COMMAND (1FFE7h) instance 2.
 abbrev pub ExampleEleven : Type 0
 ExampleEleven =
     (c : Claim) → isSound c ≡ true → standOf c ≡ held 0x9C
-    → acknowledgedOf c 0x44 3 2 0x1FFE7
+    → acknowledgedOf c (record { code = 3; instance = 2; requester = 0x44; dgn = 0x1FFE7 })
     ≡ gives (record { id = 0x18E8449C; bytes = 0x03 ∷ 0x02 ∷ 0xFF ∷ 0xFF ∷ 0x44 ∷ 0xE7 ∷ 0xFF ∷ 0x01 ∷ [] })

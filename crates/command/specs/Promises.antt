@@ -25,6 +25,7 @@ use Rattle.command.specs.declared.Routed.{Routed}
 use Rattle.command.specs.declared.Requesting.{Requesting}
 use Rattle.command.specs.declared.Requesting.the-variants as Requesting
 use Rattle.command.specs.declared.Requested.{Requested}
+use Rattle.command.specs.declared.Acknowledgment.{Acknowledgment}
 use Rattle.command.specs.declared.Acknowledging.{Acknowledging}
 use Rattle.command.specs.declared.Acknowledging.the-variants as Acknowledging
 use Rattle.command.specs.declared.Acknowledged.{Acknowledged}
@@ -138,8 +139,8 @@ pub record AcknowledgedBy (told : Told Frame) (r : Acknowledged) : Type 0 where
   pub sent-id : r .id ≡ formedIn told .id
   pub sent-bytes : r .bytes ≡ formedIn told .bytes
 
-abbrev pub Acknowledge : Claim → ℕ → ℕ → ℕ → ℕ → Acknowledged → Type 0
-Acknowledge c requester code instance dgn r = AcknowledgedBy (acknowledgedOf c requester code instance dgn) r
+abbrev pub Acknowledge : Claim → Acknowledgment → Acknowledged → Type 0
+Acknowledge c a r = AcknowledgedBy (acknowledgedOf c a) r
 
 -- the number is the same whatever frame stands beside the answer
 pub record AcknowledgingRefusal (answer : Acknowledging) (r : ℕ) : Type 0 where

@@ -12,7 +12,8 @@ use Rattle.claim.specs.declared.Claim.{Claim}
 use Rattle.command.specs.Hosted.{hosted}
 use Rattle.command.specs.Positions.{positionsWhere}
 use Rattle.command.specs.Handed.{handedIn, addressHeld}
-use Rattle.command.specs.Acknowledgment.{claimFrame, acknowledgment}
+use Rattle.command.specs.Acknowledgment.{claimFrame, acknowledgmentFrame}
+use Rattle.command.specs.declared.Acknowledgment.{Acknowledgment}
 use Rattle.command.specs.declared.Entry.{Entry}
 use Rattle.command.specs.declared.Host.{Host}
 
@@ -49,9 +50,9 @@ isOurs asked stand = (asked .destination =? everyone) or isOurAddress asked stan
 abbrev pub nakCode : ℕ
 nakCode = 1
 
--- the NAK from this address
-abbrev pub nakFrame : ℕ → Asked → Frame
-nakFrame address asked = acknowledgment address (asked .source) nakCode unused (asked .dgn)
+-- the NAK to a request, of no instance
+abbrev pub nakTo : Asked → Acknowledgment
+nakTo asked = record { code = nakCode; instance = unused; requester = asked .source; dgn = asked .dgn }
 
 -- what a request comes to
 pub data Reply : Type 0 where
@@ -67,7 +68,7 @@ statusOf asked es address =
     if any (supports asked) es then supported (positionsWhere (supports asked) es) else
     if asked .destination =? everyone then unsupported else
     if asked .source =? noAddress then unsupported else
-    nak (nakFrame address asked)
+    nak (acknowledgmentFrame address (nakTo asked))
 
 -- a request for a DGN of 17 bits
 unfoldable pub replyOf : Asked → List Entry → Claim → Told Reply

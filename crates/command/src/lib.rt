@@ -6,7 +6,7 @@ use frame::standard;
 use handed::Handing;
 ghost use Rattle.command.specs.Promises.{Start, Route, Request, Acknowledge, StartingRefusal, RoutingRefusal, RequestingRefusal, AcknowledgingRefusal};
 
-mod acknowledgment;
+mod acknowledgments;
 mod address;
 mod commands;
 mod handed;
@@ -92,6 +92,15 @@ pub struct Requested {
     pub positions: Positions,
     pub id: u32,
     pub bytes: [u8; 8],
+}
+
+// An acknowledgment, in the order of its bytes: its code, the instance (FFh where there is none), the node that sent
+// the command or request, and the DGN of that.
+pub struct Acknowledgment {
+    pub code: u8,
+    pub instance: u8,
+    pub requester: u8,
+    pub dgn: u32,
 }
 
 // The acknowledgment beside is to be sent; or refusal 2, 6, 16, 17, 18.
@@ -230,29 +239,29 @@ impl Host {
     }
 }
 
-// Forms the acknowledgment of a command or request, to the node that sent it; `instance` is FFh where there is none.
-pub fn acknowledge(claim: Claim, requester: u8, code: u8, instance: u8, dgn: u32) -> Acknowledged
-    ensures { λ r. ⌜ Acknowledge claim requester code instance dgn r ⌝ }
+// Forms the acknowledgment of a command or request, from our address to the node that sent it.
+pub fn acknowledge(claim: Claim, reply: Acknowledgment) -> Acknowledged
+    ensures { λ r. ⌜ Acknowledge claim reply r ⌝ }
 {
     if !claim.keeps_rules() {
-        return acknowledgment::bare(Acknowledging::BrokenState);
+        return acknowledgments::bare(Acknowledging::BrokenState);
     }
-    if standard::GREATEST_ADDRESS < requester {
-        return acknowledgment::bare(Acknowledging::RequesterNotAllowed);
+    if standard::GREATEST_ADDRESS < reply.requester {
+        return acknowledgments::bare(Acknowledging::RequesterNotAllowed);
     }
     if !claim.holds_list() {
-        return acknowledgment::bare(Acknowledging::ListMalformed);
+        return acknowledgments::bare(Acknowledging::ListMalformed);
     }
-    if standard::GREATEST_DGN < dgn {
-        return acknowledgment::bare(Acknowledging::DgnTooLarge);
+    if standard::GREATEST_DGN < reply.dgn {
+        return acknowledgments::bare(Acknowledging::DgnTooLarge);
     }
     match address::stand(claim) {
         Address::Held(from) => Acknowledged {
             answer: Acknowledging::Send,
-            id: acknowledgment::id_of(from, requester),
-            bytes: acknowledgment::bytes_of(requester, code, instance, dgn),
+            id: acknowledgments::id_of(from, reply.requester),
+            bytes: acknowledgments::bytes_of(reply),
         },
-        Address::Claimed(_) => acknowledgment::bare(Acknowledging::NoAddressHeld),
-        Address::Nowhere => acknowledgment::bare(Acknowledging::NoAddressHeld),
+        Address::Claimed(_) => acknowledgments::bare(Acknowledging::NoAddressHeld),
+        Address::Nowhere => acknowledgments::bare(Acknowledging::NoAddressHeld),
     }
 }

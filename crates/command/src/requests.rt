@@ -1,8 +1,9 @@
 // A request for a DGN: what is replied to it.
+use crate::Acknowledgment;
 use crate::Host;
 use crate::Requested;
 use crate::Requesting;
-use crate::acknowledgment;
+use crate::acknowledgments;
 use crate::address;
 use crate::address::Address;
 use crate::picking;
@@ -17,8 +18,8 @@ ghost use Rattle.frame.specs.Words.{gives};
 ghost use Rattle.claim.specs.Promises.{isSound};
 ghost use Rattle.command.specs.Hosted.{hosted};
 ghost use Rattle.claim.specs.Claim.{claiming};
-ghost use Rattle.command.specs.Acknowledgment.{claimFrame};
-ghost use Rattle.command.specs.Requests.{askedOf, isOurAddress, isOurs, nakFrame, claims, nak, statusOf, replyOf, answerOf};
+ghost use Rattle.command.specs.Acknowledgment.{claimFrame, acknowledgmentFrame};
+ghost use Rattle.command.specs.Requests.{askedOf, isOurAddress, isOurs, nakTo, claims, nak, statusOf, replyOf, answerOf};
 ghost use Rattle.command.specs.Promises.{RequestedBy};
 ghost use Rattle.command.specs.Private.{askedBy, standAt, bareRequested};
 
@@ -141,13 +142,19 @@ fn status(host: Host, address: u8, asked: Asked) -> Requested
 
 // The acknowledgment that no entry supports the DGN, of no instance.
 fn nak(address: u8, asked: Asked) -> Requested
-    ensures { λ r. ⌜ RequestedBy (gives (nak (nakFrame address (askedBy asked)))) r ⌝ }
+    ensures { λ r. ⌜ RequestedBy (gives (nak (acknowledgmentFrame address (nakTo (askedBy asked))))) r ⌝ }
 {
+    let reply = Acknowledgment {
+        code: NAK,
+        instance: standard::UNUSED,
+        requester: asked.source,
+        dgn: asked.dgn,
+    };
     Requested {
         answer: Requesting::SendNak,
         positions: picking::none(),
-        id: acknowledgment::id_of(address, asked.source),
-        bytes: acknowledgment::bytes_of(asked.source, NAK, standard::UNUSED, asked.dgn),
+        id: acknowledgments::id_of(address, asked.source),
+        bytes: acknowledgments::bytes_of(reply),
     }
 }
 

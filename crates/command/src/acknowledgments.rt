@@ -1,6 +1,7 @@
 // The acknowledgment's frame.
 use crate::Acknowledged;
 use crate::Acknowledging;
+use crate::Acknowledgment;
 use frame::standard;
 ghost use mathlib.Core.Path.{_≡_};
 ghost use Rattle.command.specs.Acknowledgment.{acknowledgmentId, acknowledgmentBytes};
@@ -16,21 +17,19 @@ pub fn id_of(address: u8, requester: u8) -> u32
     ACKNOWLEDGMENT_ID + requester as u32 * 256 + address as u32
 }
 
-pub fn bytes_of(requester: u8, code: u8, instance: u8, dgn: u32) -> [u8; 8]
-    ensures { λ r. ⌜ r ≡ acknowledgmentBytes requester code instance dgn ⌝ }
+pub fn bytes_of(reply: Acknowledgment) -> [u8; 8]
+    ensures { λ r. ⌜ r ≡ acknowledgmentBytes reply ⌝ }
 {
-    let low = (dgn % 256) as u8;
-    let middle = (dgn / 256 % 256) as u8;
-    let high = (dgn / 256 / 256 % 256) as u8;
+    let dgn = frame::dgn_bytes(reply.dgn);
     [
-        code,
-        instance,
+        reply.code,
+        reply.instance,
         standard::UNUSED,
         standard::UNUSED,
-        requester,
-        low,
-        middle,
-        high,
+        reply.requester,
+        dgn[0],
+        dgn[1],
+        dgn[2],
     ]
 }
 
