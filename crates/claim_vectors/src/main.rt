@@ -5,7 +5,6 @@ use claim::Pausing;
 use claim::Sending;
 use claim::Standing;
 use claim::Starting;
-use frame::BadFrame;
 use libc::STDOUT_FILENO;
 
 // Our NAME, in the middle of those that contest it.
@@ -25,7 +24,7 @@ fn main() {
     say(b"lists refused\n");
     lists();
     say(b"states and frames refused\n");
-    refused();
+    states_and_frames();
 }
 
 fn one_address() {
@@ -124,7 +123,7 @@ fn lists() {
     stands(c);
 }
 
-fn refused() {
+fn states_and_frames() {
     let bytes = [0u8; 8];
     let sound = state(2, 1, 250, false);
     hear(sound, 0x18EEFF81, &bytes);
@@ -196,7 +195,7 @@ fn start(name: u64, list: &[u8]) -> Claim {
     let bytes = started.bytes;
     match answer {
         Starting::SendClaim => send(b"send claim", started.id, bytes),
-        Starting::ListMalformed => refusal(16),
+        _ => refused(answer.refusal()),
     }
     started.claim
 }
@@ -220,20 +219,9 @@ fn hear(claim: Claim, id: u32, bytes: &[u8]) -> Claim {
         Hearing::SendClaimAgain => send(b"send claim again", heard.id, to_send),
         Hearing::SendNextClaim => send(b"send next claim", heard.id, to_send),
         Hearing::SendCannotClaim => send(b"send cannot claim", heard.id, to_send),
-        Hearing::BrokenState => refusal(2),
-        Hearing::BadFrame(why) => bad_frame(why),
-        Hearing::ListMalformed => refusal(16),
+        _ => refused(answer.refusal()),
     }
     heard.claim
-}
-
-fn bad_frame(why: BadFrame) {
-    match why {
-        BadFrame::IdentifierTooLarge => refusal(3),
-        BadFrame::NotEightBytes => refusal(4),
-        BadFrame::ReservedBitSet => refusal(5),
-        BadFrame::SourceNotAllowed => refusal(6),
-    }
 }
 
 fn pause(claim: Claim, ms: u16) -> Claim {
@@ -244,20 +232,19 @@ fn pause(claim: Claim, ms: u16) -> Claim {
     let answer = paused.answer;
     match answer {
         Pausing::Waited => say(b"waited\n"),
-        Pausing::BrokenState => refusal(2),
-        Pausing::ListMalformed => refusal(16),
+        _ => refused(answer.refusal()),
     }
     paused.claim
 }
 
 fn stands(claim: Claim) {
     say(b"stands ");
-    match claim.stands() {
+    let standing = claim.stands();
+    match standing {
         Standing::Held(a) => at(b"held", a),
         Standing::Claiming(a) => at(b"claiming", a),
         Standing::Silent => say(b"silent\n"),
-        Standing::BrokenState => refusal(2),
-        Standing::ListMalformed => refusal(16),
+        _ => refused(standing.refusal()),
     }
 }
 
@@ -268,8 +255,7 @@ fn ours(claim: Claim) {
     let bytes = ours.bytes;
     match answer {
         Sending::Frame => send(b"frame", ours.id, bytes),
-        Sending::BrokenState => refusal(2),
-        Sending::ListMalformed => refusal(16),
+        _ => refused(answer.refusal()),
     }
 }
 
@@ -300,7 +286,7 @@ fn byte(b: u8) {
     io::print_hex(STDOUT_FILENO, b as u64, 2);
 }
 
-fn refusal(number: u8) {
+fn refused(number: u8) {
     say(b"refusal=");
     io::print_decimal(STDOUT_FILENO, number as u64);
     say(b"\n");
