@@ -8,6 +8,7 @@ use catalogue::dgns::TANK_STATUS;
 use claim::Claim;
 use claim::Standing;
 use command::Acknowledging;
+use command::Acknowledgment;
 use command::Entry;
 use command::Host;
 use command::Positions;
@@ -88,7 +89,13 @@ pub fn answer_command(host: Host, claim: Claim, source: u8, id: u32, bytes: [u8;
 
 // Code 1 of Table 7.5: the command will not be executed.
 fn send_nak(claim: Claim, requester: u8, instance: u8) {
-    let formed = command::acknowledge(claim, requester, 1, instance, TANK_CALIBRATION_COMMAND);
+    let reply = Acknowledgment {
+        code: 1,
+        instance,
+        requester,
+        dgn: TANK_CALIBRATION_COMMAND,
+    };
+    let formed = command::acknowledge(claim, reply);
     let answer = formed.answer;
     let bytes = formed.bytes;
     match answer {
