@@ -6,11 +6,11 @@ use mathlib.Core.List.{List}
 use Prim.Native.Nat.{ℕ, _<_}
 use native.Mathlib.Omega.{arith}
 use borrow.Author.Tests.{eq-eqb, ne-eqb}
-use lib.ListN.{length, replicate}
+use lib.ListN.{length}
 use Rattle.frame.specs.Words.{_=?_, Told, refused, gives, given_then_}
 use Rattle.frame.specs.Bytes.{numberOf}
-use Rattle.frame.specs.Frame.{frameBytes, checkedOf}
-use Rattle.frame.specs.Standard.{claimDgn}
+use Rattle.frame.specs.Frame.{checkedOf}
+use Rattle.frame.specs.Standard.{claimDgn, noFrame}
 use Rattle.frame.specs.Promises.{toldVerdict, refusalOf, bytesIf}
 use Rattle.frame.specs.declared.Parts.{Parts}
 use Rattle.frame.specs.declared.BadFrame.{BadFrame}
@@ -113,13 +113,13 @@ heard-sound id bytes eight c v parts k t b e =
 
 -- an answer with its state and its frame keeps the promise
 
-count-after : (o : Outcome) (c : Claim) → after o c .count ≡ c .count
+candidates-after : (o : Outcome) (c : Claim) → after o c .candidates ≡ c .candidates
 unfolding after
-count-after nothingToDo c = refl
-count-after ownName c = refl
-count-after repeated c = refl
-count-after moved c = refl
-count-after fellSilent c = refl
+candidates-after nothingToDo c = refl
+candidates-after ownName c = refl
+candidates-after repeated c = refl
+candidates-after moved c = refl
+candidates-after fellSilent c = refl
 
 module _ (id : ℕ) (bytes : List ℕ) (c : Claim) (a v : Hearing) (t : toldHearing a ≡ heardOf id bytes c) (e : a ≡ v) where
   told : heardOf id bytes c ≡ toldHearing v
@@ -129,7 +129,7 @@ module _ (id : ℕ) (bytes : List ℕ) (c : Claim) (a v : Hearing) (t : toldHear
   hear-room d o g f =
       let k = heard-given id bytes c o (told ∙ g) in
       let p = ap (λ (x : Claim). x .position) f in
-      omega (arith, k .0 .inside, k .1 .few, count-after o c)
+      omega (arith, k .0 .inside, k .1 .few, candidates-after o c)
 
   pub hear-sends : (d : Claim) (r : Heard) → isSentTold (toldHearing v) ≡ true → afterTold (toldHearing v) c ≡ d
       → r ≡ record { claim = d; answer = a; id = claimId d; bytes = claimBytes d } → Hear id bytes c r
@@ -144,7 +144,7 @@ module _ (id : ℕ) (bytes : List ℕ) (c : Claim) (a v : Hearing) (t : toldHear
       }
 
   pub hear-keeps : (r : Heard) → isSentTold (toldHearing v) ≡ false → afterTold (toldHearing v) c ≡ c
-      → r ≡ record { claim = c; answer = a; id = 0; bytes = replicate frameBytes 0 } → Hear id bytes c r
+      → r ≡ record { claim = c; answer = a; id = noFrame .id; bytes = noFrame .bytes } → Hear id bytes c r
   hear-keeps r s f h =
       let n : isSentTold (heardOf id bytes c) ≡ false = ap isSentTold told ∙ s in
       let m : afterTold (heardOf id bytes c) c ≡ c = ap (λ (x : Told Outcome). afterTold x c) told ∙ f in
@@ -157,5 +157,5 @@ module _ (id : ℕ) (bytes : List ℕ) (c : Claim) (a v : Hearing) (t : toldHear
 
 -- a state begun with the list filled up
 pub begun-filled : (name : ℕ) (list filled : List ℕ) → filled ≡ padded list
-    → record { name = name; list = filled; count = length list; position = 0; wait = 0; silent = false } ≡ begun name list
+    → record { name = name; list = filled; candidates = length list; position = 0; wait = 0; silent = false } ≡ begun name list
 begun-filled name list filled e = rw e

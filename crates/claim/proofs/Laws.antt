@@ -47,12 +47,12 @@ use Rattle.claim.proofs.Machine.{same-self, node-after, node-paused, so
 -- an answer is read back from what it tells
 
 startingBack : Told Done → Starting
-startingBack (gives d) = Starting.Sent
+startingBack (gives d) = Starting.SendClaim
 startingBack (refused n) = Starting.ListMalformed
 
 starting-back : (r : Starting) → startingBack (toldStarting r) ≡ r
 unfolding startingBack
-starting-back Starting.Sent = refl
+starting-back Starting.SendClaim = refl
 starting-back Starting.ListMalformed = refl
 
 pub told-starting-same : the.ToldStartingSame
@@ -61,19 +61,19 @@ told-starting-same r s e = sym (starting-back r) ∙ ap startingBack e ∙ start
 hearingBack : Told Outcome → Hearing
 hearingBack (gives nothingToDo) = Hearing.NothingToDo
 hearingBack (gives ownName) = Hearing.OwnName
-hearingBack (gives repeated) = Hearing.Repeated
-hearingBack (gives moved) = Hearing.Moved
-hearingBack (gives fellSilent) = Hearing.FellSilent
-hearingBack (refused n) = if n =? 2 then Hearing.StateBroken else if n =? 16 then Hearing.ListMalformed else Hearing.BadFrame (frame-laws.badBack n)
+hearingBack (gives repeated) = Hearing.SendClaimAgain
+hearingBack (gives moved) = Hearing.SendNextClaim
+hearingBack (gives fellSilent) = Hearing.SendCannotClaim
+hearingBack (refused n) = if n =? 2 then Hearing.BrokenState else if n =? 16 then Hearing.ListMalformed else Hearing.BadFrame (frame-laws.badBack n)
 
 hearing-back : (r : Hearing) → hearingBack (toldHearing r) ≡ r
 unfolding hearingBack
 hearing-back Hearing.NothingToDo = refl
 hearing-back Hearing.OwnName = refl
-hearing-back Hearing.Repeated = refl
-hearing-back Hearing.Moved = refl
-hearing-back Hearing.FellSilent = refl
-hearing-back Hearing.StateBroken = refl
+hearing-back Hearing.SendClaimAgain = refl
+hearing-back Hearing.SendNextClaim = refl
+hearing-back Hearing.SendCannotClaim = refl
+hearing-back Hearing.BrokenState = refl
 hearing-back (Hearing.BadFrame IdentifierTooLarge) = ap Hearing.BadFrame (frame-laws.bad-back IdentifierTooLarge)
 hearing-back (Hearing.BadFrame NotEightBytes) = ap Hearing.BadFrame (frame-laws.bad-back NotEightBytes)
 hearing-back (Hearing.BadFrame ReservedBitSet) = ap Hearing.BadFrame (frame-laws.bad-back ReservedBitSet)
@@ -85,12 +85,12 @@ told-hearing-same r s e = sym (hearing-back r) ∙ ap hearingBack e ∙ hearing-
 
 pausingBack : Told Done → Pausing
 pausingBack (gives d) = Pausing.Waited
-pausingBack (refused n) = if n =? 2 then Pausing.StateBroken else Pausing.ListMalformed
+pausingBack (refused n) = if n =? 2 then Pausing.BrokenState else Pausing.ListMalformed
 
 pausing-back : (r : Pausing) → pausingBack (toldPausing r) ≡ r
 unfolding pausingBack
 pausing-back Pausing.Waited = refl
-pausing-back Pausing.StateBroken = refl
+pausing-back Pausing.BrokenState = refl
 pausing-back Pausing.ListMalformed = refl
 
 pub told-pausing-same : the.ToldPausingSame
@@ -100,27 +100,27 @@ standingBack : Told Stand → Standing
 standingBack (gives (held a)) = Standing.Held a
 standingBack (gives (claiming a)) = Standing.Claiming a
 standingBack (gives silent) = Standing.Silent
-standingBack (refused n) = if n =? 2 then Standing.StateBroken else Standing.ListMalformed
+standingBack (refused n) = if n =? 2 then Standing.BrokenState else Standing.ListMalformed
 
 standing-back : (r : Standing) → standingBack (toldStanding r) ≡ r
 unfolding standingBack
 standing-back (Standing.Held a) = refl
 standing-back (Standing.Claiming a) = refl
 standing-back Standing.Silent = refl
-standing-back Standing.StateBroken = refl
+standing-back Standing.BrokenState = refl
 standing-back Standing.ListMalformed = refl
 
 pub told-standing-same : the.ToldStandingSame
 told-standing-same r s e = sym (standing-back r) ∙ ap standingBack e ∙ standing-back s
 
 sendingBack : Told Done → Sending
-sendingBack (gives d) = Sending.Sent
-sendingBack (refused n) = if n =? 2 then Sending.StateBroken else Sending.ListMalformed
+sendingBack (gives d) = Sending.Frame
+sendingBack (refused n) = if n =? 2 then Sending.BrokenState else Sending.ListMalformed
 
 sending-back : (r : Sending) → sendingBack (toldSending r) ≡ r
 unfolding sendingBack
-sending-back Sending.Sent = refl
-sending-back Sending.StateBroken = refl
+sending-back Sending.Frame = refl
+sending-back Sending.BrokenState = refl
 sending-back Sending.ListMalformed = refl
 
 pub told-sending-same : the.ToldSendingSame
@@ -165,6 +165,21 @@ keeps-rules-only c r s p q = p .answer ∙ sym (q .answer)
 
 pub holds-list-only : the.HoldsListOnly
 holds-list-only c r s p q = p .answer ∙ sym (q .answer)
+
+pub starting-refusal-only : the.StartingRefusalOnly
+starting-refusal-only answer r s p q = p .number ∙ sym (q .number)
+
+pub hearing-refusal-only : the.HearingRefusalOnly
+hearing-refusal-only answer r s p q = p .number ∙ sym (q .number)
+
+pub pausing-refusal-only : the.PausingRefusalOnly
+pausing-refusal-only answer r s p q = p .number ∙ sym (q .number)
+
+pub standing-refusal-only : the.StandingRefusalOnly
+standing-refusal-only answer r s p q = p .number ∙ sym (q .number)
+
+pub sending-refusal-only : the.SendingRefusalOnly
+sending-refusal-only answer r s p q = p .number ∙ sym (q .number)
 
 -- a refusal keeps
 
@@ -350,7 +365,7 @@ hear-sends-ours id bytes c r p e =
     let s : isSentTold (heardOf id bytes c) ≡ true = ap isSentTold (sym (p .answer)) ∙ e in
     let n = node-told (heardOf id bytes c) c in (
       (p .sent-id ∙ rw s (ap claimId (sym (p .state))), p .sent-bytes ∙ rw s (ap claimBytes (sym (p .state)))),
-      record { name = ap (λ (d : Claim). d .name) (p .state) ∙ n .name; list = ap (λ (d : Claim). d .list) (p .state) ∙ n .list; count = ap (λ (d : Claim). d .count) (p .state) ∙ n .count },
+      record { name = ap (λ (d : Claim). d .name) (p .state) ∙ n .name; list = ap (λ (d : Claim). d .list) (p .state) ∙ n .list; candidates = ap (λ (d : Claim). d .candidates) (p .state) ∙ n .candidates },
     )
 
 pub hear-sends-nothing : the.HearSendsNothing

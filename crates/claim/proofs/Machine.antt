@@ -21,21 +21,21 @@ use Rattle.claim.proofs.Outcomes.{Went, deaf, apart, same, wins, goes, 
 -- the NAME and the list stay
 
 pub same-self : (c : Claim) → SameNode c c
-same-self c = record { name = refl; list = refl; count = refl }
+same-self c = record { name = refl; list = refl; candidates = refl }
 
 pub node-after : (o : Outcome) (c : Claim) → SameNode (after o c) c
 unfolding after
 node-after nothingToDo c = same-self c
 node-after ownName c = same-self c
 node-after repeated c = same-self c
-node-after moved c = record { name = refl; list = refl; count = refl }
-node-after fellSilent c = record { name = refl; list = refl; count = refl }
+node-after moved c = record { name = refl; list = refl; candidates = refl }
+node-after fellSilent c = record { name = refl; list = refl; candidates = refl }
 
 pub node-paused : (ms : ℕ) (c : Claim) → SameNode (pause ms c) c
 node-paused ms c =
     by-test (c .silent)
     (λ s. rw (pause-silent ms c s) (same-self c))
-    (λ s. rw (pause-awake ms c s) (record { name = refl; list = refl; count = refl }))
+    (λ s. rw (pause-awake ms c s) (record { name = refl; list = refl; candidates = refl }))
 
 node-step : (c : Claim) (e : Event) → SameNode (step c e) c
 unfolding step
@@ -47,13 +47,13 @@ node-stays c [] = same-self c
 node-stays c (e ∷ es) =
     let a = node-step c e in
     let b = node-stays (step c e) es in
-    record { name = b .name ∙ a .name; list = b .list ∙ a .list; count = b .count ∙ a .count }
+    record { name = b .name ∙ a .name; list = b .list ∙ a .list; candidates = b .candidates ∙ a .candidates }
 
 -- sound states lead to sound states
 
 pub holds-same : (c d : Claim) → SameNode d c → holdsList d ≡ holdsList c
 unfolding holdsList
-holds-same c d n = rw (n .count, n .list)
+holds-same c d n = rw (n .candidates, n .list)
 
 pub sound-same : (c d : Claim) → isSound c ≡ true → Rules d → SameNode d c → isSound d ≡ true
 sound-same c d s k n =

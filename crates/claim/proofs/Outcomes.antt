@@ -16,8 +16,8 @@ pub data Went (source name : ℕ) (c : Claim) : Outcome → Type 0 where
   apart : c .silent ≡ false → (source ≡ address c → ⊥) → Went source name c nothingToDo
   same : c .silent ≡ false → source ≡ address c → name ≡ c .name → Went source name c ownName
   wins : c .silent ≡ false → source ≡ address c → c .name < name → Went source name c repeated
-  goes : c .silent ≡ false → source ≡ address c → name < c .name → c .position + 1 < c .count → Went source name c moved
-  ends : c .silent ≡ false → source ≡ address c → name < c .name → c .count ≤ c .position + 1 → Went source name c fellSilent
+  goes : c .silent ≡ false → source ≡ address c → name < c .name → c .position + 1 < c .candidates → Went source name c moved
+  ends : c .silent ≡ false → source ≡ address c → name < c .name → c .candidates ≤ c .position + 1 → Went source name c fellSilent
 
 module _ (source name : ℕ) (c : Claim) where
   pub when-silent : c .silent ≡ true → outcomeOf source name c ≡ nothingToDo
@@ -28,12 +28,12 @@ module _ (source name : ℕ) (c : Claim) where
   unfolding outcomeOf
   when-apart s a = rw (s, a)
 
-  when-moved : c .silent ≡ false → (source =? address c) ≡ true → (name <? c .name) ≡ true → (c .position + 1 <? c .count) ≡ true
+  when-moved : c .silent ≡ false → (source =? address c) ≡ true → (name <? c .name) ≡ true → (c .position + 1 <? c .candidates) ≡ true
       → outcomeOf source name c ≡ moved
   unfolding outcomeOf lostBy
   when-moved s a l m = rw (s, a, l, m)
 
-  when-fell : c .silent ≡ false → (source =? address c) ≡ true → (name <? c .name) ≡ true → (c .position + 1 <? c .count) ≡ false
+  when-fell : c .silent ≡ false → (source =? address c) ≡ true → (name <? c .name) ≡ true → (c .position + 1 <? c .candidates) ≡ false
       → outcomeOf source name c ≡ fellSilent
   unfolding outcomeOf lostBy
   when-fell s a l m = rw (s, a, l, m)
@@ -56,7 +56,7 @@ module _ (source name : ℕ) (c : Claim) where
       (λ a.
       let at = eqb-true source (address c) a in
       by-test (name <? c .name)
-      (λ l. by-test (c .position + 1 <? c .count)
+      (λ l. by-test (c .position + 1 <? c .candidates)
       (λ m. rw (when-moved s a l m) (goes s at (ltb-true _ _ l) (ltb-true _ _ m)))
       (λ m. rw (when-fell s a l m) (ends s at (ltb-true _ _ l) (ltb-false _ _ m))))
       (λ l. by-test (c .name <? name)

@@ -16,14 +16,14 @@ use Rattle.claim.specs.declared.Claim.{Claim}
 use Rattle.claim.proofs.Candidates.{well-formed, address-at}
 
 pub record Rules (c : Claim) : Type 0 where
-  pub inside : c .position < c .count
+  pub inside : c .position < c .candidates
   pub short : c .wait ≤ heldAfter
   pub still : c .silent ≡ true → (c .position ≡ 0) × (c .wait ≡ 0)
 
 pub rules-of : (c : Claim) → keepsRules c ≡ true → Rules c
 unfolding keepsRules
 rules-of c e =
-    let a = both-true (c .position <? c .count) _ e in
+    let a = both-true (c .position <? c .candidates) _ e in
     let b = both-true (c .wait ≤? heldAfter) _ (a .1) in
     record {
       inside = ltb-true _ _ (a .0);
@@ -43,25 +43,25 @@ of-rules c k =
     (λ s. rw s))
 
 pub record Holds (c : Claim) : Type 0 where
-  pub few : c .count ≤ longestList
-  pub formed : isWellFormed (take (c .count) (c .list)) ≡ true
+  pub few : c .candidates ≤ longestList
+  pub formed : isWellFormed (take (c .candidates) (c .list)) ≡ true
 
 pub holds-of : (c : Claim) → holdsList c ≡ true → Holds c
 unfolding holdsList
 holds-of c e =
-    let a = both-true (c .count ≤? longestList) _ e in
+    let a = both-true (c .candidates ≤? longestList) _ e in
     record { few = leb-true _ _ (a .0); formed = a .1 }
 
 -- the code's test of a held list
-pub holds-list : (c : Claim) (b : Bool) → c .count ≤ longestList → b ≡ isWellFormed (take (c .count - 0) (c .list)) → b ≡ holdsList c
+pub holds-list : (c : Claim) (b : Bool) → c .candidates ≤ longestList → b ≡ isWellFormed (take (c .candidates - 0) (c .list)) → b ≡ holdsList c
 unfolding holdsList
-holds-list c b h e = let z : c .count - 0 ≡ c .count = omega arith in rw (le-leb _ _ h) (rw z at e)
+holds-list c b h e = let z : c .candidates - 0 ≡ c .candidates = omega arith in rw (le-leb _ _ h) (rw z at e)
 
 -- the address that a sound state stands at is one of its list, so neither 254 nor 255
 pub address-low : (c : Claim) → Rules c → Holds c → address c ≤ greatestAddress
 address-low c k h =
-    let w = well-formed (take (c .count) (c .list)) (h .formed) in
-    rw (← getD-take (c .count) (c .list) (c .position) 0 (k .inside)) (address-at (take (c .count) (c .list)) (c .position) (w .low))
+    let w = well-formed (take (c .candidates) (c .list)) (h .formed) in
+    rw (← getD-take (c .candidates) (c .list) (c .position) 0 (k .inside)) (address-at (take (c .candidates) (c .list)) (c .position) (w .low))
 
 -- a pause in its three cases
 

@@ -22,12 +22,12 @@ claimPriority = 6
 -- a state that breaks its rules is refused with 2: a position outside its list, a wait above 250, or silent with either not 0
 unfoldable pub keepsRules : Claim → Bool
 keepsRules c =
-    (c .position <? c .count) and (c .wait ≤? heldAfter)
+    (c .position <? c .candidates) and (c .wait ≤? heldAfter)
     and (if c .silent then (c .position =? 0) and (c .wait =? 0) else true)
 
 -- a state whose list is malformed is refused with 16
 unfoldable pub holdsList : Claim → Bool
-holdsList c = (c .count ≤? longestList) and isWellFormed (take (c .count) (c .list))
+holdsList c = (c .candidates ≤? longestList) and isWellFormed (take (c .candidates) (c .list))
 
 -- the address that we claim or hold
 abbrev pub address : Claim → ℕ
@@ -59,21 +59,21 @@ standOf c =
 -- starting: the first address is claimed
 abbrev pub begun : ℕ → List ℕ → Claim
 begun name list =
-    record { name = name; list = padded list; count = length list; position = 0; wait = 0; silent = false }
+    record { name = name; list = padded list; candidates = length list; position = 0; wait = 0; silent = false }
 
 -- the next address of the list is claimed, and the wait begins anew
 abbrev pub atNext : Claim → Claim
 atNext c =
-    record { name = c .name; list = c .list; count = c .count; position = c .position + 1; wait = 0; silent = false }
+    record { name = c .name; list = c .list; candidates = c .candidates; position = c .position + 1; wait = 0; silent = false }
 
 -- no address is left
 abbrev pub fallen : Claim → Claim
 fallen c =
-    record { name = c .name; list = c .list; count = c .count; position = 0; wait = 0; silent = true }
+    record { name = c .name; list = c .list; candidates = c .candidates; position = 0; wait = 0; silent = true }
 
 abbrev pub waited : ℕ → Claim → Claim
 waited wait c =
-    record { name = c .name; list = c .list; count = c .count; position = c .position; wait = wait; silent = c .silent }
+    record { name = c .name; list = c .list; candidates = c .candidates; position = c .position; wait = wait; silent = c .silent }
 
 -- how a claim that we hear ends for us: no contest, an equal NAME, a contest won, or one lost with an address left or with none
 pub data Outcome : Type 0 where
@@ -85,7 +85,7 @@ pub data Outcome : Type 0 where
 
 -- a contest is lost
 unfoldable pub lostBy : Claim → Outcome
-lostBy c = if c .position + 1 <? c .count then moved else fellSilent
+lostBy c = if c .position + 1 <? c .candidates then moved else fellSilent
 
 -- a claim is heard, from this source and with this NAME: it is a contest at our address only, and silent ignores claims
 unfoldable pub outcomeOf : ℕ → ℕ → Claim → Outcome

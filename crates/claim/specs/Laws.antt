@@ -4,16 +4,16 @@ use mathlib.Core.Bool.{Bool, true, false}
 use mathlib.Core.List.{List}
 use mathlib.Core.Logic.{_↔_}
 use Prim.Native.Nat.{ℕ, _≤_, _<_, _%_, _^_}
-use lib.ListN.{length, getD, replicate}
+use lib.ListN.{length, getD}
 use Rattle.frame.specs.Words.{refused, gives}
 use Rattle.frame.specs.Bytes.{numberOf, bytesOf}
 use Rattle.frame.specs.Identifier.{identifierOf, identifiers}
 use Rattle.frame.specs.Frame.{frameBytes, checkedOf}
-use Rattle.frame.specs.Standard.{claimDgn, greatestAddress, noAddress}
+use Rattle.frame.specs.Standard.{claimDgn, greatestAddress, noAddress, noFrame}
 use Rattle.frame.specs.declared.Parts.{Parts}
 use Rattle.claim.specs.Claim.{heldAfter, claimPriority, keepsRules, holdsList, address, claimSource, claimId, claimBytes, held, standOf, begun, nothingToDo, outcomeOf, after}
 use Rattle.claim.specs.History.{Event, run, history, waitedSince}
-use Rattle.claim.specs.Promises.{Start, Hear, Pause, Stands, OurClaim, KeepsRules, HoldsList, done, toldStarting, toldHearing, toldPausing, toldStanding, toldSending, meetsFrame, heardOf, isSentTold, isSound, blank}
+use Rattle.claim.specs.Promises.{Start, Hear, Pause, Stands, OurClaim, KeepsRules, HoldsList, StartingRefusal, HearingRefusal, PausingRefusal, StandingRefusal, SendingRefusal, done, toldStarting, toldHearing, toldPausing, toldStanding, toldSending, meetsFrame, heardOf, isSentTold, isSound, blank}
 use Rattle.claim.specs.Calls.{Call, Ran, eventsIn}
 use Rattle.claim.specs.declared.Claim.{Claim}
 use Rattle.claim.specs.declared.Starting.{Starting}
@@ -66,10 +66,25 @@ KeepsRulesOnly = (c : Claim) (r s : Bool) → KeepsRules c r → KeepsRules c s 
 abbrev pub HoldsListOnly : Type 0
 HoldsListOnly = (c : Claim) (r s : Bool) → HoldsList c r → HoldsList c s → r ≡ s
 
+abbrev pub StartingRefusalOnly : Type 0
+StartingRefusalOnly = (answer : Starting) (r s : ℕ) → StartingRefusal answer r → StartingRefusal answer s → r ≡ s
+
+abbrev pub HearingRefusalOnly : Type 0
+HearingRefusalOnly = (answer : Hearing) (r s : ℕ) → HearingRefusal answer r → HearingRefusal answer s → r ≡ s
+
+abbrev pub PausingRefusalOnly : Type 0
+PausingRefusalOnly = (answer : Pausing) (r s : ℕ) → PausingRefusal answer r → PausingRefusal answer s → r ≡ s
+
+abbrev pub StandingRefusalOnly : Type 0
+StandingRefusalOnly = (answer : Standing) (r s : ℕ) → StandingRefusal answer r → StandingRefusal answer s → r ≡ s
+
+abbrev pub SendingRefusalOnly : Type 0
+SendingRefusalOnly = (answer : Sending) (r s : ℕ) → SendingRefusal answer r → SendingRefusal answer s → r ≡ s
+
 -- A refusal returns its number and nothing else: the state stays, and no frame stands beside it.
 
 abbrev pub NoFrame : ℕ → List ℕ → Type 0
-NoFrame id bytes = (id ≡ 0) × (bytes ≡ replicate frameBytes 0)
+NoFrame id bytes = (id ≡ noFrame .id) × (bytes ≡ noFrame .bytes)
 
 abbrev pub StartRefusedKeeps : Type 0
 StartRefusedKeeps =
@@ -128,7 +143,7 @@ RunSound = (c : Claim) (es : List Event) → isSound c ≡ true → isSound (run
 pub record SameNode (d c : Claim) : Type 0 where
   pub name : d .name ≡ c .name
   pub list : d .list ≡ c .list
-  pub count : d .count ≡ c .count
+  pub candidates : d .candidates ≡ c .candidates
 
 abbrev pub NodeStays : Type 0
 NodeStays = (c : Claim) (es : List Event) → SameNode (run c es) c

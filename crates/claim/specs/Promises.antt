@@ -4,10 +4,10 @@ use mathlib.Core.Bool.{Bool, false, not}
 use mathlib.Core.List.{List}
 use Prim.Native.Nat.{ℕ}
 use lib.ListN.{length, replicate}
-use Rattle.frame.specs.Words.{if_then_else_, _=?_, _and_, Told, refused, gives, given_then_}
+use Rattle.frame.specs.Words.{if_then_else_, _=?_, _and_, Told, refused, gives, numberIn, given_then_}
 use Rattle.frame.specs.Bytes.{numberOf}
-use Rattle.frame.specs.Frame.{frameBytes, checkedOf}
-use Rattle.frame.specs.Standard.{claimDgn}
+use Rattle.frame.specs.Frame.{checkedOf}
+use Rattle.frame.specs.Standard.{claimDgn, noFrame}
 use Rattle.frame.specs.Promises.{refusalOf}
 use Rattle.frame.specs.declared.Parts.{Parts}
 use Rattle.claim.specs.Candidates.{longestList, isWellFormed}
@@ -32,21 +32,21 @@ use Rattle.claim.specs.declared.ClaimFrame.{ClaimFrame}
 pub data Done : Type 0 where
   done : Done
 
--- beside an answer: the frame of our claim where it is sent, and zeros where nothing is
+-- beside an answer: the frame of our claim where it is to be sent, and no frame where nothing is
 abbrev pub idIf : Bool → Claim → ℕ
-idIf sent c = if sent then claimId c else 0
+idIf sent c = if sent then claimId c else noFrame .id
 
 abbrev pub bytesIf : Bool → Claim → List ℕ
-bytesIf sent c = if sent then claimBytes c else replicate frameBytes 0
+bytesIf sent c = if sent then claimBytes c else noFrame .bytes
 
 -- Claim::start
 
 -- the all-zero state, beside a refused start
 abbrev pub blank : Claim
-blank = record { name = 0; list = replicate longestList 0; count = 0; position = 0; wait = 0; silent = false }
+blank = record { name = 0; list = replicate longestList 0; candidates = 0; position = 0; wait = 0; silent = false }
 
 abbrev pub toldStarting : Starting → Told Done
-toldStarting Starting.Sent = gives done
+toldStarting Starting.SendClaim = gives done
 toldStarting Starting.ListMalformed = refused 16
 
 unfoldable pub startedOf : List ℕ → Told Done
@@ -58,15 +58,18 @@ pub record Start (name : ℕ) (list : List ℕ) (r : Started) : Type 0 where
   pub sent-id : r .id ≡ idIf (isWellFormed list) (begun name list)
   pub sent-bytes : r .bytes ≡ bytesIf (isWellFormed list) (begun name list)
 
+pub record StartingRefusal (answer : Starting) (r : ℕ) : Type 0 where
+  pub number : r ≡ numberIn (toldStarting answer)
+
 -- Claim::hear
 
 abbrev pub toldHearing : Hearing → Told Outcome
 toldHearing Hearing.NothingToDo = gives nothingToDo
 toldHearing Hearing.OwnName = gives ownName
-toldHearing Hearing.Repeated = gives repeated
-toldHearing Hearing.Moved = gives moved
-toldHearing Hearing.FellSilent = gives fellSilent
-toldHearing Hearing.StateBroken = refused 2
+toldHearing Hearing.SendClaimAgain = gives repeated
+toldHearing Hearing.SendNextClaim = gives moved
+toldHearing Hearing.SendCannotClaim = gives fellSilent
+toldHearing Hearing.BrokenState = refused 2
 toldHearing (Hearing.BadFrame why) = refused (refusalOf why)
 toldHearing Hearing.ListMalformed = refused 16
 
@@ -100,6 +103,9 @@ pub record Hear (id : ℕ) (bytes : List ℕ) (c : Claim) (r : Heard) : Type 0 w
   pub sent-id : r .id ≡ idIf (isSentTold (heardOf id bytes c)) (afterTold (heardOf id bytes c) c)
   pub sent-bytes : r .bytes ≡ bytesIf (isSentTold (heardOf id bytes c)) (afterTold (heardOf id bytes c) c)
 
+pub record HearingRefusal (answer : Hearing) (r : ℕ) : Type 0 where
+  pub number : r ≡ numberIn (toldHearing answer)
+
 -- a state handed in with no frame: 2, then 16
 
 abbrev pub isSound : Claim → Bool
@@ -115,12 +121,15 @@ soundOf c =
 
 abbrev pub toldPausing : Pausing → Told Done
 toldPausing Pausing.Waited = gives done
-toldPausing Pausing.StateBroken = refused 2
+toldPausing Pausing.BrokenState = refused 2
 toldPausing Pausing.ListMalformed = refused 16
 
 pub record Pause (ms : ℕ) (c : Claim) (r : Paused) : Type 0 where
   pub answer : toldPausing (r .answer) ≡ soundOf c
   pub state : r .claim ≡ (if isSound c then pause ms c else c)
+
+pub record PausingRefusal (answer : Pausing) (r : ℕ) : Type 0 where
+  pub number : r ≡ numberIn (toldPausing answer)
 
 -- Claim::stands
 
@@ -128,23 +137,29 @@ abbrev pub toldStanding : Standing → Told Stand
 toldStanding (Standing.Held a) = gives (held a)
 toldStanding (Standing.Claiming a) = gives (claiming a)
 toldStanding Standing.Silent = gives silent
-toldStanding Standing.StateBroken = refused 2
+toldStanding Standing.BrokenState = refused 2
 toldStanding Standing.ListMalformed = refused 16
 
 pub record Stands (c : Claim) (r : Standing) : Type 0 where
   pub answer : toldStanding r ≡ (given soundOf c then λ _. gives (standOf c))
 
+pub record StandingRefusal (answer : Standing) (r : ℕ) : Type 0 where
+  pub number : r ≡ numberIn (toldStanding answer)
+
 -- Claim::our_claim
 
 abbrev pub toldSending : Sending → Told Done
-toldSending Sending.Sent = gives done
-toldSending Sending.StateBroken = refused 2
+toldSending Sending.Frame = gives done
+toldSending Sending.BrokenState = refused 2
 toldSending Sending.ListMalformed = refused 16
 
 pub record OurClaim (c : Claim) (r : ClaimFrame) : Type 0 where
   pub answer : toldSending (r .answer) ≡ soundOf c
   pub sent-id : r .id ≡ idIf (isSound c) c
   pub sent-bytes : r .bytes ≡ bytesIf (isSound c) c
+
+pub record SendingRefusal (answer : Sending) (r : ℕ) : Type 0 where
+  pub number : r ≡ numberIn (toldSending answer)
 
 -- Claim::keeps_rules and Claim::holds_list
 

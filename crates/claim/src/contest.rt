@@ -5,10 +5,11 @@ use crate::Hearing;
 use crate::state;
 use frame::Parts;
 use frame::Verdict;
+use frame::standard;
 ghost use mathlib.Core.Path.{_≡_};
 ghost use Prim.Native.Nat.{_<_};
-ghost use lib.ListN.{replicate};
 ghost use Rattle.frame.specs.Words.{gives};
+ghost use Rattle.frame.specs.Standard.{noFrame};
 ghost use Rattle.claim.specs.Claim.{claimId, claimBytes, lostBy, outcomeOf};
 ghost use Rattle.claim.specs.Promises.{toldHearing, metOf, heardOf};
 
@@ -17,7 +18,7 @@ pub fn answer_to(claim: Claim, id: u32, bytes: &[u8]) -> Hearing
     ensures { λ r. ⌜ toldHearing r ≡ heardOf id (now (bytes .entry)) claim ⌝ }
 {
     if !claim.keeps_rules() {
-        return Hearing::StateBroken;
+        return Hearing::BrokenState;
     }
     let checked = frame::check(id, bytes);
     let verdict = checked.verdict;
@@ -30,13 +31,13 @@ pub fn answer_to(claim: Claim, id: u32, bytes: &[u8]) -> Hearing
 
 // A sound frame, heard by a state that keeps its rules.
 fn meet(claim: Claim, parts: Parts, bytes: [u8; 8]) -> Hearing
-    requires { ⌜ claim .position < claim .count ⌝ }
+    requires { ⌜ claim .position < claim .candidates ⌝ }
     ensures { λ r. ⌜ toldHearing r ≡ metOf parts bytes claim ⌝ }
 {
     if !claim.holds_list() {
         return Hearing::ListMalformed;
     }
-    if parts.dgn != 0xEEFF {
+    if parts.dgn != standard::CLAIM {
         return Hearing::NothingToDo;
     }
     outcome(claim, parts.source, frame::number_of(bytes))
@@ -59,7 +60,7 @@ fn outcome(claim: Claim, source: u8, name: u64) -> Hearing
         return lost(claim);
     }
     if claim.name < name {
-        return Hearing::Repeated;
+        return Hearing::SendClaimAgain;
     }
     Hearing::OwnName
 }
@@ -68,13 +69,13 @@ fn lost(claim: Claim) -> Hearing
     requires { ⌜ claim .position < 16 ⌝ }
     ensures { λ r. ⌜ toldHearing r ≡ gives (lostBy claim) ⌝ }
 {
-    if claim.position + 1 < claim.count {
-        return Hearing::Moved;
+    if claim.position + 1 < claim.candidates {
+        return Hearing::SendNextClaim;
     }
-    Hearing::FellSilent
+    Hearing::SendCannotClaim
 }
 
-// A state whose claim is sent with an answer.
+// A state whose claim is to be sent with an answer.
 pub fn sends(claim: Claim, answer: Hearing) -> Heard
     requires { ⌜ claim .position < 16 ⌝ }
     ensures { λ r. ⌜ r ≡ record { claim = claim; answer = answer; id = claimId claim; bytes = claimBytes claim } ⌝ }
@@ -88,14 +89,14 @@ pub fn sends(claim: Claim, answer: Hearing) -> Heard
     }
 }
 
-// A state beside an answer with which nothing is sent.
+// A state beside an answer with which nothing is to be sent.
 pub fn keeps(claim: Claim, answer: Hearing) -> Heard
-    ensures { λ r. ⌜ r ≡ record { claim = claim; answer = answer; id = 0; bytes = replicate 8 0 } ⌝ }
+    ensures { λ r. ⌜ r ≡ record { claim = claim; answer = answer; id = noFrame .id; bytes = noFrame .bytes } ⌝ }
 {
     Heard {
         claim,
         answer,
-        id: 0,
+        id: standard::NO_FRAME,
         bytes: [0u8; 8],
     }
 }

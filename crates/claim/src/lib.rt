@@ -1,29 +1,36 @@
 // Claiming an address: the candidate list, the contest of NAMEs, the wait until an address is held (document 01, "Claiming an address").
 use frame::BadFrame;
-ghost use Rattle.claim.specs.Promises.{Start, Hear, Pause, Stands, OurClaim, KeepsRules, HoldsList};
+use frame::standard;
+ghost use Rattle.claim.specs.Promises.{Start, Hear, Pause, Stands, OurClaim, KeepsRules, HoldsList, StartingRefusal, HearingRefusal, PausingRefusal, StandingRefusal, SendingRefusal};
 
 mod contest;
 mod list;
 mod state;
 
-// A claim's state: the NAME, the candidate list (`count` addresses, then zeros), the position in it of the address that is claimed or held, the
-// milliseconds waited there, up to 250, and whether all addresses are lost.
+// A candidate list has at most 16 addresses.
+pub const CANDIDATES: usize = 16;
+
+// An address is held after 250 ms.
+pub const HELD_AFTER: u16 = 250;
+
+// A claim's state: the NAME, the candidate list (`candidates` addresses, then zeros), the position in it of the address
+// that is claimed or held, the milliseconds waited there, up to 250, and whether all addresses are lost.
 pub struct Claim {
     pub name: u64,
-    pub list: [u8; 16],
-    pub count: usize,
+    pub list: [u8; CANDIDATES],
+    pub candidates: usize,
     pub position: usize,
     pub wait: u16,
     pub silent: bool,
 }
 
-// Started: our claim is sent; or refusal 16.
+// Started: our claim is to be sent; or refusal 16.
 pub enum Starting {
-    Sent,
+    SendClaim,
     ListMalformed,
 }
 
-// The new state, and the frame to send; zeros where the start is refused.
+// The new state, and the frame to send. Where the start is refused, the state is of zeros, and there is no frame.
 pub struct Started {
     pub claim: Claim,
     pub answer: Starting,
@@ -37,18 +44,18 @@ pub enum Hearing {
     NothingToDo,
     // A claim at our address with our own NAME.
     OwnName,
-    // A higher NAME: our claim is sent once more.
-    Repeated,
-    // A lower NAME: the next address is claimed.
-    Moved,
-    // A lower NAME, and no address is left: our claim is sent from 254.
-    FellSilent,
-    StateBroken,
+    // A higher NAME: our claim is to be sent once more.
+    SendClaimAgain,
+    // A lower NAME: we go on to the next address, and our claim of it is to be sent.
+    SendNextClaim,
+    // A lower NAME, and no address is left: we are silent, and our claim is to be sent from 254.
+    SendCannotClaim,
+    BrokenState,
     BadFrame(BadFrame),
     ListMalformed,
 }
 
-// The state, and the frame to send; zeros where nothing is sent.
+// The state, and the frame to send; no frame where nothing is to be sent.
 pub struct Heard {
     pub claim: Claim,
     pub answer: Hearing,
@@ -59,7 +66,7 @@ pub struct Heard {
 // Waited; or refusal 2, 16.
 pub enum Pausing {
     Waited,
-    StateBroken,
+    BrokenState,
     ListMalformed,
 }
 
@@ -73,22 +80,98 @@ pub enum Standing {
     Held(u8),
     Claiming(u8),
     Silent,
-    StateBroken,
+    BrokenState,
     ListMalformed,
 }
 
-// Our claim is told; or refusal 2, 16.
+// The frame beside is our claim; or refusal 2, 16.
 pub enum Sending {
-    Sent,
-    StateBroken,
+    Frame,
+    BrokenState,
     ListMalformed,
 }
 
-// The frame of our claim; zeros where the state is refused.
+// The frame of our claim; no frame where the state is refused.
 pub struct ClaimFrame {
     pub answer: Sending,
     pub id: u32,
     pub bytes: [u8; 8],
+}
+
+impl Starting {
+    // The number of the refusal; 0 where our claim is to be sent.
+    pub fn refusal(self) -> u8
+        ensures { λ r. ⌜ StartingRefusal self r ⌝ }
+    {
+        let answer = self;
+        match answer {
+            Starting::SendClaim => 0,
+            Starting::ListMalformed => 16,
+        }
+    }
+}
+
+impl Hearing {
+    // The number of the refusal; 0 where the frame is heard.
+    pub fn refusal(self) -> u8
+        ensures { λ r. ⌜ HearingRefusal self r ⌝ }
+    {
+        let answer = self;
+        match answer {
+            Hearing::NothingToDo => 0,
+            Hearing::OwnName => 0,
+            Hearing::SendClaimAgain => 0,
+            Hearing::SendNextClaim => 0,
+            Hearing::SendCannotClaim => 0,
+            Hearing::BrokenState => 2,
+            Hearing::BadFrame(why) => why.refusal(),
+            Hearing::ListMalformed => 16,
+        }
+    }
+}
+
+impl Pausing {
+    // The number of the refusal; 0 where the claim has waited.
+    pub fn refusal(self) -> u8
+        ensures { λ r. ⌜ PausingRefusal self r ⌝ }
+    {
+        let answer = self;
+        match answer {
+            Pausing::Waited => 0,
+            Pausing::BrokenState => 2,
+            Pausing::ListMalformed => 16,
+        }
+    }
+}
+
+impl Standing {
+    // The number of the refusal; 0 where it is told where the claim stands.
+    pub fn refusal(self) -> u8
+        ensures { λ r. ⌜ StandingRefusal self r ⌝ }
+    {
+        let answer = self;
+        match answer {
+            Standing::Held(_) => 0,
+            Standing::Claiming(_) => 0,
+            Standing::Silent => 0,
+            Standing::BrokenState => 2,
+            Standing::ListMalformed => 16,
+        }
+    }
+}
+
+impl Sending {
+    // The number of the refusal; 0 where the frame is told.
+    pub fn refusal(self) -> u8
+        ensures { λ r. ⌜ SendingRefusal self r ⌝ }
+    {
+        let answer = self;
+        match answer {
+            Sending::Frame => 0,
+            Sending::BrokenState => 2,
+            Sending::ListMalformed => 16,
+        }
+    }
 }
 
 impl Claim {
@@ -100,21 +183,21 @@ impl Claim {
             return Started {
                 claim: state::blank(),
                 answer: Starting::ListMalformed,
-                id: 0,
+                id: standard::NO_FRAME,
                 bytes: [0u8; 8],
             };
         }
         let claim = Claim {
             name,
             list: list::filled(list),
-            count: list.len(),
+            candidates: list.len(),
             position: 0,
             wait: 0,
             silent: false,
         };
         Started {
             claim,
-            answer: Starting::Sent,
+            answer: Starting::SendClaim,
             id: state::claim_id(claim),
             bytes: frame::bytes_of(name),
         }
@@ -126,12 +209,12 @@ impl Claim {
     {
         let answer = contest::answer_to(self, id, bytes);
         match answer {
-            Hearing::Repeated => contest::sends(self, answer),
-            Hearing::Moved => contest::sends(state::at_next(self), answer),
-            Hearing::FellSilent => contest::sends(state::fallen(self), answer),
+            Hearing::SendClaimAgain => contest::sends(self, answer),
+            Hearing::SendNextClaim => contest::sends(state::at_next(self), answer),
+            Hearing::SendCannotClaim => contest::sends(state::fallen(self), answer),
             Hearing::NothingToDo => contest::keeps(self, answer),
             Hearing::OwnName => contest::keeps(self, answer),
-            Hearing::StateBroken => contest::keeps(self, answer),
+            Hearing::BrokenState => contest::keeps(self, answer),
             Hearing::BadFrame(_) => contest::keeps(self, answer),
             Hearing::ListMalformed => contest::keeps(self, answer),
         }
@@ -144,7 +227,7 @@ impl Claim {
         if !self.keeps_rules() {
             return Paused {
                 claim: self,
-                answer: Pausing::StateBroken,
+                answer: Pausing::BrokenState,
             };
         }
         if !self.holds_list() {
@@ -164,7 +247,7 @@ impl Claim {
         ensures { λ r. ⌜ Stands self r ⌝ }
     {
         if !self.keeps_rules() {
-            return Standing::StateBroken;
+            return Standing::BrokenState;
         }
         if !self.holds_list() {
             return Standing::ListMalformed;
@@ -178,20 +261,20 @@ impl Claim {
     {
         if !self.keeps_rules() {
             return ClaimFrame {
-                answer: Sending::StateBroken,
-                id: 0,
+                answer: Sending::BrokenState,
+                id: standard::NO_FRAME,
                 bytes: [0u8; 8],
             };
         }
         if !self.holds_list() {
             return ClaimFrame {
                 answer: Sending::ListMalformed,
-                id: 0,
+                id: standard::NO_FRAME,
                 bytes: [0u8; 8],
             };
         }
         ClaimFrame {
-            answer: Sending::Sent,
+            answer: Sending::Frame,
             id: state::claim_id(self),
             bytes: frame::bytes_of(self.name),
         }
@@ -201,10 +284,10 @@ impl Claim {
     pub fn keeps_rules(self) -> bool
         ensures { λ r. ⌜ KeepsRules self r ⌝ }
     {
-        if self.count <= self.position {
+        if self.candidates <= self.position {
             return false;
         }
-        if 250 < self.wait {
+        if HELD_AFTER < self.wait {
             return false;
         }
         if !self.silent {
@@ -220,11 +303,11 @@ impl Claim {
     pub fn holds_list(self) -> bool
         ensures { λ r. ⌜ HoldsList self r ⌝ }
     {
-        let count = self.count;
-        if 16 < count {
+        let candidates = self.candidates;
+        if CANDIDATES < candidates {
             return false;
         }
         let list = self.list;
-        list::well_formed(&list[0..count])
+        list::well_formed(&list[0..candidates])
     }
 }

@@ -1,4 +1,6 @@
 // The candidate list: 1 to 16 distinct addresses, each at most 253.
+use crate::CANDIDATES;
+use frame::standard;
 ghost use mathlib.Core.Path.{_≡_};
 ghost use Prim.Native.Nat.{_≤_};
 ghost use lib.ListN.{length, drop};
@@ -10,7 +12,7 @@ pub fn well_formed(list: &[u8]) -> bool
     if list.len() < 1 {
         return false;
     }
-    if 16 < list.len() {
+    if CANDIDATES < list.len() {
         return false;
     }
     if !addresses(list) {
@@ -24,7 +26,7 @@ fn addresses(list: &[u8]) -> bool
 {
     let mut i: usize = 0;
     while i < list.len() {
-        if 253 < list[i] {
+        if standard::GREATEST_ADDRESS < list[i] {
             return false;
         }
         i += 1;
@@ -61,11 +63,11 @@ fn absent(a: u8, list: &[u8], from: usize) -> bool
 }
 
 // The list filled up with zeros.
-pub fn filled(list: &[u8]) -> [u8; 16]
+pub fn filled(list: &[u8]) -> [u8; CANDIDATES]
     requires { ⌜ length (now list) ≤ 16 ⌝ }
     ensures { λ r. ⌜ r ≡ padded (now (list .entry)) ⌝ }
 {
-    let mut out = [0u8; 16];
+    let mut out = [0u8; CANDIDATES];
     let mut i: usize = 0;
     while i < list.len() {
         out[i] = list[i];

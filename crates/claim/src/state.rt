@@ -1,11 +1,17 @@
 // A claim's state: the steps that change it, the frame of its claim, where it stands.
+use crate::CANDIDATES;
 use crate::Claim;
+use crate::HELD_AFTER;
 use crate::Standing;
+use frame::standard;
 ghost use mathlib.Core.Path.{_≡_};
 ghost use Prim.Native.Nat.{_+_, _<_};
 ghost use Rattle.frame.specs.Words.{gives};
 ghost use Rattle.claim.specs.Claim.{claimSource, claimId, standOf, atNext, fallen, pause};
 ghost use Rattle.claim.specs.Promises.{blank, toldStanding};
+
+// The identifier of a claim without its source: priority 6, DGN EEFFh.
+const CLAIM_ID: u32 = 6 * 0x4000000 + standard::CLAIM * 256;
 
 // The all-zero state, beside a refused start.
 pub fn blank() -> Claim
@@ -13,8 +19,8 @@ pub fn blank() -> Claim
 {
     Claim {
         name: 0,
-        list: [0u8; 16],
-        count: 0,
+        list: [0u8; CANDIDATES],
+        candidates: 0,
         position: 0,
         wait: 0,
         silent: false,
@@ -44,21 +50,21 @@ pub fn waited(claim: Claim, ms: u16) -> Claim
         return claim;
     }
     let sum = claim.wait as u32 + ms as u32;
-    if 250 < sum {
-        return placed(claim, claim.position, 250, claim.silent);
+    if (HELD_AFTER as u32) < sum {
+        return placed(claim, claim.position, HELD_AFTER, claim.silent);
     }
     placed(claim, claim.position, sum as u16, claim.silent)
 }
 
 // The same NAME and list, elsewhere.
 fn placed(claim: Claim, position: usize, wait: u16, silent: bool) -> Claim
-    ensures { λ r. ⌜ r ≡ record { name = claim .name; list = claim .list; count = claim .count; position = position; wait = wait; silent = silent } ⌝ }
+    ensures { λ r. ⌜ r ≡ record { name = claim .name; list = claim .list; candidates = claim .candidates; position = position; wait = wait; silent = silent } ⌝ }
 {
     let list = claim.list;
     Claim {
         name: claim.name,
         list,
-        count: claim.count,
+        candidates: claim.candidates,
         position,
         wait,
         silent,
@@ -71,19 +77,19 @@ fn claim_source(claim: Claim) -> u8
     ensures { λ r. ⌜ r ≡ claimSource claim ⌝ }
 {
     if claim.silent {
-        return 254;
+        return standard::NO_ADDRESS;
     }
     let at = claim.position;
     let list = claim.list;
     list[at]
 }
 
-// The identifier of our claim: priority 6, DGN EEFFh.
+// The identifier of our claim.
 pub fn claim_id(claim: Claim) -> u32
     requires { ⌜ claim .position < 16 ⌝ }
     ensures { λ r. ⌜ r ≡ claimId claim ⌝ }
 {
-    0x18EEFF00 + claim_source(claim) as u32
+    CLAIM_ID + claim_source(claim) as u32
 }
 
 pub fn stand(claim: Claim) -> Standing
@@ -95,7 +101,7 @@ pub fn stand(claim: Claim) -> Standing
     }
     let at = claim.position;
     let list = claim.list;
-    if claim.wait == 250 {
+    if claim.wait == HELD_AFTER {
         return Standing::Held(list[at]);
     }
     Standing::Claiming(list[at])

@@ -5,7 +5,6 @@ use claim::Pausing;
 use claim::Sending;
 use claim::Standing;
 use claim::Starting;
-use frame::BadFrame;
 use libc::STDOUT_FILENO;
 
 // Our NAME, in the middle of those that contest it.
@@ -25,7 +24,7 @@ fn main() {
     say(b"lists refused\n");
     lists();
     say(b"states and frames refused\n");
-    refused();
+    states_and_frames();
 }
 
 fn one_address() {
@@ -124,7 +123,7 @@ fn lists() {
     stands(c);
 }
 
-fn refused() {
+fn states_and_frames() {
     let bytes = [0u8; 8];
     let sound = state(2, 1, 250, false);
     hear(sound, 0x18EEFF81, &bytes);
@@ -140,7 +139,7 @@ fn refused() {
     hear(sound, 0x1AEEFF81, &bytes);
     hear(sound, 0x18EEFFFF, &bytes);
     hear(sound, 0x18EBFFFE, &bytes);
-    // 16: the third address repeats the first; a count of 17
+    // 16: the third address repeats the first; 17 candidates
     let malformed = state(3, 1, 0, false);
     hear(malformed, 0x18EEFF81, &bytes);
     hear(state(17, 1, 0, false), 0x18EEFF81, &bytes);
@@ -157,11 +156,11 @@ fn refused() {
 }
 
 // A state handed in: the list begins 80h, 81h, 80h.
-fn state(count: usize, position: usize, wait: u16, silent: bool) -> Claim {
+fn state(candidates: usize, position: usize, wait: u16, silent: bool) -> Claim {
     Claim {
         name: OURS,
         list: [0x80u8, 0x81, 0x80, 0, 0, 0, 0, 0, 0, 0, 0, 0, 0, 0, 0, 0],
-        count,
+        candidates,
         position,
         wait,
         silent,
@@ -184,7 +183,7 @@ fn lose(claim: Claim) -> Claim {
         Standing::Claiming(a) => rival(claim, a, 0),
         Standing::Held(a) => rival(claim, a, 0),
         Standing::Silent => rival(claim, 0x80, 0),
-        Standing::StateBroken => claim,
+        Standing::BrokenState => claim,
         Standing::ListMalformed => claim,
     }
 }
@@ -195,8 +194,8 @@ fn start(name: u64, list: &[u8]) -> Claim {
     let answer = started.answer;
     let bytes = started.bytes;
     match answer {
-        Starting::Sent => sent(b"sent", started.id, bytes),
-        Starting::ListMalformed => refusal(16),
+        Starting::SendClaim => send(b"send claim", started.id, bytes),
+        _ => refused(answer.refusal()),
     }
     started.claim
 }
@@ -217,23 +216,12 @@ fn hear(claim: Claim, id: u32, bytes: &[u8]) -> Claim {
     match answer {
         Hearing::NothingToDo => say(b"nothing to do\n"),
         Hearing::OwnName => say(b"own name\n"),
-        Hearing::Repeated => sent(b"repeated", heard.id, to_send),
-        Hearing::Moved => sent(b"moved", heard.id, to_send),
-        Hearing::FellSilent => sent(b"fell silent", heard.id, to_send),
-        Hearing::StateBroken => refusal(2),
-        Hearing::BadFrame(why) => bad_frame(why),
-        Hearing::ListMalformed => refusal(16),
+        Hearing::SendClaimAgain => send(b"send claim again", heard.id, to_send),
+        Hearing::SendNextClaim => send(b"send next claim", heard.id, to_send),
+        Hearing::SendCannotClaim => send(b"send cannot claim", heard.id, to_send),
+        _ => refused(answer.refusal()),
     }
     heard.claim
-}
-
-fn bad_frame(why: BadFrame) {
-    match why {
-        BadFrame::IdentifierTooLarge => refusal(3),
-        BadFrame::NotEightBytes => refusal(4),
-        BadFrame::ReservedBitSet => refusal(5),
-        BadFrame::SourceNotAllowed => refusal(6),
-    }
 }
 
 fn pause(claim: Claim, ms: u16) -> Claim {
@@ -244,20 +232,19 @@ fn pause(claim: Claim, ms: u16) -> Claim {
     let answer = paused.answer;
     match answer {
         Pausing::Waited => say(b"waited\n"),
-        Pausing::StateBroken => refusal(2),
-        Pausing::ListMalformed => refusal(16),
+        _ => refused(answer.refusal()),
     }
     paused.claim
 }
 
 fn stands(claim: Claim) {
     say(b"stands ");
-    match claim.stands() {
+    let standing = claim.stands();
+    match standing {
         Standing::Held(a) => at(b"held", a),
         Standing::Claiming(a) => at(b"claiming", a),
         Standing::Silent => say(b"silent\n"),
-        Standing::StateBroken => refusal(2),
-        Standing::ListMalformed => refusal(16),
+        _ => refused(standing.refusal()),
     }
 }
 
@@ -267,9 +254,8 @@ fn ours(claim: Claim) {
     let answer = ours.answer;
     let bytes = ours.bytes;
     match answer {
-        Sending::Sent => sent(b"sent", ours.id, bytes),
-        Sending::StateBroken => refusal(2),
-        Sending::ListMalformed => refusal(16),
+        Sending::Frame => send(b"frame", ours.id, bytes),
+        _ => refused(answer.refusal()),
     }
 }
 
@@ -280,7 +266,7 @@ fn at(text: &[u8], address: u8) {
     say(b"\n");
 }
 
-fn sent(text: &[u8], id: u32, bytes: [u8; 8]) {
+fn send(text: &[u8], id: u32, bytes: [u8; 8]) {
     say(text);
     say(b" id=");
     io::print_hex(STDOUT_FILENO, id as u64, 8);
@@ -300,7 +286,7 @@ fn byte(b: u8) {
     io::print_hex(STDOUT_FILENO, b as u64, 2);
 }
 
-fn refusal(number: u8) {
+fn refused(number: u8) {
     say(b"refusal=");
     io::print_decimal(STDOUT_FILENO, number as u64);
     say(b"\n");

@@ -3,7 +3,7 @@
 use mathlib.Core.Path.{_≡_, refl, sym, ap, _∙_}
 use mathlib.Core.Bool.{true, false}
 use mathlib.Core.List.{List, [], _∷_}
-use Prim.Native.Nat.{ℕ, _+_, _*_, _%_, _<_, _≤_}
+use Prim.Native.Nat.{ℕ, _%_, _<_, _≤_}
 use native.Mathlib.Nat.{div-one}
 use native.Mathlib.Omega.{arith}
 use borrow.Author.Tests.{eq-eqb, ne-eqb, lt-ltb, le-ltb}
@@ -11,7 +11,7 @@ use lib.ListN.{take, getD}
 use Rattle.frame.specs.Words.{if_then_else_, Told, refused, gives, given_then_}
 use Rattle.frame.specs.Bytes.{numberOf}
 use Rattle.frame.specs.Identifier.{greatestDgn, destinationOf, catalogueForm}
-use Rattle.frame.specs.Standard.{Frame, addressClaimed, everyone, greatestAddress, noAddress, noFrame, requestDgn, unused}
+use Rattle.frame.specs.Standard.{Frame, addressClaimed, dgnAt, everyone, greatestAddress, noAddress, noFrame, requestDgn}
 use Rattle.frame.specs.Promises.{destined}
 use Rattle.frame.specs.declared.Parts.{Parts}
 use Rattle.places.specs.Layout.{any}
@@ -24,11 +24,11 @@ use Rattle.frame.proofs.Words.{both-true}
 use Rattle.command.specs.Hosted.{hosted}
 use Rattle.command.specs.Positions.{positionsWhere, filled, listed}
 use Rattle.command.specs.Handed.{handedIn, addressHeld}
-use Rattle.command.specs.Acknowledgment.{claimFrame, acknowledgment, acknowledgedOf}
+use Rattle.command.specs.Acknowledgment.{claimFrame, acknowledgmentFrame, acknowledgedOf}
 use Rattle.command.specs.Commands as Commands
 use Rattle.command.specs.Commands.{hasCommand, isMeant, isElsewhere, Outcome, picks, routeOf, routedOf}
 use Rattle.command.specs.Requests as Requests
-use Rattle.command.specs.Requests.{requestedDgn, nakCode, supports, isOurs, Reply, claims, supported, nak, unsupported, statusOf, replyOf, askedOf, requestedOf}
+use Rattle.command.specs.Requests.{requestedDgn, Asked, askedOf, supports, isOurs, nakTo, Reply, claims, supported, nak, unsupported, statusOf, replyOf, answerOf, requestedOf}
 use Rattle.command.specs.Promises.{toldRouting, pickedIn, RoutedBy, toldRequesting, supportedIn, sentIn, RequestedBy, toldAcknowledging, formedIn, AcknowledgedBy}
 use Rattle.command.specs.Private.{bareRouted, bareRequested, bareAcknowledged}
 use Rattle.command.specs.declared.Entry.{Entry}
@@ -40,6 +40,7 @@ use Rattle.command.specs.declared.Routed.{Routed}
 use Rattle.command.specs.declared.Requesting.{Requesting}
 use Rattle.command.specs.declared.Requesting.the-variants as Requesting
 use Rattle.command.specs.declared.Requested.{Requested}
+use Rattle.command.specs.declared.Acknowledgment.{Acknowledgment}
 use Rattle.command.specs.declared.Acknowledging.{Acknowledging}
 use Rattle.command.specs.declared.Acknowledging.the-variants as Acknowledging
 use Rattle.command.specs.declared.Acknowledged.{Acknowledged}
@@ -82,40 +83,42 @@ sound-stands c r s e =
 
 -- an acknowledgment, step by step
 
-module _ (c : Claim) (requester code instance dgn : ℕ) where
-  pub acknowledged-broken : keepsRules c ≡ false → acknowledgedOf c requester code instance dgn ≡ refused 2
+module _ (c : Claim) (reply : Acknowledgment) where
+  pub acknowledged-broken : keepsRules c ≡ false → acknowledgedOf c reply ≡ refused 2
   unfolding acknowledgedOf
   acknowledged-broken k = rw k
 
-  pub acknowledged-nobody : keepsRules c ≡ true → greatestAddress < requester → acknowledgedOf c requester code instance dgn ≡ refused 6
+  pub acknowledged-nobody : keepsRules c ≡ true → greatestAddress < reply .requester → acknowledgedOf c reply ≡ refused 6
   unfolding acknowledgedOf
   acknowledged-nobody k q = rw (k, lt-ltb _ _ q)
 
-  pub acknowledged-ill : keepsRules c ≡ true → requester ≤ greatestAddress → holdsList c ≡ false → acknowledgedOf c requester code instance dgn ≡ refused 16
+  pub acknowledged-ill : keepsRules c ≡ true → reply .requester ≤ greatestAddress → holdsList c ≡ false
+      → acknowledgedOf c reply ≡ refused 16
   unfolding acknowledgedOf
   acknowledged-ill k q h = rw (k, le-ltb _ _ q, h)
 
-  pub acknowledged-large : keepsRules c ≡ true → requester ≤ greatestAddress → holdsList c ≡ true → greatestDgn < dgn
-      → acknowledgedOf c requester code instance dgn ≡ refused 17
+  pub acknowledged-large : keepsRules c ≡ true → reply .requester ≤ greatestAddress → holdsList c ≡ true
+      → greatestDgn < reply .dgn → acknowledgedOf c reply ≡ refused 17
   unfolding acknowledgedOf
   acknowledged-large k q h d = rw (k, le-ltb _ _ q, h, lt-ltb _ _ d)
 
-  pub acknowledged-past : keepsRules c ≡ true → requester ≤ greatestAddress → holdsList c ≡ true → dgn ≤ greatestDgn
-      → acknowledgedOf c requester code instance dgn
-      ≡ (given addressHeld (standOf c) then λ address. gives (acknowledgment address requester code instance dgn))
+  pub acknowledged-past : keepsRules c ≡ true → reply .requester ≤ greatestAddress → holdsList c ≡ true
+      → reply .dgn ≤ greatestDgn
+      → acknowledgedOf c reply
+      ≡ (given addressHeld (standOf c) then λ address. gives (acknowledgmentFrame address reply))
   unfolding acknowledgedOf
   acknowledged-past k q h d = rw (k, le-ltb _ _ q, h, le-ltb _ _ d)
 
   -- where we stand decides
 
   pub acknowledged-held : (stand : Stand) (address : ℕ) → standOf c ≡ stand → addressHeld stand ≡ gives address
-      → keepsRules c ≡ true → requester ≤ greatestAddress → holdsList c ≡ true → dgn ≤ greatestDgn
-      → acknowledgedOf c requester code instance dgn ≡ gives (acknowledgment address requester code instance dgn)
+      → keepsRules c ≡ true → reply .requester ≤ greatestAddress → holdsList c ≡ true → reply .dgn ≤ greatestDgn
+      → acknowledgedOf c reply ≡ gives (acknowledgmentFrame address reply)
   acknowledged-held stand address s a k q h d = acknowledged-past k q h d ∙ rw (s, a)
 
   pub acknowledged-unheld : (stand : Stand) → standOf c ≡ stand → addressHeld stand ≡ refused 18
-      → keepsRules c ≡ true → requester ≤ greatestAddress → holdsList c ≡ true → dgn ≤ greatestDgn
-      → acknowledgedOf c requester code instance dgn ≡ refused 18
+      → keepsRules c ≡ true → reply .requester ≤ greatestAddress → holdsList c ≡ true → reply .dgn ≤ greatestDgn
+      → acknowledgedOf c reply ≡ refused 18
   acknowledged-unheld stand s a k q h d = acknowledged-past k q h d ∙ rw (s, a)
 
 -- an answer with positions or a frame beside it
@@ -129,14 +132,14 @@ supported-requested p ps e =
     record { answer = ap (λ (l : List ℕ). gives (supported l)) (ap listed e ∙ listed-filled ps); positions = e; sent-id = refl; sent-bytes = refl }
 
 module _ (p : Positions) (frame : Frame) (id : ℕ) (bytes : List ℕ) (e : p ≡ filled []) (i : id ≡ frame .id) (b : bytes ≡ frame .bytes) where
-  pub claims-requested : RequestedBy (gives (claims frame)) (record { answer = Requesting.ClaimSent; positions = p; id = id; bytes = bytes })
+  pub claims-requested : RequestedBy (gives (claims frame)) (record { answer = Requesting.SendClaim; positions = p; id = id; bytes = bytes })
   claims-requested = record { answer = λ j. gives (claims (record { id = i j; bytes = b j })); positions = e; sent-id = i; sent-bytes = b }
 
-  pub nak-requested : RequestedBy (gives (nak frame)) (record { answer = Requesting.NakSent; positions = p; id = id; bytes = bytes })
+  pub nak-requested : RequestedBy (gives (nak frame)) (record { answer = Requesting.SendNak; positions = p; id = id; bytes = bytes })
   nak-requested = record { answer = λ j. gives (nak (record { id = i j; bytes = b j })); positions = e; sent-id = i; sent-bytes = b }
 
 pub formed-acknowledged : (frame : Frame) (id : ℕ) (bytes : List ℕ) → id ≡ frame .id → bytes ≡ frame .bytes
-    → AcknowledgedBy (gives frame) (record { answer = Acknowledging.Formed; id = id; bytes = bytes })
+    → AcknowledgedBy (gives frame) (record { answer = Acknowledging.Send; id = id; bytes = bytes })
 formed-acknowledged frame id bytes i b = record { answer = λ j. gives (record { id = i j; bytes = b j }); sent-id = i; sent-bytes = b }
 
 -- a command, step by step
@@ -159,66 +162,84 @@ module _ (dgn instance : ℕ) (es : List Entry) (stand : Stand) where
 
 -- a request, step by step
 
-module _ (to source dgn : ℕ) (es : List Entry) where
-  pub status-supported : (address : ℕ) → any (supports dgn) es ≡ true → statusOf to source dgn es address ≡ supported (positionsWhere (supports dgn) es)
+module _ (asked : Asked) (es : List Entry) where
+  pub status-supported : (address : ℕ) → any (supports asked) es ≡ true
+      → statusOf asked es address ≡ supported (positionsWhere (supports asked) es)
   unfolding statusOf
   status-supported address n = rw n
 
-  pub status-global : (address : ℕ) → any (supports dgn) es ≡ false → to ≡ everyone → statusOf to source dgn es address ≡ unsupported
+  pub status-global : (address : ℕ) → any (supports asked) es ≡ false → asked .destination ≡ everyone
+      → statusOf asked es address ≡ unsupported
   unfolding statusOf
-  status-global address n t = rw (n, eq-eqb to everyone t)
+  status-global address n t = rw (n, eq-eqb (asked .destination) everyone t)
 
-  pub status-nobody : (address : ℕ) → any (supports dgn) es ≡ false → (to ≡ everyone → ⊥) → source ≡ noAddress → statusOf to source dgn es address ≡ unsupported
+  pub status-nobody : (address : ℕ) → any (supports asked) es ≡ false → (asked .destination ≡ everyone → ⊥)
+      → asked .source ≡ noAddress → statusOf asked es address ≡ unsupported
   unfolding statusOf
-  status-nobody address n t s = rw (n, ne-eqb to everyone t, eq-eqb source noAddress s)
+  status-nobody address n t s = rw (n, ne-eqb (asked .destination) everyone t, eq-eqb (asked .source) noAddress s)
 
-  pub status-nak : (address : ℕ) → any (supports dgn) es ≡ false → (to ≡ everyone → ⊥) → (source ≡ noAddress → ⊥)
-      → statusOf to source dgn es address ≡ nak (acknowledgment address source nakCode unused dgn)
+  pub status-nak : (address : ℕ) → any (supports asked) es ≡ false → (asked .destination ≡ everyone → ⊥)
+      → (asked .source ≡ noAddress → ⊥) → statusOf asked es address ≡ nak (acknowledgmentFrame address (nakTo asked))
   unfolding statusOf
-  status-nak address n t s = rw (n, ne-eqb to everyone t, ne-eqb source noAddress s)
+  status-nak address n t s = rw (n, ne-eqb (asked .destination) everyone t, ne-eqb (asked .source) noAddress s)
 
   module _ (c : Claim) (stand : Stand) (s : stand ≡ standOf c) where
-    pub reply-elsewhere : isOurs to dgn stand ≡ false → replyOf to source dgn es c ≡ gives Requests.nothingToDo
+    pub reply-elsewhere : isOurs asked stand ≡ false → replyOf asked es c ≡ gives Requests.nothingToDo
     unfolding replyOf
     reply-elsewhere o = rw (sym s, o)
 
-    pub reply-claims : isOurs to dgn stand ≡ true → dgn ≡ addressClaimed → replyOf to source dgn es c ≡ gives (claims (claimFrame c))
+    pub reply-claims : isOurs asked stand ≡ true → asked .dgn ≡ addressClaimed
+        → replyOf asked es c ≡ gives (claims (claimFrame c))
     unfolding replyOf
-    reply-claims o d = rw (sym s, o, eq-eqb dgn addressClaimed d)
+    reply-claims o d = rw (sym s, o, eq-eqb (asked .dgn) addressClaimed d)
 
-    pub reply-held : (address : ℕ) → isOurs to dgn stand ≡ true → (dgn ≡ addressClaimed → ⊥) → addressHeld stand ≡ gives address
-        → replyOf to source dgn es c ≡ gives (statusOf to source dgn es address)
+    pub reply-held : (address : ℕ) → isOurs asked stand ≡ true → (asked .dgn ≡ addressClaimed → ⊥)
+        → addressHeld stand ≡ gives address → replyOf asked es c ≡ gives (statusOf asked es address)
     unfolding replyOf
-    reply-held address o d a = rw (sym s, o, ne-eqb dgn addressClaimed d, a)
+    reply-held address o d a = rw (sym s, o, ne-eqb (asked .dgn) addressClaimed d, a)
 
-    pub reply-unheld : isOurs to dgn stand ≡ true → (dgn ≡ addressClaimed → ⊥) → addressHeld stand ≡ refused 18
-        → replyOf to source dgn es c ≡ refused 18
+    pub reply-unheld : isOurs asked stand ≡ true → (asked .dgn ≡ addressClaimed → ⊥) → addressHeld stand ≡ refused 18
+        → replyOf asked es c ≡ refused 18
     unfolding replyOf
-    reply-unheld o d a = rw (sym s, o, ne-eqb dgn addressClaimed d, a)
+    reply-unheld o d a = rw (sym s, o, ne-eqb (asked .dgn) addressClaimed d, a)
 
 module _ (parts : Parts) (bytes : List ℕ) (es : List Entry) (c : Claim) where
-  pub asked-other : (catalogueForm (parts .dgn) ≡ requestDgn → ⊥) → askedOf parts bytes es c ≡ gives Requests.nothingToDo
-  unfolding askedOf
-  asked-other n = rw (ne-eqb _ _ n)
+  pub answer-other : (catalogueForm (parts .dgn) ≡ requestDgn → ⊥)
+      → answerOf parts bytes es c ≡ gives Requests.nothingToDo
+  unfolding answerOf
+  answer-other n = rw (ne-eqb _ _ n)
 
-  pub asked-large : (dgn : ℕ) → catalogueForm (parts .dgn) ≡ requestDgn → dgn ≡ requestedDgn bytes → greatestDgn < dgn → askedOf parts bytes es c ≡ refused 17
-  unfolding askedOf
-  asked-large dgn e d l = rw (eq-eqb _ _ e, sym d, lt-ltb _ _ l)
+  pub answer-large : (asked : Asked) → catalogueForm (parts .dgn) ≡ requestDgn → asked ≡ askedOf parts bytes
+      → greatestDgn < asked .dgn → answerOf parts bytes es c ≡ refused 17
+  unfolding answerOf
+  answer-large asked e a l =
+      let d : requestedDgn bytes ≡ asked .dgn = ap (λ (x : Asked). x .dgn) (sym a) in
+      rw (eq-eqb _ _ e, d, lt-ltb _ _ l)
 
-  pub asked-reply : (to dgn : ℕ) → catalogueForm (parts .dgn) ≡ requestDgn → to ≡ parts .dgn % 256 → dgn ≡ requestedDgn bytes → dgn ≤ greatestDgn
-      → askedOf parts bytes es c ≡ replyOf to (parts .source) dgn es c
-  unfolding askedOf destinationOf
-  asked-reply to dgn e t d l =
-      let t′ : to ≡ destinationOf (parts .dgn) = t ∙ sym (rw (div-one (parts .dgn))) in
-      rw (eq-eqb _ _ e, sym d, le-ltb greatestDgn dgn l, sym t′)
+  pub answer-reply : (asked : Asked) → catalogueForm (parts .dgn) ≡ requestDgn → asked ≡ askedOf parts bytes
+      → asked .dgn ≤ greatestDgn → answerOf parts bytes es c ≡ replyOf asked es c
+  unfolding answerOf
+  answer-reply asked e a l =
+      let d : requestedDgn bytes ≤ greatestDgn = rw (ap (λ (x : Asked). x .dgn) a) at l in
+      rw (eq-eqb _ _ e, le-ltb greatestDgn (requestedDgn bytes) d, a)
 
--- the DGN in bytes 0 to 2
-pub dgn-bytes : (bs : List ℕ) → numberOf (take 3 bs) ≡ getD bs 0 0 + 256 * getD bs 1 0 + 65536 * getD bs 2 0
-unfolding numberOf
-dgn-bytes [] = refl
-dgn-bytes (a ∷ []) = omega arith
-dgn-bytes (a ∷ b ∷ []) = omega arith
-dgn-bytes (a ∷ b ∷ d ∷ bs) = omega arith
+-- the request in a frame, as the code reads it
+
+dgn-read : (bytes : List ℕ) → numberOf (getD bytes 0 0 ∷ getD bytes 1 0 ∷ getD bytes 2 0 ∷ []) ≡ requestedDgn bytes
+unfolding numberOf requestedDgn dgnAt
+dgn-read [] = refl
+dgn-read (a ∷ []) = omega arith
+dgn-read (a ∷ b ∷ []) = omega arith
+dgn-read (a ∷ b ∷ d ∷ bytes) = refl
+
+pub asked-read : (parts : Parts) (bytes : List ℕ) (dgn : ℕ)
+    → dgn ≡ numberOf (getD bytes 0 0 ∷ getD bytes 1 0 ∷ getD bytes 2 0 ∷ [])
+    → record { destination = parts .dgn % 256; source = parts .source; dgn = dgn } ≡ askedOf parts bytes
+unfolding destinationOf
+asked-read parts bytes dgn e =
+    let d = e ∙ dgn-read bytes in
+    let t : parts .dgn % 256 ≡ destinationOf (parts .dgn) = sym (rw (div-one (parts .dgn))) in
+    λ i. record { destination = t i; source = parts .source; dgn = d i }
 
 -- what was handed in goes on
 
@@ -237,6 +258,6 @@ module _ (id : ℕ) (bytes : List ℕ) (h : Host) (c : Claim) where
   requested-refused n e = rw e
 
   pub requested-given : (parts : Parts) (eight : List ℕ) → handedIn id bytes h c ≡ gives parts → eight ≡ bytes
-      → requestedOf id bytes h c ≡ askedOf parts eight (hosted h) c
+      → requestedOf id bytes h c ≡ answerOf parts eight (hosted h) c
   unfolding requestedOf
   requested-given parts eight e b = rw (e, b)

@@ -12,7 +12,7 @@ use lib.Seq.{take-at, length-take-le}
 use Rattle.frame.specs.Words.{if_then_else_, _≤?_, _=?_, _and_, Told, refused, gives, given_then_}
 use Rattle.frame.specs.Identifier.{greatestDgn, destinationOf, catalogueForm}
 use Rattle.frame.specs.Frame.{checkedOf}
-use Rattle.frame.specs.Standard.{Frame}
+use Rattle.frame.specs.Standard.{Frame, dgnAt}
 use Rattle.frame.specs.Laws.{toldButPriority}
 use Rattle.frame.specs.declared.Parts.{Parts}
 use Rattle.frame.specs.declared.BadFrame.the-variants.{IdentifierTooLarge, NotEightBytes, ReservedBitSet, SourceNotAllowed}
@@ -28,7 +28,7 @@ use Rattle.command.specs.Commands as Commands
 use Rattle.command.specs.Commands.{hasCommand, isElsewhere, Outcome, picks, routeOf, routedOf}
 use Rattle.command.specs.Acknowledgment.{acknowledgedOf}
 use Rattle.command.specs.Requests as Requests
-use Rattle.command.specs.Requests.{requestedDgn, Reply, claims, supported, nak, unsupported, askedOf, requestedOf}
+use Rattle.command.specs.Requests.{requestedDgn, Reply, claims, supported, nak, unsupported, askedOf, answerOf, requestedOf}
 use Rattle.command.specs.Promises.{toldStarting, startedOf, toldRouting, toldRequesting, toldAcknowledging}
 use Rattle.command.specs.Laws as the
 use Rattle.command.specs.declared.Host.{Host}
@@ -38,10 +38,11 @@ use Rattle.command.specs.declared.Routing.{Routing}
 use Rattle.command.specs.declared.Routing.the-variants as Routing
 use Rattle.command.specs.declared.Requesting.{Requesting}
 use Rattle.command.specs.declared.Requesting.the-variants as Requesting
+use Rattle.command.specs.declared.Acknowledgment.{Acknowledgment}
 use Rattle.command.specs.declared.Acknowledging.{Acknowledging}
 use Rattle.command.specs.declared.Acknowledging.the-variants as Acknowledging
 use Rattle.command.proofs.Handing.{well-few, handed-broken, handed-lists}
-use Rattle.command.proofs.Answers.{acknowledged-broken, acknowledged-nobody, acknowledged-ill, acknowledged-large, acknowledged-unheld, routed-refused, requested-refused, route-other, route-held, route-unheld, asked-other, asked-large}
+use Rattle.command.proofs.Answers.{acknowledged-broken, acknowledged-nobody, acknowledged-ill, acknowledged-large, acknowledged-unheld, routed-refused, requested-refused, route-other, route-held, route-unheld, answer-other, answer-large}
 
 -- an answer is read back from what it tells
 
@@ -61,7 +62,7 @@ routingBack : Told Outcome → Routing
 routingBack (gives Commands.nothingToDo) = Routing.NothingToDo
 routingBack (gives (picks ps)) = Routing.Picked
 routingBack (refused n) =
-    if n =? 2 then Routing.StateBroken else
+    if n =? 2 then Routing.BrokenState else
     if n =? 16 then Routing.ListMalformed else
     if n =? 18 then Routing.NoAddressHeld else
     Routing.BadFrame (frame-laws.badBack n)
@@ -70,7 +71,7 @@ routing-back : (r : Routing) (ps : List ℕ) → routingBack (toldRouting r ps) 
 unfolding routingBack
 routing-back Routing.NothingToDo ps = refl
 routing-back Routing.Picked ps = refl
-routing-back Routing.StateBroken ps = refl
+routing-back Routing.BrokenState ps = refl
 routing-back (Routing.BadFrame IdentifierTooLarge) ps = ap Routing.BadFrame (frame-laws.bad-back IdentifierTooLarge)
 routing-back (Routing.BadFrame NotEightBytes) ps = ap Routing.BadFrame (frame-laws.bad-back NotEightBytes)
 routing-back (Routing.BadFrame ReservedBitSet) ps = ap Routing.BadFrame (frame-laws.bad-back ReservedBitSet)
@@ -83,12 +84,12 @@ told-routing-same r s ps qs e = sym (routing-back r ps) ∙ ap routingBack e ∙
 
 requestingBack : Told Reply → Requesting
 requestingBack (gives Requests.nothingToDo) = Requesting.NothingToDo
-requestingBack (gives (claims f)) = Requesting.ClaimSent
+requestingBack (gives (claims f)) = Requesting.SendClaim
 requestingBack (gives (supported ps)) = Requesting.Supported
-requestingBack (gives (nak f)) = Requesting.NakSent
+requestingBack (gives (nak f)) = Requesting.SendNak
 requestingBack (gives unsupported) = Requesting.Unsupported
 requestingBack (refused n) =
-    if n =? 2 then Requesting.StateBroken else
+    if n =? 2 then Requesting.BrokenState else
     if n =? 16 then Requesting.ListMalformed else
     if n =? 17 then Requesting.DgnTooLarge else
     if n =? 18 then Requesting.NoAddressHeld else
@@ -97,11 +98,11 @@ requestingBack (refused n) =
 requesting-back : (r : Requesting) (ps : List ℕ) (f : Frame) → requestingBack (toldRequesting r ps f) ≡ r
 unfolding requestingBack
 requesting-back Requesting.NothingToDo ps f = refl
-requesting-back Requesting.ClaimSent ps f = refl
+requesting-back Requesting.SendClaim ps f = refl
 requesting-back Requesting.Supported ps f = refl
-requesting-back Requesting.NakSent ps f = refl
+requesting-back Requesting.SendNak ps f = refl
 requesting-back Requesting.Unsupported ps f = refl
-requesting-back Requesting.StateBroken ps f = refl
+requesting-back Requesting.BrokenState ps f = refl
 requesting-back (Requesting.BadFrame IdentifierTooLarge) ps f = ap Requesting.BadFrame (frame-laws.bad-back IdentifierTooLarge)
 requesting-back (Requesting.BadFrame NotEightBytes) ps f = ap Requesting.BadFrame (frame-laws.bad-back NotEightBytes)
 requesting-back (Requesting.BadFrame ReservedBitSet) ps f = ap Requesting.BadFrame (frame-laws.bad-back ReservedBitSet)
@@ -114,9 +115,9 @@ pub told-requesting-same : the.ToldRequestingSame
 told-requesting-same r s ps qs f g e = sym (requesting-back r ps f) ∙ ap requestingBack e ∙ requesting-back s qs g
 
 acknowledgingBack : Told Frame → Acknowledging
-acknowledgingBack (gives f) = Acknowledging.Formed
+acknowledgingBack (gives f) = Acknowledging.Send
 acknowledgingBack (refused n) =
-    if n =? 2 then Acknowledging.StateBroken else
+    if n =? 2 then Acknowledging.BrokenState else
     if n =? 6 then Acknowledging.RequesterNotAllowed else
     if n =? 16 then Acknowledging.ListMalformed else
     if n =? 17 then Acknowledging.DgnTooLarge else
@@ -124,8 +125,8 @@ acknowledgingBack (refused n) =
 
 acknowledging-back : (r : Acknowledging) (f : Frame) → acknowledgingBack (toldAcknowledging r f) ≡ r
 unfolding acknowledgingBack
-acknowledging-back Acknowledging.Formed f = refl
-acknowledging-back Acknowledging.StateBroken f = refl
+acknowledging-back Acknowledging.Send f = refl
+acknowledging-back Acknowledging.BrokenState f = refl
 acknowledging-back Acknowledging.RequesterNotAllowed f = refl
 acknowledging-back Acknowledging.ListMalformed f = refl
 acknowledging-back Acknowledging.DgnTooLarge f = refl
@@ -157,11 +158,53 @@ request-only id bytes h c r s p q =
     λ i. record { answer = a i; positions = x i; id = d i; bytes = b i }
 
 pub acknowledge-only : the.AcknowledgeOnly
-acknowledge-only c requester code instance dgn r s p q =
+acknowledge-only c reply r s p q =
     let a = told-acknowledging-same (r .answer) (s .answer) _ _ (p .answer ∙ sym (q .answer)) in
     let d = p .sent-id ∙ sym (q .sent-id) in
     let b = p .sent-bytes ∙ sym (q .sent-bytes) in
     λ i. record { answer = a i; id = d i; bytes = b i }
+
+pub starting-refusal-only : the.StartingRefusalOnly
+starting-refusal-only answer r s p q = p .number ∙ sym (q .number)
+
+pub routing-refusal-only : the.RoutingRefusalOnly
+routing-refusal-only answer r s p q = p .number ∙ sym (q .number)
+
+pub requesting-refusal-only : the.RequestingRefusalOnly
+requesting-refusal-only answer r s p q = p .number ∙ sym (q .number)
+
+pub acknowledging-refusal-only : the.AcknowledgingRefusalOnly
+acknowledging-refusal-only answer r s p q = p .number ∙ sym (q .number)
+
+-- the number of a refusal is the same whatever stands beside
+
+pub routing-refusal-any : the.RoutingRefusalAny
+routing-refusal-any Routing.NothingToDo r ps p = p .number
+routing-refusal-any Routing.Picked r ps p = p .number
+routing-refusal-any Routing.BrokenState r ps p = p .number
+routing-refusal-any (Routing.BadFrame why) r ps p = p .number
+routing-refusal-any Routing.ListMalformed r ps p = p .number
+routing-refusal-any Routing.NoAddressHeld r ps p = p .number
+
+pub requesting-refusal-any : the.RequestingRefusalAny
+requesting-refusal-any Requesting.NothingToDo r ps frame p = p .number
+requesting-refusal-any Requesting.SendClaim r ps frame p = p .number
+requesting-refusal-any Requesting.Supported r ps frame p = p .number
+requesting-refusal-any Requesting.SendNak r ps frame p = p .number
+requesting-refusal-any Requesting.Unsupported r ps frame p = p .number
+requesting-refusal-any Requesting.BrokenState r ps frame p = p .number
+requesting-refusal-any (Requesting.BadFrame why) r ps frame p = p .number
+requesting-refusal-any Requesting.ListMalformed r ps frame p = p .number
+requesting-refusal-any Requesting.DgnTooLarge r ps frame p = p .number
+requesting-refusal-any Requesting.NoAddressHeld r ps frame p = p .number
+
+pub acknowledging-refusal-any : the.AcknowledgingRefusalAny
+acknowledging-refusal-any Acknowledging.Send r frame p = p .number
+acknowledging-refusal-any Acknowledging.BrokenState r frame p = p .number
+acknowledging-refusal-any Acknowledging.RequesterNotAllowed r frame p = p .number
+acknowledging-refusal-any Acknowledging.ListMalformed r frame p = p .number
+acknowledging-refusal-any Acknowledging.DgnTooLarge r frame p = p .number
+acknowledging-refusal-any Acknowledging.NoAddressHeld r frame p = p .number
 
 -- a refusal keeps
 
@@ -183,8 +226,8 @@ request-refused-keeps id bytes h c r n p e =
     (p .positions ∙ rw t, (p .sent-id ∙ rw t, p .sent-bytes ∙ rw t))
 
 pub acknowledge-refused-keeps : the.AcknowledgeRefusedKeeps
-acknowledge-refused-keeps c requester code instance dgn r n p e =
-    let t : acknowledgedOf c requester code instance dgn ≡ refused n = sym (p .answer) ∙ e in
+acknowledge-refused-keeps c reply r n p e =
+    let t : acknowledgedOf c reply ≡ refused n = sym (p .answer) ∙ e in
     (p .sent-id ∙ rw t, p .sent-bytes ∙ rw t)
 
 -- the lowest number wins
@@ -205,14 +248,14 @@ lowest-wins id bytes h c =
     ill true b p w = rw w
     ill false b p w = refl
 
-pub acknowledge-lowest-wins : (c : Claim) (requester code instance dgn : ℕ) → the.AcknowledgeLowestWins c requester code instance dgn
-acknowledge-lowest-wins c requester code instance dgn =
+pub acknowledge-lowest-wins : (c : Claim) (a : Acknowledgment) → the.AcknowledgeLowestWins c a
+acknowledge-lowest-wins c reply =
     record {
-      two = acknowledged-broken c requester code instance dgn;
-      six = acknowledged-nobody c requester code instance dgn;
-      sixteen = acknowledged-ill c requester code instance dgn;
-      seventeen = λ s q d. let b = both-true (keepsRules c) (holdsList c) s in acknowledged-large c requester code instance dgn (b .0) q (b .1) d;
-      eighteen = λ s q d a. let b = both-true (keepsRules c) (holdsList c) s in acknowledged-unheld c requester code instance dgn (standOf c) refl a (b .0) q (b .1) d;
+      two = acknowledged-broken c reply;
+      six = acknowledged-nobody c reply;
+      sixteen = acknowledged-ill c reply;
+      seventeen = λ s q d. let b = both-true (keepsRules c) (holdsList c) s in acknowledged-large c reply (b .0) q (b .1) d;
+      eighteen = λ s q d a. let b = both-true (keepsRules c) (holdsList c) s in acknowledged-unheld c reply (standOf c) refl a (b .0) q (b .1) d;
     }
 
 -- a frame is read by its DGN and its source alone
@@ -244,12 +287,12 @@ routed-but : (t : Told Parts) (bytes : List ℕ) (h : Host) (c : Claim)
 routed-but (refused n) bytes h c = refl
 routed-but (gives p) bytes h c = refl
 
-asked-but : (t : Told Parts) (bytes : List ℕ) (h : Host) (c : Claim)
-    → (given t then λ p. askedOf p bytes (hosted h) c)
-    ≡ (given toldButPriority t then λ q. askedOf (record { priority = 0; dgn = q .0; source = q .1 }) bytes (hosted h) c)
-unfolding askedOf
-asked-but (refused n) bytes h c = refl
-asked-but (gives p) bytes h c = refl
+answer-but : (t : Told Parts) (bytes : List ℕ) (h : Host) (c : Claim)
+    → (given t then λ p. answerOf p bytes (hosted h) c)
+    ≡ (given toldButPriority t then λ q. answerOf (record { priority = 0; dgn = q .0; source = q .1 }) bytes (hosted h) c)
+unfolding answerOf
+answer-but (refused n) bytes h c = refl
+answer-but (gives p) bytes h c = refl
 
 pub priority-ignored : the.PriorityIgnored
 unfolding routedOf requestedOf
@@ -257,7 +300,7 @@ priority-ignored id id′ bytes h c l l′ e =
     let q = frame-laws.priority-ignored id id′ (length bytes) l l′ e in
     let t : toldButPriority (handedIn id bytes h c) ≡ toldButPriority (handedIn id′ bytes h c) = handed-but id bytes h c ∙ rw q (sym (handed-but id′ bytes h c)) in (
       rw (routed-but (handedIn id bytes h c) bytes h c, t) (sym (routed-but (handedIn id′ bytes h c) bytes h c)),
-      rw (asked-but (handedIn id bytes h c) bytes h c, t) (sym (asked-but (handedIn id′ bytes h c) bytes h c)),
+      rw (answer-but (handedIn id bytes h c) bytes h c, t) (sym (answer-but (handedIn id′ bytes h c) bytes h c)),
     )
 
 -- only the entries count
@@ -272,7 +315,7 @@ past-count-ignored id bytes h h′ c n e =
     let w = well-same h h′ n e in
     let t : handedIn id bytes h c ≡ handedIn id bytes h′ c = rw w in (
       (λ i. given t i then λ p. routeOf (p .dgn) (getD bytes 0 0) (e i) (standOf c)),
-      (λ i. given t i then λ p. askedOf p bytes (e i) c),
+      (λ i. given t i then λ p. answerOf p bytes (e i) c),
     )
 
 hosted-begun : (h : Host) → h .count ≤ length (h .entries) → hosted (begun h) ≡ hosted h
@@ -324,25 +367,25 @@ command-elsewhere id bytes h c p to address e s d n =
 
 pub other-dgn : the.OtherDgn
 unfolding requestedOf
-other-dgn id bytes h c p e n = rw e (asked-other p bytes (hosted h) c n)
+other-dgn id bytes h c p e n = rw e (answer-other p bytes (hosted h) c n)
 
 pub request-too-large : the.RequestTooLarge
 unfolding requestedOf
-request-too-large id bytes h c p e d l = rw e (asked-large p bytes (hosted h) c (requestedDgn bytes) d refl l)
+request-too-large id bytes h c p e d l = rw e (answer-large p bytes (hosted h) c (askedOf p bytes) d refl l)
 
-later-asked : (parts : Parts) (bytes bytes′ : List ℕ) (h : Host) (c : Claim) → requestedDgn bytes ≡ requestedDgn bytes′
-    → askedOf parts bytes (hosted h) c ≡ askedOf parts bytes′ (hosted h) c
-unfolding askedOf
-later-asked parts bytes bytes′ h c d = rw d
+later-answer : (parts : Parts) (bytes bytes′ : List ℕ) (h : Host) (c : Claim) → requestedDgn bytes ≡ requestedDgn bytes′
+    → answerOf parts bytes (hosted h) c ≡ answerOf parts bytes′ (hosted h) c
+unfolding answerOf
+later-answer parts bytes bytes′ h c d = rw d
 
 pub later-bytes-ignored : the.LaterBytesIgnored
-unfolding requestedOf requestedDgn handedIn
+unfolding requestedOf requestedDgn dgnAt handedIn
 later-bytes-ignored id bytes bytes′ h c l e =
     let d : requestedDgn bytes ≡ requestedDgn bytes′ = rw e in
     let t : handedIn id bytes h c ≡ handedIn id bytes′ h c = rw l in
     rw t (go (handedIn id bytes′ h c) d)
   where
     go : (t : Told Parts) → requestedDgn bytes ≡ requestedDgn bytes′
-        → (given t then λ p. askedOf p bytes (hosted h) c) ≡ (given t then λ p. askedOf p bytes′ (hosted h) c)
+        → (given t then λ p. answerOf p bytes (hosted h) c) ≡ (given t then λ p. answerOf p bytes′ (hosted h) c)
     go (refused n) d = refl
-    go (gives p) d = later-asked p bytes bytes′ h c d
+    go (gives p) d = later-answer p bytes bytes′ h c d

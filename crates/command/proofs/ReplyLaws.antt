@@ -9,9 +9,9 @@ use borrow.Author.Tests.{ne-eqb, eqb-true, eqb-false, ltb-false}
 use lib.ListN.{length}
 use Rattle.frame.specs.Words.{_≤?_, _<?_, _=?_, gives}
 use Rattle.frame.specs.Bytes.{bytesOf}
-use Rattle.frame.specs.Identifier.{identifierOf, identifiers, greatestDgn, priorityOf, reservedOf, dgnOf, sourceOf, destinationOf, catalogueForm}
+use Rattle.frame.specs.Identifier.{identifierOf, identifiers, greatestDgn, priorityOf, reservedOf, dgnOf, sourceOf, partsOf, catalogueForm}
 use Rattle.frame.specs.Frame.{frameBytes, sourceAllowed, checkedOf}
-use Rattle.frame.specs.Standard.{Frame, acknowledgmentDgn, addressClaimed, everyone, greatestAddress, noAddress, noFrame, requestDgn, unused}
+use Rattle.frame.specs.Standard.{Frame, acknowledgmentDgn, addressClaimed, everyone, greatestAddress, noAddress, noFrame, requestDgn}
 use Rattle.frame.specs.declared.Parts.{Parts}
 use Rattle.frame.proofs.Words.{by-test, both-true, true-false, past-refusal, before-refusal, refused-gives, gives-same, not-flips}
 use Rattle.frame.proofs.Frame.{checked-given}
@@ -27,15 +27,16 @@ use Rattle.command.specs.Positions.{positionsWhere, listed}
 use Rattle.command.specs.Handed.{handedIn, addressHeld}
 use Rattle.command.specs.Commands as Commands
 use Rattle.command.specs.Commands.{hasCommand, picks, routeOf, routedOf}
-use Rattle.command.specs.Acknowledgment.{claimFrame, acknowledgmentPriority, acknowledgmentId, acknowledgmentBytes, acknowledgment, acknowledgedOf}
+use Rattle.command.specs.Acknowledgment.{claimFrame, acknowledgmentPriority, acknowledgmentId, acknowledgmentBytes, acknowledgmentFrame, acknowledgedOf}
 use Rattle.command.specs.Requests as Requests
-use Rattle.command.specs.Requests.{requestedDgn, nakCode, supports, isOurAddress, isOurs, Reply, claims, supported, nak, unsupported, statusOf, replyOf, askedOf, requestedOf}
+use Rattle.command.specs.Requests.{requestedDgn, Asked, askedOf, supports, isOurAddress, isOurs, nakTo, Reply, claims, supported, nak, unsupported, statusOf, replyOf, answerOf, requestedOf}
 use Rattle.command.specs.Promises.{sentIn, toldRequesting, toldAcknowledging}
 use Rattle.command.specs.Laws as the
 use Rattle.command.specs.declared.Entry.{Entry}
 use Rattle.command.specs.declared.Host.{Host}
 use Rattle.command.specs.declared.Requesting.{Requesting}
 use Rattle.command.specs.declared.Requesting.the-variants as Requesting
+use Rattle.command.specs.declared.Acknowledgment.{Acknowledgment}
 use Rattle.command.specs.declared.Acknowledging.{Acknowledging}
 use Rattle.command.proofs.Handing.{handed-fine}
 use Rattle.command.proofs.Answers.{acknowledged-held, reply-elsewhere, status-supported, status-global, status-nobody, status-nak}
@@ -44,12 +45,14 @@ use Rattle.command.proofs.Answers.{acknowledged-held, reply-elsewhere, 
 
 pub claiming-for-claim-only : the.ClaimingForClaimOnly
 unfolding isOurs isOurAddress
-claiming-for-claim-only to source dgn address es c s t d =
-    reply-elsewhere to source dgn es c (claiming address) (sym s) (rw (ne-eqb to everyone t, ne-eqb dgn addressClaimed d))
+claiming-for-claim-only asked address es c s t d =
+    reply-elsewhere asked es c (claiming address) (sym s)
+    (rw (ne-eqb (asked .destination) everyone t, ne-eqb (asked .dgn) addressClaimed d))
 
 pub silent-only-global : the.SilentOnlyGlobal
 unfolding isOurs isOurAddress
-silent-only-global to source dgn es c s t = reply-elsewhere to source dgn es c silent (sym s) (rw (ne-eqb to everyone t))
+silent-only-global asked es c s t =
+    reply-elsewhere asked es c silent (sym s) (rw (ne-eqb (asked .destination) everyone t))
 
 -- an address that is given is held
 
@@ -86,11 +89,12 @@ source-low source dgn h =
     let m : source ≡ 254 → ⊥ = λ e. omega arith in
     rw (ne-eqb source 255 n, ne-eqb source 254 m)
 
-acknowledgment-checked : (address requester code instance dgn : ℕ) → address ≤ greatestAddress → requester < 256
-    → checkedOf (acknowledgmentId address requester) (length (acknowledgmentBytes requester code instance dgn))
-    ≡ gives (record { priority = acknowledgmentPriority; dgn = acknowledgmentDgn + requester; source = address })
+acknowledgment-checked : (address : ℕ) (reply : Acknowledgment) → address ≤ greatestAddress → reply .requester < 256
+    → checkedOf (acknowledgmentId address (reply .requester)) (length (acknowledgmentBytes reply))
+    ≡ gives (record { priority = acknowledgmentPriority; dgn = acknowledgmentDgn + reply .requester; source = address })
 unfolding acknowledgmentId acknowledgmentBytes bytesOf identifierOf priorityOf reservedOf dgnOf sourceOf
-acknowledgment-checked address requester code instance dgn h q =
+acknowledgment-checked address reply h q =
+    let requester = reply .requester in
     let id = acknowledgmentId address requester in
     let i : id < identifiers = omega arith in
     let r : reservedOf id ≡ 0 = omega arith in
@@ -133,51 +137,55 @@ picked-held id bytes h c ps e =
 
 -- requests: how an answer that is given came about
 
-pub data Came (to source dgn : ℕ) (es : List Entry) (c : Claim) : Reply → Type 0 where
-  elsewhere : Came to source dgn es c Requests.nothingToDo
-  claimed : dgn ≡ addressClaimed → Came to source dgn es c (claims (claimFrame c))
-  reported : (address : ℕ) → standOf c ≡ held address → Came to source dgn es c (supported (positionsWhere (supports dgn) es))
-  unanswered : Came to source dgn es c unsupported
-  denied : (address : ℕ) → standOf c ≡ held address → isOurs to dgn (held address) ≡ true → any (supports dgn) es ≡ false → (to ≡ everyone → ⊥) → (source ≡ noAddress → ⊥)
-      → Came to source dgn es c (nak (acknowledgment address source nakCode unused dgn))
+pub data Came (asked : Asked) (es : List Entry) (c : Claim) : Reply → Type 0 where
+  elsewhere : Came asked es c Requests.nothingToDo
+  claimed : asked .dgn ≡ addressClaimed → Came asked es c (claims (claimFrame c))
+  reported : (address : ℕ) → standOf c ≡ held address
+      → Came asked es c (supported (positionsWhere (supports asked) es))
+  unanswered : Came asked es c unsupported
+  denied : (address : ℕ) → standOf c ≡ held address → isOurs asked (held address) ≡ true
+      → any (supports asked) es ≡ false → (asked .destination ≡ everyone → ⊥) → (asked .source ≡ noAddress → ⊥)
+      → Came asked es c (nak (acknowledgmentFrame address (nakTo asked)))
 
-came-held : (to source dgn : ℕ) (es : List Entry) (c : Claim) (address : ℕ) → standOf c ≡ held address → isOurs to dgn (held address) ≡ true
-    → Came to source dgn es c (statusOf to source dgn es address)
-came-held to source dgn es c address s o =
-    by-test (any (supports dgn) es)
-    (λ n. rw (status-supported to source dgn es address n) (reported address s))
-    (λ n. by-test (to =? everyone)
-    (λ t. rw (status-global to source dgn es address n (eqb-true to everyone t)) unanswered)
+came-held : (asked : Asked) (es : List Entry) (c : Claim) (address : ℕ) → standOf c ≡ held address
+    → isOurs asked (held address) ≡ true → Came asked es c (statusOf asked es address)
+came-held asked es c address s o =
+    by-test (any (supports asked) es)
+    (λ n. rw (status-supported asked es address n) (reported address s))
+    (λ n. by-test (asked .destination =? everyone)
+    (λ t. rw (status-global asked es address n (eqb-true (asked .destination) everyone t)) unanswered)
     (λ t.
-    let t′ = eqb-false to everyone t in
-    by-test (source =? noAddress)
-    (λ q. rw (status-nobody to source dgn es address n t′ (eqb-true source noAddress q)) unanswered)
+    let t′ = eqb-false (asked .destination) everyone t in
+    by-test (asked .source =? noAddress)
+    (λ q. rw (status-nobody asked es address n t′ (eqb-true (asked .source) noAddress q)) unanswered)
     (λ q.
-    let q′ = eqb-false source noAddress q in
-    rw (status-nak to source dgn es address n t′ q′) (denied address s o n t′ q′))))
+    let q′ = eqb-false (asked .source) noAddress q in
+    rw (status-nak asked es address n t′ q′) (denied address s o n t′ q′))))
 
-came : (to source dgn : ℕ) (es : List Entry) (c : Claim) (reply : Reply) → replyOf to source dgn es c ≡ gives reply → Came to source dgn es c reply
+came : (asked : Asked) (es : List Entry) (c : Claim) (reply : Reply) → replyOf asked es c ≡ gives reply
+    → Came asked es c reply
 unfolding replyOf
-came to source dgn es c reply e =
-    by-test (isOurs to dgn (standOf c))
-    (λ o. by-test (dgn =? addressClaimed)
-    (λ d. rw (sym (gives-same (rw (o, d) at e))) (claimed (eqb-true dgn addressClaimed d)))
+came asked es c reply e =
+    by-test (isOurs asked (standOf c))
+    (λ o. by-test (asked .dgn =? addressClaimed)
+    (λ d. rw (sym (gives-same (rw (o, d) at e))) (claimed (eqb-true (asked .dgn) addressClaimed d)))
     (λ d. given-past (addressHeld (standOf c)) _ (rw (o, d) at e)
     (λ address a m.
     let s = held-address (standOf c) address a in
-    rw (sym (gives-same m)) (came-held to source dgn es c address s (rw s at o)))))
+    rw (sym (gives-same m)) (came-held asked es c address s (rw s at o)))))
     (λ o. rw (sym (gives-same (rw o at e))) elsewhere)
 
 -- a request that was answered
 pub record Answered (id : ℕ) (bytes : List ℕ) (h : Host) (c : Claim) (reply : Reply) : Type 0 where
   pub sound : isSound c ≡ true
   pub source : sourceOf id ≤ noAddress
-  pub came-about : Came (destinationOf (dgnOf id)) (sourceOf id) (requestedDgn bytes) (hosted h) c reply
+  pub came-about : Came (askedOf (partsOf id) bytes) (hosted h) c reply
 
-answered : (id : ℕ) (bytes : List ℕ) (h : Host) (c : Claim) (reply : Reply) → requestedOf id bytes h c ≡ gives reply → Answered id bytes h c reply
-unfolding requestedOf askedOf
+answered : (id : ℕ) (bytes : List ℕ) (h : Host) (c : Claim) (reply : Reply) → requestedOf id bytes h c ≡ gives reply
+    → Answered id bytes h c reply
+unfolding requestedOf answerOf
 answered id bytes h c reply e =
-    given-past (handedIn id bytes h c) (λ parts. askedOf parts bytes (hosted h) c) e
+    given-past (handedIn id bytes h c) (λ parts. answerOf parts bytes (hosted h) c) e
     (λ parts p m.
     let f = handed-fine id bytes h c parts p in
     let q = checked-given id (length bytes) parts (f .frame) .1 in
@@ -185,45 +193,52 @@ answered id bytes h c reply e =
     by-test (catalogueForm (parts .dgn) =? requestDgn)
     (λ d.
     let r₁₇ = past-refusal (greatestDgn <? requestedDgn bytes) 17 _ (rw d at m) in
-    let k : replyOf (destinationOf (dgnOf id)) (sourceOf id) (requestedDgn bytes) (hosted h) c ≡ gives reply = rw q at (r₁₇ .1) in
-    record { sound = f .claim; source = l; came-about = came _ _ _ (hosted h) c reply k })
+    let k : replyOf (askedOf (partsOf id) bytes) (hosted h) c ≡ gives reply = rw q at (r₁₇ .1) in
+    record { sound = f .claim; source = l; came-about = came (askedOf (partsOf id) bytes) (hosted h) c reply k })
     (λ d. rw (sym (gives-same (rw d at m))) (record { sound = f .claim; source = l; came-about = elsewhere })))
 
 -- positions are given from a held address
 
-supported-came : (to source dgn : ℕ) (es : List Entry) (c : Claim) (reply : Reply) (ps : List ℕ) → reply ≡ supported ps → Came to source dgn es c reply
-    → (address : ℕ) × (standOf c ≡ held address) × (ps ≡ positionsWhere (supports dgn) es)
-supported-came to source dgn es c reply ps e elsewhere = let z : _≡_ {A = ℕ} 0 1 = cc in absurd (omega arith)
-supported-came to source dgn es c reply ps e (claimed d) = let z : _≡_ {A = ℕ} 0 1 = cc in absurd (omega arith)
-supported-came to source dgn es c reply ps e (reported address s) = (address, s, cc)
-supported-came to source dgn es c reply ps e unanswered = let z : _≡_ {A = ℕ} 0 1 = cc in absurd (omega arith)
-supported-came to source dgn es c reply ps e (denied address s o n t q) = let z : _≡_ {A = ℕ} 0 1 = cc in absurd (omega arith)
+supported-came : (asked : Asked) (es : List Entry) (c : Claim) (reply : Reply) (ps : List ℕ) → reply ≡ supported ps
+    → Came asked es c reply
+    → (address : ℕ) × (standOf c ≡ held address) × (ps ≡ positionsWhere (supports asked) es)
+supported-came asked es c reply ps e elsewhere = let z : _≡_ {A = ℕ} 0 1 = cc in absurd (omega arith)
+supported-came asked es c reply ps e (claimed d) = let z : _≡_ {A = ℕ} 0 1 = cc in absurd (omega arith)
+supported-came asked es c reply ps e (reported address s) = (address, s, cc)
+supported-came asked es c reply ps e unanswered = let z : _≡_ {A = ℕ} 0 1 = cc in absurd (omega arith)
+supported-came asked es c reply ps e (denied address s o n t q) =
+    let z : _≡_ {A = ℕ} 0 1 = cc in absurd (omega arith)
 
 pub supported-held : the.SupportedHeld
 supported-held id bytes h c ps e =
-    supported-came _ _ (requestedDgn bytes) (hosted h) c (supported ps) ps refl (answered id bytes h c (supported ps) e .came-about)
+    supported-came (askedOf (partsOf id) bytes) (hosted h) c (supported ps) ps refl
+    (answered id bytes h c (supported ps) e .came-about)
 
 -- a NAK
 
-our-address : (to dgn address : ℕ) → isOurs to dgn (held address) ≡ true → (to ≡ everyone → ⊥) → to ≡ address
+our-address : (asked : Asked) (address : ℕ) → isOurs asked (held address) ≡ true → (asked .destination ≡ everyone → ⊥)
+    → asked .destination ≡ address
 unfolding isOurs isOurAddress
-our-address to dgn address o n = eqb-true to address (rw (ne-eqb to everyone n) at o)
+our-address asked address o n =
+    eqb-true (asked .destination) address (rw (ne-eqb (asked .destination) everyone n) at o)
 
-nak-came : (id : ℕ) (bytes : List ℕ) (h : Host) (c : Claim) (reply : Reply) (frame : Frame) → reply ≡ nak frame → isSound c ≡ true → sourceOf id ≤ noAddress
-    → Came (destinationOf (dgnOf id)) (sourceOf id) (requestedDgn bytes) (hosted h) c reply → the.NakSound id bytes h c frame
+nak-came : (id : ℕ) (bytes : List ℕ) (h : Host) (c : Claim) (reply : Reply) (frame : Frame) → reply ≡ nak frame
+    → isSound c ≡ true → sourceOf id ≤ noAddress → Came (askedOf (partsOf id) bytes) (hosted h) c reply
+    → the.NakSound id bytes h c frame
 nak-came id bytes h c reply frame e s l elsewhere = let z : _≡_ {A = ℕ} 0 1 = cc in absurd (omega arith)
 nak-came id bytes h c reply frame e s l (claimed d) = let z : _≡_ {A = ℕ} 0 1 = cc in absurd (omega arith)
 nak-came id bytes h c reply frame e s l (reported address t) = let z : _≡_ {A = ℕ} 0 1 = cc in absurd (omega arith)
 nak-came id bytes h c reply frame e s l unanswered = let z : _≡_ {A = ℕ} 0 1 = cc in absurd (omega arith)
 nak-came id bytes h c reply frame e s l (denied address t o n d q) =
-    let f : frame ≡ acknowledgment address (sourceOf id) nakCode unused (requestedDgn bytes) = cc in
+    let asked = askedOf (partsOf id) bytes in
+    let f : frame ≡ acknowledgmentFrame address (nakTo asked) = cc in
     record {
       address = address;
       holds = t;
-      directed = our-address (destinationOf (dgnOf id)) (requestedDgn bytes) address o d;
+      directed = our-address asked address o d;
       requester = omega (arith, q);
       unsupported = n;
-      parts = rw f (acknowledgment-checked address (sourceOf id) nakCode unused (requestedDgn bytes) (held-low c address s t) (omega arith));
+      parts = rw f (acknowledgment-checked address (nakTo asked) (held-low c address s t) (omega arith));
     }
 
 pub nak-is-sound : the.NakIsSound
@@ -233,22 +248,23 @@ nak-is-sound id bytes h c frame e =
 
 -- our claim
 
-claims-came : (to source dgn : ℕ) (es : List Entry) (c : Claim) (reply : Reply) (frame : Frame) → reply ≡ claims frame → Came to source dgn es c reply
-    → (dgn ≡ addressClaimed) × (frame ≡ claimFrame c)
-claims-came to source dgn es c reply frame e elsewhere = let z : _≡_ {A = ℕ} 0 1 = cc in absurd (omega arith)
-claims-came to source dgn es c reply frame e (claimed d) = (d, cc)
-claims-came to source dgn es c reply frame e (reported address s) = let z : _≡_ {A = ℕ} 0 1 = cc in absurd (omega arith)
-claims-came to source dgn es c reply frame e unanswered = let z : _≡_ {A = ℕ} 0 1 = cc in absurd (omega arith)
-claims-came to source dgn es c reply frame e (denied address s o n t q) = let z : _≡_ {A = ℕ} 0 1 = cc in absurd (omega arith)
+claims-came : (asked : Asked) (es : List Entry) (c : Claim) (reply : Reply) (frame : Frame) → reply ≡ claims frame
+    → Came asked es c reply → (asked .dgn ≡ addressClaimed) × (frame ≡ claimFrame c)
+claims-came asked es c reply frame e elsewhere = let z : _≡_ {A = ℕ} 0 1 = cc in absurd (omega arith)
+claims-came asked es c reply frame e (claimed d) = (d, cc)
+claims-came asked es c reply frame e (reported address s) = let z : _≡_ {A = ℕ} 0 1 = cc in absurd (omega arith)
+claims-came asked es c reply frame e unanswered = let z : _≡_ {A = ℕ} 0 1 = cc in absurd (omega arith)
+claims-came asked es c reply frame e (denied address s o n t q) =
+    let z : _≡_ {A = ℕ} 0 1 = cc in absurd (omega arith)
 
 -- no other answer has a frame
-unsent : (a : Requesting) (ps : List ℕ) (frame : Frame) → (a ≡ Requesting.NakSent → ⊥) → (a ≡ Requesting.ClaimSent → ⊥) → sentIn (toldRequesting a ps frame) ≡ noFrame
+unsent : (a : Requesting) (ps : List ℕ) (frame : Frame) → (a ≡ Requesting.SendNak → ⊥) → (a ≡ Requesting.SendClaim → ⊥) → sentIn (toldRequesting a ps frame) ≡ noFrame
 unsent Requesting.NothingToDo ps frame n m = refl
-unsent Requesting.ClaimSent ps frame n m = absurd (m refl)
+unsent Requesting.SendClaim ps frame n m = absurd (m refl)
 unsent Requesting.Supported ps frame n m = refl
-unsent Requesting.NakSent ps frame n m = absurd (n refl)
+unsent Requesting.SendNak ps frame n m = absurd (n refl)
 unsent Requesting.Unsupported ps frame n m = refl
-unsent Requesting.StateBroken ps frame n m = refl
+unsent Requesting.BrokenState ps frame n m = refl
 unsent (Requesting.BadFrame why) ps frame n m = refl
 unsent Requesting.ListMalformed ps frame n m = refl
 unsent Requesting.DgnTooLarge ps frame n m = refl
@@ -264,7 +280,7 @@ request-sends-ours id bytes h c r p =
       (λ a.
           let t : requestedOf id bytes h c ≡ gives (claims frame) = sym (p .answer) ∙ ap (λ (x : Requesting). toldRequesting x (listed (r .positions)) frame) a in
           let k = answered id bytes h c (claims frame) t in
-          let m = claims-came _ _ (requestedDgn bytes) (hosted h) c (claims frame) frame refl (k .came-about) in
+          let m = claims-came (askedOf (partsOf id) bytes) (hosted h) c (claims frame) frame refl (k .came-about) in
           (m .0, ap (λ (x : Frame). sourceOf (x .id)) (m .1) ∙ claim-source c (k .sound))),
       (λ n m.
           let u : sentIn (requestedOf id bytes h c) ≡ noFrame = ap sentIn (sym (p .answer)) ∙ unsent (r .answer) _ frame n m in
@@ -273,28 +289,29 @@ request-sends-ours id bytes h c r p =
 
 -- an acknowledgment
 
-formed-by : {P : Type 0} (c : Claim) (requester code instance dgn : ℕ) (frame : Frame) → acknowledgedOf c requester code instance dgn ≡ gives frame
-    → ((address : ℕ) → standOf c ≡ held address → isSound c ≡ true → requester ≤ greatestAddress → frame ≡ acknowledgment address requester code instance dgn → P) → P
+formed-by : {P : Type 0} (c : Claim) (reply : Acknowledgment) (frame : Frame) → acknowledgedOf c reply ≡ gives frame
+    → ((address : ℕ) → standOf c ≡ held address → isSound c ≡ true → reply .requester ≤ greatestAddress
+    → frame ≡ acknowledgmentFrame address reply → P) → P
 unfolding acknowledgedOf
-formed-by c requester code instance dgn frame e k =
+formed-by c reply frame e k =
     let r₂ = past-refusal (not (keepsRules c)) 2 _ e in
-    let r₆ = past-refusal (greatestAddress <? requester) 6 _ (r₂ .1) in
+    let r₆ = past-refusal (greatestAddress <? reply .requester) 6 _ (r₂ .1) in
     let r₁₆ = past-refusal (not (holdsList c)) 16 _ (r₆ .1) in
-    let r₁₇ = past-refusal (greatestDgn <? dgn) 17 _ (r₁₆ .1) in
+    let r₁₇ = past-refusal (greatestDgn <? reply .dgn) 17 _ (r₁₆ .1) in
     given-past (addressHeld (standOf c)) _ (r₁₇ .1)
     (λ address a m. k address (held-address (standOf c) address a) (sound-well c (not-flips _ (r₂ .0)) (not-flips _ (r₁₆ .0)) .1) (ltb-false _ _ (r₆ .0)) (sym (gives-same m)))
 
 pub acknowledge-sends-ours : the.AcknowledgeSendsOurs
-acknowledge-sends-ours c requester code instance dgn r p a =
+acknowledge-sends-ours c reply r p a =
     let frame : Frame = record { id = r .id; bytes = r .bytes } in
-    let t : acknowledgedOf c requester code instance dgn ≡ gives frame = sym (p .answer) ∙ ap (λ (x : Acknowledging). toldAcknowledging x frame) a in
-    formed-by c requester code instance dgn frame t
+    let t : acknowledgedOf c reply ≡ gives frame = sym (p .answer) ∙ ap (λ (x : Acknowledging). toldAcknowledging x frame) a in
+    formed-by c reply frame t
     (λ address s k q e.
-    let f = acknowledgment-checked address requester code instance dgn (held-low c address k s) (omega arith) in
+    let f = acknowledgment-checked address reply (held-low c address k s) (omega arith) in
     (address, s, rw (ap (λ (x : Frame). x .id) e, ap (λ (x : Frame). x .bytes) e) f))
 
 pub example-eleven : the.ExampleEleven
 unfolding addressHeld acknowledgmentId acknowledgmentBytes identifierOf bytesOf
 example-eleven c s e =
     let b = both-true (keepsRules c) (holdsList c) s in
-    acknowledged-held c 0x44 3 2 0x1FFE7 (held 0x9C) 0x9C e refl (b .0) (omega arith) (b .1) (omega arith)
+    acknowledged-held c (record { code = 3; instance = 2; requester = 0x44; dgn = 0x1FFE7 }) (held 0x9C) 0x9C e refl (b .0) (omega arith) (b .1) (omega arith)

@@ -2,15 +2,13 @@
 use mathlib.Core.Bool.{not}
 use mathlib.Core.List.{List, _∷_}
 use Prim.Native.Nat.{ℕ, _+_}
-use lib.ListN.{replicate}
 use Rattle.frame.specs.Words.{if_then_else_, _<?_, Told, refused, gives, given_then_}
-use Rattle.frame.specs.Bytes.{bytesOf}
 use Rattle.frame.specs.Identifier.{identifierOf, greatestDgn}
-use Rattle.frame.specs.Frame.{frameBytes}
-use Rattle.frame.specs.Standard.{Frame, acknowledgmentDgn, greatestAddress, unused}
+use Rattle.frame.specs.Standard.{Frame, acknowledgmentDgn, dgnBytes, greatestAddress, unused}
 use Rattle.claim.specs.Claim.{keepsRules, holdsList, claimId, claimBytes, standOf}
 use Rattle.claim.specs.declared.Claim.{Claim}
 use Rattle.command.specs.Handed.{addressHeld}
+use Rattle.command.specs.declared.Acknowledgment.{Acknowledgment}
 
 -- the frame of our claim, from our address, or from 254 when silent
 abbrev pub claimFrame : Claim → Frame
@@ -23,20 +21,20 @@ unfoldable pub acknowledgmentId : ℕ → ℕ → ℕ
 acknowledgmentId address requester = identifierOf acknowledgmentPriority (acknowledgmentDgn + requester) address
 
 -- byte 0 the code, 1 the instance, 2 and 3 FFh, 4 the requester, 5 to 7 the DGN, low byte first
-unfoldable pub acknowledgmentBytes : ℕ → ℕ → ℕ → ℕ → List ℕ
-acknowledgmentBytes requester code instance dgn = code ∷ instance ∷ unused ∷ unused ∷ requester ∷ bytesOf 3 dgn
+unfoldable pub acknowledgmentBytes : Acknowledgment → List ℕ
+acknowledgmentBytes a = a .code ∷ a .instance ∷ unused ∷ unused ∷ a .requester ∷ dgnBytes (a .dgn)
 
--- the acknowledgment from this address, with this code to that requester
-abbrev pub acknowledgment : ℕ → ℕ → ℕ → ℕ → ℕ → Frame
-acknowledgment address requester code instance dgn =
-    record { id = acknowledgmentId address requester; bytes = acknowledgmentBytes requester code instance dgn }
+-- the frame of an acknowledgment, from this address to its requester
+abbrev pub acknowledgmentFrame : ℕ → Acknowledgment → Frame
+acknowledgmentFrame address a =
+    record { id = acknowledgmentId address (a .requester); bytes = acknowledgmentBytes a }
 
 -- an acknowledgment formed: 2, then 6, 16, 17, 18
-unfoldable pub acknowledgedOf : Claim → ℕ → ℕ → ℕ → ℕ → Told Frame
-acknowledgedOf c requester code instance dgn =
+unfoldable pub acknowledgedOf : Claim → Acknowledgment → Told Frame
+acknowledgedOf c a =
     if not (keepsRules c) then refused 2 else
-    if greatestAddress <? requester then refused 6 else
+    if greatestAddress <? a .requester then refused 6 else
     if not (holdsList c) then refused 16 else
-    if greatestDgn <? dgn then refused 17 else
+    if greatestDgn <? a .dgn then refused 17 else
     given addressHeld (standOf c) then λ address.
-    gives (acknowledgment address requester code instance dgn)
+    gives (acknowledgmentFrame address a)

@@ -6,8 +6,8 @@ use mathlib.Core.List.{List, [], _∷_}
 use mathlib.Core.Logic.{_↔_}
 use Prim.Native.Nat.{ℕ, _+_, _≤_, _<_, _%_, _^_}
 use lib.ListN.{length, take, getD}
-use Rattle.frame.specs.Words.{refused, gives}
-use Rattle.frame.specs.Identifier.{identifiers, greatestDgn, dgnOf, sourceOf, isAddressed, destinationOf, catalogueForm}
+use Rattle.frame.specs.Words.{refused, gives, numberIn}
+use Rattle.frame.specs.Identifier.{identifiers, greatestDgn, dgnOf, sourceOf, partsOf, isAddressed, destinationOf, catalogueForm}
 use Rattle.frame.specs.Frame.{checkedOf}
 use Rattle.frame.specs.Standard.{Frame, acknowledgmentDgn, addressClaimed, everyone, greatestAddress, requestDgn}
 use Rattle.frame.specs.Promises.{destined}
@@ -25,8 +25,8 @@ use Rattle.command.specs.Commands as Commands
 use Rattle.command.specs.Commands.{hasCommand, isMeant, picks, routedOf}
 use Rattle.command.specs.Acknowledgment.{acknowledgmentPriority, acknowledgedOf}
 use Rattle.command.specs.Requests as Requests
-use Rattle.command.specs.Requests.{requestedDgn, supports, supported, nak, unsupported, replyOf, requestedOf}
-use Rattle.command.specs.Promises.{Start, Route, Request, Acknowledge, toldStarting, toldRouting, toldRequesting, toldAcknowledging}
+use Rattle.command.specs.Requests.{requestedDgn, Asked, askedOf, supports, supported, nak, unsupported, replyOf, requestedOf}
+use Rattle.command.specs.Promises.{Start, Route, Request, Acknowledge, StartingRefusal, RoutingRefusal, RequestingRefusal, AcknowledgingRefusal, toldStarting, toldRouting, toldRequesting, toldAcknowledging}
 use Rattle.command.specs.declared.Entry.{Entry}
 use Rattle.command.specs.declared.Host.{Host}
 use Rattle.command.specs.declared.Starting.{Starting}
@@ -34,10 +34,11 @@ use Rattle.command.specs.declared.Started.{Started}
 use Rattle.command.specs.declared.Routing.{Routing}
 use Rattle.command.specs.declared.Routed.{Routed}
 use Rattle.command.specs.declared.Requesting.{Requesting}
-use Rattle.command.specs.declared.Requesting.the-variants.{ClaimSent, NakSent}
+use Rattle.command.specs.declared.Requesting.the-variants.{SendClaim, SendNak}
 use Rattle.command.specs.declared.Requested.{Requested}
+use Rattle.command.specs.declared.Acknowledgment.{Acknowledgment}
 use Rattle.command.specs.declared.Acknowledging.{Acknowledging}
-use Rattle.command.specs.declared.Acknowledging.the-variants.{Formed}
+use Rattle.command.specs.declared.Acknowledging.the-variants.{Send}
 use Rattle.command.specs.declared.Acknowledged.{Acknowledged}
 
 -- An answer read in document 01's terms loses nothing.
@@ -67,8 +68,35 @@ RequestOnly = (id : ℕ) (bytes : List ℕ) (h : Host) (c : Claim) (r s : Reques
 
 abbrev pub AcknowledgeOnly : Type 0
 AcknowledgeOnly =
-    (c : Claim) (requester code instance dgn : ℕ) (r s : Acknowledged)
-    → Acknowledge c requester code instance dgn r → Acknowledge c requester code instance dgn s → r ≡ s
+    (c : Claim) (a : Acknowledgment) (r s : Acknowledged) → Acknowledge c a r → Acknowledge c a s → r ≡ s
+
+abbrev pub StartingRefusalOnly : Type 0
+StartingRefusalOnly = (answer : Starting) (r s : ℕ) → StartingRefusal answer r → StartingRefusal answer s → r ≡ s
+
+abbrev pub RoutingRefusalOnly : Type 0
+RoutingRefusalOnly = (answer : Routing) (r s : ℕ) → RoutingRefusal answer r → RoutingRefusal answer s → r ≡ s
+
+abbrev pub RequestingRefusalOnly : Type 0
+RequestingRefusalOnly = (answer : Requesting) (r s : ℕ) → RequestingRefusal answer r → RequestingRefusal answer s → r ≡ s
+
+abbrev pub AcknowledgingRefusalOnly : Type 0
+AcknowledgingRefusalOnly = (answer : Acknowledging) (r s : ℕ) → AcknowledgingRefusal answer r → AcknowledgingRefusal answer s → r ≡ s
+
+-- The number of a refusal is the answer's alone: it is the same whatever positions and frame stand beside.
+
+abbrev pub RoutingRefusalAny : Type 0
+RoutingRefusalAny =
+    (answer : Routing) (r : ℕ) (ps : List ℕ) → RoutingRefusal answer r → r ≡ numberIn (toldRouting answer ps)
+
+abbrev pub RequestingRefusalAny : Type 0
+RequestingRefusalAny =
+    (answer : Requesting) (r : ℕ) (ps : List ℕ) (frame : Frame) → RequestingRefusal answer r
+    → r ≡ numberIn (toldRequesting answer ps frame)
+
+abbrev pub AcknowledgingRefusalAny : Type 0
+AcknowledgingRefusalAny =
+    (answer : Acknowledging) (r : ℕ) (frame : Frame) → AcknowledgingRefusal answer r
+    → r ≡ numberIn (toldAcknowledging answer frame)
 
 -- A refusal returns its number and nothing else: no positions and no frame stand beside it. Host and claim are handed in by value, and stay.
 
@@ -89,7 +117,7 @@ RequestRefusedKeeps =
 
 abbrev pub AcknowledgeRefusedKeeps : Type 0
 AcknowledgeRefusedKeeps =
-    (c : Claim) (requester code instance dgn : ℕ) (r : Acknowledged) (n : ℕ) → Acknowledge c requester code instance dgn r
+    (c : Claim) (a : Acknowledgment) (r : Acknowledged) (n : ℕ) → Acknowledge c a r
     → toldAcknowledging (r .answer) (record { id = r .id; bytes = r .bytes }) ≡ refused n → NoFrame (r .id) (r .bytes)
 
 -- The lowest number wins: what is handed in is refused with 2, then 3 to 6, then 16, before anything is asked of the frame.
@@ -102,13 +130,13 @@ pub record LowestWins (id : ℕ) (bytes : List ℕ) (h : Host) (c : Claim) : Typ
   pub passed-on : (n : ℕ) → handedIn id bytes h c ≡ refused n → (routedOf id bytes h c ≡ refused n) × (requestedOf id bytes h c ≡ refused n)
 
 -- An acknowledgment: 2, then 6, 16, 17, 18.
-pub record AcknowledgeLowestWins (c : Claim) (requester code instance dgn : ℕ) : Type 0 where
-  pub two : keepsRules c ≡ false → acknowledgedOf c requester code instance dgn ≡ refused 2
-  pub six : keepsRules c ≡ true → greatestAddress < requester → acknowledgedOf c requester code instance dgn ≡ refused 6
-  pub sixteen : keepsRules c ≡ true → requester ≤ greatestAddress → holdsList c ≡ false → acknowledgedOf c requester code instance dgn ≡ refused 16
-  pub seventeen : isSound c ≡ true → requester ≤ greatestAddress → greatestDgn < dgn → acknowledgedOf c requester code instance dgn ≡ refused 17
-  pub eighteen : isSound c ≡ true → requester ≤ greatestAddress → dgn ≤ greatestDgn → addressHeld (standOf c) ≡ refused 18
-      → acknowledgedOf c requester code instance dgn ≡ refused 18
+pub record AcknowledgeLowestWins (c : Claim) (a : Acknowledgment) : Type 0 where
+  pub two : keepsRules c ≡ false → acknowledgedOf c a ≡ refused 2
+  pub six : keepsRules c ≡ true → greatestAddress < a .requester → acknowledgedOf c a ≡ refused 6
+  pub sixteen : keepsRules c ≡ true → a .requester ≤ greatestAddress → holdsList c ≡ false → acknowledgedOf c a ≡ refused 16
+  pub seventeen : isSound c ≡ true → a .requester ≤ greatestAddress → greatestDgn < a .dgn → acknowledgedOf c a ≡ refused 17
+  pub eighteen : isSound c ≡ true → a .requester ≤ greatestAddress → a .dgn ≤ greatestDgn → addressHeld (standOf c) ≡ refused 18
+      → acknowledgedOf c a ≡ refused 18
 
 -- Priority is ignored on receipt.
 abbrev pub PriorityIgnored : Type 0
@@ -217,12 +245,14 @@ LaterBytesIgnored =
 
 abbrev pub ClaimingForClaimOnly : Type 0
 ClaimingForClaimOnly =
-    (to source dgn address : ℕ) (es : List Entry) (c : Claim) → standOf c ≡ claiming address → (to ≡ everyone → ⊥) → (dgn ≡ addressClaimed → ⊥)
-    → replyOf to source dgn es c ≡ gives Requests.nothingToDo
+    (asked : Asked) (address : ℕ) (es : List Entry) (c : Claim) → standOf c ≡ claiming address
+    → (asked .destination ≡ everyone → ⊥) → (asked .dgn ≡ addressClaimed → ⊥)
+    → replyOf asked es c ≡ gives Requests.nothingToDo
 
 abbrev pub SilentOnlyGlobal : Type 0
 SilentOnlyGlobal =
-    (to source dgn : ℕ) (es : List Entry) (c : Claim) → standOf c ≡ silent → (to ≡ everyone → ⊥) → replyOf to source dgn es c ≡ gives Requests.nothingToDo
+    (asked : Asked) (es : List Entry) (c : Claim) → standOf c ≡ silent → (asked .destination ≡ everyone → ⊥)
+    → replyOf asked es c ≡ gives Requests.nothingToDo
 
 -- Positions and NAKs are given from a held address only, and a NAK to one node only, which asked for what no entry supports: it is directed to our
 -- address, and comes from one.
@@ -235,14 +265,14 @@ PickedHeld =
 abbrev pub SupportedHeld : Type 0
 SupportedHeld =
     (id : ℕ) (bytes : List ℕ) (h : Host) (c : Claim) (ps : List ℕ) → requestedOf id bytes h c ≡ gives (supported ps)
-    → (address : ℕ) × (standOf c ≡ held address) × (ps ≡ positionsWhere (supports (requestedDgn bytes)) (hosted h))
+    → (address : ℕ) × (standOf c ≡ held address) × (ps ≡ positionsWhere (supports (askedOf (partsOf id) bytes)) (hosted h))
 
 pub record NakSound (id : ℕ) (bytes : List ℕ) (h : Host) (c : Claim) (frame : Frame) : Type 0 where
   pub address : ℕ
   pub holds : standOf c ≡ held address
   pub directed : destinationOf (dgnOf id) ≡ address
   pub requester : sourceOf id ≤ greatestAddress
-  pub unsupported : any (supports (requestedDgn bytes)) (hosted h) ≡ false
+  pub unsupported : any (supports (askedOf (partsOf id) bytes)) (hosted h) ≡ false
   pub parts : checkedOf (frame .id) (length (frame .bytes))
       ≡ gives (record { priority = acknowledgmentPriority; dgn = acknowledgmentDgn + sourceOf id; source = address })
 
@@ -256,19 +286,20 @@ NakIsSound =
 abbrev pub RequestSendsOurs : Type 0
 RequestSendsOurs =
     (id : ℕ) (bytes : List ℕ) (h : Host) (c : Claim) (r : Requested) → Request id bytes h c r
-    → (r .answer ≡ NakSent → (address : ℕ) × (standOf c ≡ held address) × (sourceOf (r .id) ≡ address))
-    × (r .answer ≡ ClaimSent → (requestedDgn bytes ≡ addressClaimed) × (sourceOf (r .id) ≡ claimSource c))
-    × ((r .answer ≡ NakSent → ⊥) → (r .answer ≡ ClaimSent → ⊥) → NoFrame (r .id) (r .bytes))
+    → (r .answer ≡ SendNak → (address : ℕ) × (standOf c ≡ held address) × (sourceOf (r .id) ≡ address))
+    × (r .answer ≡ SendClaim → (requestedDgn bytes ≡ addressClaimed) × (sourceOf (r .id) ≡ claimSource c))
+    × ((r .answer ≡ SendNak → ⊥) → (r .answer ≡ SendClaim → ⊥) → NoFrame (r .id) (r .bytes))
 
 abbrev pub AcknowledgeSendsOurs : Type 0
 AcknowledgeSendsOurs =
-    (c : Claim) (requester code instance dgn : ℕ) (r : Acknowledged) → Acknowledge c requester code instance dgn r → r .answer ≡ Formed
+    (c : Claim) (a : Acknowledgment) (r : Acknowledged) → Acknowledge c a r → r .answer ≡ Send
     → (address : ℕ) × (standOf c ≡ held address)
-    × (checkedOf (r .id) (length (r .bytes)) ≡ gives (record { priority = acknowledgmentPriority; dgn = acknowledgmentDgn + requester; source = address }))
+    × (checkedOf (r .id) (length (r .bytes))
+    ≡ gives (record { priority = acknowledgmentPriority; dgn = acknowledgmentDgn + a .requester; source = address }))
 
 -- Document 01's example (11): holding 9Ch, code 3 to 44h for SLIDE_COMMAND (1FFE7h) instance 2.
 abbrev pub ExampleEleven : Type 0
 ExampleEleven =
     (c : Claim) → isSound c ≡ true → standOf c ≡ held 0x9C
-    → acknowledgedOf c 0x44 3 2 0x1FFE7
+    → acknowledgedOf c (record { code = 3; instance = 2; requester = 0x44; dgn = 0x1FFE7 })
     ≡ gives (record { id = 0x18E8449C; bytes = 0x03 ∷ 0x02 ∷ 0xFF ∷ 0xFF ∷ 0x44 ∷ 0xE7 ∷ 0xFF ∷ 0x01 ∷ [] })

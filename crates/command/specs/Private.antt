@@ -11,7 +11,7 @@ use Rattle.frame.specs.declared.Parts.{Parts}
 use Rattle.claim.specs.Claim.{Stand, held, claiming, silent}
 use Rattle.command.specs.Commands.{hasCommand, isMeant}
 use Rattle.command.specs.Positions.{filled}
-use Rattle.command.specs.Requests.{supports}
+use Rattle.command.specs.Requests.{Asked, supports}
 use Rattle.command.specs.declared.Entry.{Entry}
 use Rattle.command.specs.declared.Positions.{Positions}
 use Rattle.command.specs.declared.Routing.{Routing}
@@ -20,19 +20,24 @@ use Rattle.command.specs.declared.Requesting.{Requesting}
 use Rattle.command.specs.declared.Requested.{Requested}
 use Rattle.command.specs.declared.Acknowledging.{Acknowledging}
 use Rattle.command.specs.declared.Acknowledged.{Acknowledged}
-use Rattle.command.specs.declared.picking.Asked.{Asked}
-use Rattle.command.specs.declared.picking.Asked.the-variants.{Hosted, Command, Status}
+use Rattle.command.specs.declared.requests.Asked as requests
+use Rattle.command.specs.declared.picking.Wanted.{Wanted}
+use Rattle.command.specs.declared.picking.Wanted.the-variants.{Hosted, Command, Status}
 use Rattle.command.specs.declared.address.Address.{Address}
 use Rattle.command.specs.declared.address.Address.the-variants.{Held, Claimed, Nowhere}
 use Rattle.command.specs.declared.handed.Handing.{Handing}
-use Rattle.command.specs.declared.handed.Handing.the-variants.{Sound, StateBroken, BadFrame, ListMalformed}
+use Rattle.command.specs.declared.handed.Handing.the-variants.{Sound, BrokenState, BadFrame, ListMalformed}
 use Rattle.command.specs.declared.handed.Handed.{Handed}
 
--- the entries that are asked for
-abbrev pub isAsked : Asked → Entry → Bool
-isAsked (Hosted dgn) e = hasCommand dgn e
-isAsked (Command dgn instance) e = isMeant dgn instance e
-isAsked (Status dgn) e = supports dgn e
+-- the request that the code hands on
+abbrev pub askedBy : requests.Asked → Asked
+askedBy asked = record { destination = asked .destination; source = asked .source; dgn = asked .dgn }
+
+-- the entries that are wanted
+abbrev pub isWanted : Wanted → Entry → Bool
+isWanted (Hosted dgn) e = hasCommand dgn e
+isWanted (Command dgn instance) e = isMeant dgn instance e
+isWanted (Status asked) e = supports (askedBy asked) e
 
 -- one position more
 abbrev pub added : ℕ → Positions → Positions
@@ -45,7 +50,7 @@ standAt Nowhere = silent
 
 abbrev pub toldHanding : Handing → Told Parts
 toldHanding (Sound parts) = gives parts
-toldHanding StateBroken = refused 2
+toldHanding BrokenState = refused 2
 toldHanding (BadFrame why) = refused (refusalOf why)
 toldHanding ListMalformed = refused 16
 

@@ -2,7 +2,7 @@
 use mathlib.Core.Path.{_≡_}
 use mathlib.Core.List.{List, []}
 use Prim.Native.Nat.{ℕ}
-use Rattle.frame.specs.Words.{if_then_else_, Told, refused, gives}
+use Rattle.frame.specs.Words.{if_then_else_, Told, refused, gives, numberIn}
 use Rattle.frame.specs.Standard.{Frame, noFrame}
 use Rattle.frame.specs.Promises.{refusalOf}
 use Rattle.claim.specs.Promises.{Done, done}
@@ -25,6 +25,7 @@ use Rattle.command.specs.declared.Routed.{Routed}
 use Rattle.command.specs.declared.Requesting.{Requesting}
 use Rattle.command.specs.declared.Requesting.the-variants as Requesting
 use Rattle.command.specs.declared.Requested.{Requested}
+use Rattle.command.specs.declared.Acknowledgment.{Acknowledgment}
 use Rattle.command.specs.declared.Acknowledging.{Acknowledging}
 use Rattle.command.specs.declared.Acknowledging.the-variants as Acknowledging
 use Rattle.command.specs.declared.Acknowledged.{Acknowledged}
@@ -45,12 +46,15 @@ pub record StartedBy (h : Host) (r : Started) : Type 0 where
 abbrev pub Start : List Entry → ℕ → Started → Type 0
 Start entries count r = StartedBy (record { entries = entries; count = count }) r
 
+pub record StartingRefusal (answer : Starting) (r : ℕ) : Type 0 where
+  pub number : r ≡ numberIn (toldStarting answer)
+
 -- Host::route: an answer, and the positions that stand beside it
 
 abbrev pub toldRouting : Routing → List ℕ → Told Outcome
 toldRouting Routing.NothingToDo ps = gives Commands.nothingToDo
 toldRouting Routing.Picked ps = gives (picks ps)
-toldRouting Routing.StateBroken ps = refused 2
+toldRouting Routing.BrokenState ps = refused 2
 toldRouting (Routing.BadFrame why) ps = refused (refusalOf why)
 toldRouting Routing.ListMalformed ps = refused 16
 toldRouting Routing.NoAddressHeld ps = refused 18
@@ -68,15 +72,19 @@ pub record RoutedBy (told : Told Outcome) (r : Routed) : Type 0 where
 abbrev pub Route : ℕ → List ℕ → Host → Claim → Routed → Type 0
 Route id bytes h c r = RoutedBy (routedOf id bytes h c) r
 
+-- the number is the same whatever positions stand beside the answer
+pub record RoutingRefusal (answer : Routing) (r : ℕ) : Type 0 where
+  pub number : r ≡ numberIn (toldRouting answer [])
+
 -- Host::request: an answer, the positions and the frame that stand beside it
 
 abbrev pub toldRequesting : Requesting → List ℕ → Frame → Told Reply
 toldRequesting Requesting.NothingToDo ps frame = gives Requests.nothingToDo
-toldRequesting Requesting.ClaimSent ps frame = gives (claims frame)
+toldRequesting Requesting.SendClaim ps frame = gives (claims frame)
 toldRequesting Requesting.Supported ps frame = gives (supported ps)
-toldRequesting Requesting.NakSent ps frame = gives (nak frame)
+toldRequesting Requesting.SendNak ps frame = gives (nak frame)
 toldRequesting Requesting.Unsupported ps frame = gives unsupported
-toldRequesting Requesting.StateBroken ps frame = refused 2
+toldRequesting Requesting.BrokenState ps frame = refused 2
 toldRequesting (Requesting.BadFrame why) ps frame = refused (refusalOf why)
 toldRequesting Requesting.ListMalformed ps frame = refused 16
 toldRequesting Requesting.DgnTooLarge ps frame = refused 17
@@ -108,11 +116,15 @@ pub record RequestedBy (told : Told Reply) (r : Requested) : Type 0 where
 abbrev pub Request : ℕ → List ℕ → Host → Claim → Requested → Type 0
 Request id bytes h c r = RequestedBy (requestedOf id bytes h c) r
 
+-- the number is the same whatever positions and frame stand beside the answer
+pub record RequestingRefusal (answer : Requesting) (r : ℕ) : Type 0 where
+  pub number : r ≡ numberIn (toldRequesting answer [] noFrame)
+
 -- acknowledge: an answer, and the frame that stands beside it
 
 abbrev pub toldAcknowledging : Acknowledging → Frame → Told Frame
-toldAcknowledging Acknowledging.Formed frame = gives frame
-toldAcknowledging Acknowledging.StateBroken frame = refused 2
+toldAcknowledging Acknowledging.Send frame = gives frame
+toldAcknowledging Acknowledging.BrokenState frame = refused 2
 toldAcknowledging Acknowledging.RequesterNotAllowed frame = refused 6
 toldAcknowledging Acknowledging.ListMalformed frame = refused 16
 toldAcknowledging Acknowledging.DgnTooLarge frame = refused 17
@@ -127,5 +139,9 @@ pub record AcknowledgedBy (told : Told Frame) (r : Acknowledged) : Type 0 where
   pub sent-id : r .id ≡ formedIn told .id
   pub sent-bytes : r .bytes ≡ formedIn told .bytes
 
-abbrev pub Acknowledge : Claim → ℕ → ℕ → ℕ → ℕ → Acknowledged → Type 0
-Acknowledge c requester code instance dgn r = AcknowledgedBy (acknowledgedOf c requester code instance dgn) r
+abbrev pub Acknowledge : Claim → Acknowledgment → Acknowledged → Type 0
+Acknowledge c a r = AcknowledgedBy (acknowledgedOf c a) r
+
+-- the number is the same whatever frame stands beside the answer
+pub record AcknowledgingRefusal (answer : Acknowledging) (r : ℕ) : Type 0 where
+  pub number : r ≡ numberIn (toldAcknowledging answer noFrame)

@@ -21,7 +21,7 @@ pub fn stand(claim: Claim) -> Address
         Standing::Held(a) => Address::Held(a),
         Standing::Claiming(a) => Address::Claimed(a),
         Standing::Silent => Address::Nowhere,
-        Standing::StateBroken => Address::Nowhere,
+        Standing::BrokenState => Address::Nowhere,
         Standing::ListMalformed => Address::Nowhere,
     }
 }

@@ -4,7 +4,7 @@ use crate::Routed;
 use crate::Routing;
 use crate::address::Address;
 use crate::picking;
-use crate::picking::Asked;
+use crate::picking::Wanted;
 use frame::Destination;
 ghost use mathlib.Core.Path.{_≡_};
 ghost use Prim.Native.Nat.{_≤_};
@@ -23,7 +23,7 @@ pub fn route(host: Host, address: Address, dgn: u32, instance: u8) -> Routed
     ensures { λ r. ⌜ RoutedBy (routeOf dgn instance (hosted host) (standAt address)) r ⌝ }
 {
     let form = frame::catalogue_form(dgn);
-    let of_dgn = picking::pick(host, Asked::Hosted(form));
+    let of_dgn = picking::pick(host, Wanted::Hosted(form));
     if of_dgn.count == 0 {
         return bare(Routing::NothingToDo);
     }
@@ -45,7 +45,7 @@ fn picked(host: Host, address: u8, dgn: u32, instance: u8) -> Routed
     let form = frame::catalogue_form(dgn);
     Routed {
         answer: Routing::Picked,
-        positions: picking::pick(host, Asked::Command(form, instance)),
+        positions: picking::pick(host, Wanted::Command(form, instance)),
     }
 }
 

@@ -16,7 +16,7 @@ ghost use Rattle.command.specs.Private.{HandedBy};
 
 pub enum Handing {
     Sound(Parts),
-    StateBroken,
+    BrokenState,
     BadFrame(BadFrame),
     ListMalformed,
 }
@@ -31,7 +31,7 @@ pub fn hand_in(host: Host, claim: Claim, id: u32, bytes: &[u8]) -> Handed
     ensures { λ r. ⌜ HandedBy (handedIn id (now (bytes .entry)) host claim) (now (bytes .entry)) r ⌝ }
 {
     if !claim.keeps_rules() {
-        return bare(Handing::StateBroken);
+        return bare(Handing::BrokenState);
     }
     let checked = frame::check(id, bytes);
     let verdict = checked.verdict;

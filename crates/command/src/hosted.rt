@@ -1,16 +1,23 @@
 // The hosted list: whether it is well formed, and the host that keeps it.
+use crate::ENTRIES;
 use crate::Entry;
 use crate::Host;
+use frame::standard;
 ghost use mathlib.Core.Path.{_≡_};
 ghost use Prim.Native.Nat.{_+_, _<_, _≤_};
 ghost use lib.ListN.{drop, getD};
 ghost use Rattle.places.specs.Layout.{any, every};
 ghost use Rattle.command.specs.Hosted.{isHostedDgn, isEntry, isSamePair, noPairRepeats, hosted, isWellFormed, blankEntry, begun, empty};
 
+// An instance is 1 to 250.
+const LOWEST_INSTANCE: u8 = 1;
+
+const GREATEST_INSTANCE: u8 = 250;
+
 pub fn well_formed(host: Host) -> bool
     ensures { λ r. ⌜ r ≡ isWellFormed host ⌝ }
 {
-    if 16 < host.count {
+    if ENTRIES < host.count {
         return false;
     }
     if !are_entries(host) {
@@ -43,16 +50,16 @@ fn is_entry(e: Entry) -> bool
     if !is_hosted_dgn(e.status) {
         return false;
     }
-    if e.instance < 1 {
+    if e.instance < LOWEST_INSTANCE {
         return false;
     }
-    e.instance <= 250
+    e.instance <= GREATEST_INSTANCE
 }
 
 fn is_hosted_dgn(dgn: u32) -> bool
     ensures { λ r. ⌜ r ≡ isHostedDgn dgn ⌝ }
 {
-    if 0x1FFFF < dgn {
+    if standard::GREATEST_DGN < dgn {
         return false;
     }
     frame::catalogue_form(dgn) == dgn
@@ -114,7 +121,7 @@ pub fn empty() -> Host
     ensures { λ r. ⌜ r ≡ empty ⌝ }
 {
     Host {
-        entries: [blank(); 16],
+        entries: [blank(); ENTRIES],
         count: 0,
     }
 }
@@ -124,7 +131,7 @@ pub fn begun(host: Host) -> Host
     requires { ⌜ host .count ≤ 16 ⌝ }
     ensures { λ r. ⌜ r ≡ begun host ⌝ }
 {
-    let mut out = [blank(); 16];
+    let mut out = [blank(); ENTRIES];
     let mut i: usize = 0;
     while i < host.count {
         out[i] = host.entries[i];

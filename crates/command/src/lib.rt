@@ -2,16 +2,20 @@
 use address::Address;
 use claim::Claim;
 use frame::BadFrame;
+use frame::standard;
 use handed::Handing;
-ghost use Rattle.command.specs.Promises.{Start, Route, Request, Acknowledge};
+ghost use Rattle.command.specs.Promises.{Start, Route, Request, Acknowledge, StartingRefusal, RoutingRefusal, RequestingRefusal, AcknowledgingRefusal};
 
-mod acknowledgment;
+mod acknowledgments;
 mod address;
 mod commands;
 mod handed;
 mod hosted;
 mod picking;
 mod requests;
+
+// A hosted list has at most 16 entries.
+pub const ENTRIES: usize = 16;
 
 // A device that a node answers for: the DGN that commands it, the DGN of its status, its instance, and whether a command to instance 0 is for it
 // too (zero-is-all).
@@ -24,7 +28,7 @@ pub struct Entry {
 
 // A host: the hosted list, `count` entries and then entries of zeros.
 pub struct Host {
-    pub entries: [Entry; 16],
+    pub entries: [Entry; ENTRIES],
     pub count: usize,
 }
 
@@ -42,7 +46,7 @@ pub struct Started {
 
 // Positions in the hosted list, rising: `count` of them, then zeros.
 pub struct Positions {
-    pub at: [u8; 16],
+    pub at: [u8; ENTRIES],
     pub count: usize,
 }
 
@@ -52,7 +56,7 @@ pub enum Routing {
     NothingToDo,
     // The command is for the positions beside, which may be none.
     Picked,
-    StateBroken,
+    BrokenState,
     BadFrame(BadFrame),
     ListMalformed,
     NoAddressHeld,
@@ -67,22 +71,22 @@ pub struct Routed {
 pub enum Requesting {
     // No request, or not for us.
     NothingToDo,
-    // Our claim is sent.
-    ClaimSent,
+    // Our claim is to be sent.
+    SendClaim,
     // The positions beside support the DGN, and each answers with its status.
     Supported,
-    // No entry supports the DGN: a NAK is sent.
-    NakSent,
-    // No entry supports the DGN, and nothing is sent: the request is global, or from a node without an address.
+    // No entry supports the DGN: a NAK is to be sent.
+    SendNak,
+    // No entry supports the DGN, and nothing is to be sent: the request is global, or from a node without an address.
     Unsupported,
-    StateBroken,
+    BrokenState,
     BadFrame(BadFrame),
     ListMalformed,
     DgnTooLarge,
     NoAddressHeld,
 }
 
-// The positions, and the frame to send; zeros where nothing is sent.
+// The positions, and the frame to send; no frame where nothing is to be sent.
 pub struct Requested {
     pub answer: Requesting,
     pub positions: Positions,
@@ -90,26 +94,103 @@ pub struct Requested {
     pub bytes: [u8; 8],
 }
 
-// An acknowledgment is formed; or refusal 2, 6, 16, 17, 18.
+// An acknowledgment, in the order of its bytes: its code, the instance (FFh where there is none), the node that sent
+// the command or request, and the DGN of that.
+pub struct Acknowledgment {
+    pub code: u8,
+    pub instance: u8,
+    pub requester: u8,
+    pub dgn: u32,
+}
+
+// The acknowledgment beside is to be sent; or refusal 2, 6, 16, 17, 18.
 pub enum Acknowledging {
-    Formed,
-    StateBroken,
+    Send,
+    BrokenState,
     RequesterNotAllowed,
     ListMalformed,
     DgnTooLarge,
     NoAddressHeld,
 }
 
-// The frame to send; zeros where it is refused.
+// The frame to send; no frame where it is refused.
 pub struct Acknowledged {
     pub answer: Acknowledging,
     pub id: u32,
     pub bytes: [u8; 8],
 }
 
+impl Starting {
+    // The number of the refusal; 0 where the list is hosted.
+    pub fn refusal(self) -> u8
+        ensures { λ r. ⌜ StartingRefusal self r ⌝ }
+    {
+        let answer = self;
+        match answer {
+            Starting::Hosted => 0,
+            Starting::ListMalformed => 16,
+        }
+    }
+}
+
+impl Routing {
+    // The number of the refusal; 0 where the frame is heard.
+    pub fn refusal(self) -> u8
+        ensures { λ r. ⌜ RoutingRefusal self r ⌝ }
+    {
+        let answer = self;
+        match answer {
+            Routing::NothingToDo => 0,
+            Routing::Picked => 0,
+            Routing::BrokenState => 2,
+            Routing::BadFrame(why) => why.refusal(),
+            Routing::ListMalformed => 16,
+            Routing::NoAddressHeld => 18,
+        }
+    }
+}
+
+impl Requesting {
+    // The number of the refusal; 0 where the frame is heard.
+    pub fn refusal(self) -> u8
+        ensures { λ r. ⌜ RequestingRefusal self r ⌝ }
+    {
+        let answer = self;
+        match answer {
+            Requesting::NothingToDo => 0,
+            Requesting::SendClaim => 0,
+            Requesting::Supported => 0,
+            Requesting::SendNak => 0,
+            Requesting::Unsupported => 0,
+            Requesting::BrokenState => 2,
+            Requesting::BadFrame(why) => why.refusal(),
+            Requesting::ListMalformed => 16,
+            Requesting::DgnTooLarge => 17,
+            Requesting::NoAddressHeld => 18,
+        }
+    }
+}
+
+impl Acknowledging {
+    // The number of the refusal; 0 where the acknowledgment is to be sent.
+    pub fn refusal(self) -> u8
+        ensures { λ r. ⌜ AcknowledgingRefusal self r ⌝ }
+    {
+        let answer = self;
+        match answer {
+            Acknowledging::Send => 0,
+            Acknowledging::BrokenState => 2,
+            Acknowledging::RequesterNotAllowed => 6,
+            Acknowledging::ListMalformed => 16,
+            Acknowledging::DgnTooLarge => 17,
+            Acknowledging::NoAddressHeld => 18,
+        }
+    }
+}
+
 impl Host {
     // Hosts the first `count` entries.
-    pub fn start(entries: [Entry; 16], count: usize) -> Started
+    pub fn start(entries: [Entry; ENTRIES], count: usize) -> Started
         ensures { λ r. ⌜ Start entries count r ⌝ }
     {
         let host = Host { entries, count };
@@ -133,7 +214,7 @@ impl Host {
         let answer = handed.answer;
         let eight = handed.bytes;
         match answer {
-            Handing::StateBroken => commands::bare(Routing::StateBroken),
+            Handing::BrokenState => commands::bare(Routing::BrokenState),
             Handing::BadFrame(why) => commands::bare(Routing::BadFrame(why)),
             Handing::ListMalformed => commands::bare(Routing::ListMalformed),
             Handing::Sound(parts) => {
@@ -150,37 +231,37 @@ impl Host {
         let answer = handed.answer;
         let eight = handed.bytes;
         match answer {
-            Handing::StateBroken => requests::bare(Requesting::StateBroken),
+            Handing::BrokenState => requests::bare(Requesting::BrokenState),
             Handing::BadFrame(why) => requests::bare(Requesting::BadFrame(why)),
             Handing::ListMalformed => requests::bare(Requesting::ListMalformed),
-            Handing::Sound(parts) => requests::ask(self, claim, parts, eight),
+            Handing::Sound(parts) => requests::answer(self, claim, parts, eight),
         }
     }
 }
 
-// Forms the acknowledgment of a command or request, to the node that sent it; `instance` is FFh where there is none.
-pub fn acknowledge(claim: Claim, requester: u8, code: u8, instance: u8, dgn: u32) -> Acknowledged
-    ensures { λ r. ⌜ Acknowledge claim requester code instance dgn r ⌝ }
+// Forms the acknowledgment of a command or request, from our address to the node that sent it.
+pub fn acknowledge(claim: Claim, reply: Acknowledgment) -> Acknowledged
+    ensures { λ r. ⌜ Acknowledge claim reply r ⌝ }
 {
     if !claim.keeps_rules() {
-        return acknowledgment::bare(Acknowledging::StateBroken);
+        return acknowledgments::bare(Acknowledging::BrokenState);
     }
-    if 253 < requester {
-        return acknowledgment::bare(Acknowledging::RequesterNotAllowed);
+    if standard::GREATEST_ADDRESS < reply.requester {
+        return acknowledgments::bare(Acknowledging::RequesterNotAllowed);
     }
     if !claim.holds_list() {
-        return acknowledgment::bare(Acknowledging::ListMalformed);
+        return acknowledgments::bare(Acknowledging::ListMalformed);
     }
-    if 0x1FFFF < dgn {
-        return acknowledgment::bare(Acknowledging::DgnTooLarge);
+    if standard::GREATEST_DGN < reply.dgn {
+        return acknowledgments::bare(Acknowledging::DgnTooLarge);
     }
     match address::stand(claim) {
         Address::Held(from) => Acknowledged {
-            answer: Acknowledging::Formed,
-            id: acknowledgment::id_of(from, requester),
-            bytes: acknowledgment::bytes_of(requester, code, instance, dgn),
+            answer: Acknowledging::Send,
+            id: acknowledgments::id_of(from, reply.requester),
+            bytes: acknowledgments::bytes_of(reply),
         },
-        Address::Claimed(_) => acknowledgment::bare(Acknowledging::NoAddressHeld),
-        Address::Nowhere => acknowledgment::bare(Acknowledging::NoAddressHeld),
+        Address::Claimed(_) => acknowledgments::bare(Acknowledging::NoAddressHeld),
+        Address::Nowhere => acknowledgments::bare(Acknowledging::NoAddressHeld),
     }
 }

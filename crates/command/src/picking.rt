@@ -1,7 +1,9 @@
 // The positions of the entries that a frame asks for, in one loop for commands and requests.
+use crate::ENTRIES;
 use crate::Entry;
 use crate::Host;
 use crate::Positions;
+use crate::requests::Asked;
 ghost use mathlib.Core.Path.{_≡_};
 ghost use mathlib.Core.List.{[]};
 ghost use Prim.Native.Nat.{_<_, _≤_};
@@ -9,26 +11,28 @@ ghost use Rattle.frame.specs.Words.{if_then_else_};
 ghost use Rattle.command.specs.Hosted.{hosted};
 ghost use Rattle.command.specs.Positions.{positionsWhere, filled};
 ghost use Rattle.command.specs.Commands.{isMeant};
-ghost use Rattle.command.specs.Private.{isAsked, added};
+ghost use Rattle.command.specs.Requests.{supports};
+ghost use Rattle.command.specs.Private.{askedBy, isWanted, added};
 
-pub enum Asked {
-    // The entries with a command DGN.
+// Which entries are wanted.
+pub enum Wanted {
+    // Those with a command DGN.
     Hosted(u32),
     // Those that a command is for, by its DGN and its byte 0.
     Command(u32, u8),
-    // Those that support a requested DGN.
-    Status(u32),
+    // Those that support a request.
+    Status(Asked),
 }
 
-pub fn pick(host: Host, asked: Asked) -> Positions
+pub fn pick(host: Host, wanted: Wanted) -> Positions
     requires { ⌜ host .count ≤ 16 ⌝ }
-    ensures { λ r. ⌜ r ≡ filled (positionsWhere (isAsked asked) (hosted host)) ⌝ }
+    ensures { λ r. ⌜ r ≡ filled (positionsWhere (isWanted wanted) (hosted host)) ⌝ }
 {
     let mut p = none();
     let mut i: usize = 0;
     while i < host.count {
         let e = host.entries[i];
-        p = passed(p, asked, e, i);
+        p = passed(p, wanted, e, i);
         i += 1;
     }
     p
@@ -38,17 +42,17 @@ pub fn none() -> Positions
     ensures { λ r. ⌜ r ≡ filled [] ⌝ }
 {
     Positions {
-        at: [0u8; 16],
+        at: [0u8; ENTRIES],
         count: 0,
     }
 }
 
 // The positions after the entry at i.
-fn passed(p: Positions, asked: Asked, e: Entry, i: usize) -> Positions
+fn passed(p: Positions, wanted: Wanted, e: Entry, i: usize) -> Positions
     requires { ⌜ (p .count < 16) × (i < 16) ⌝ }
-    ensures { λ r. ⌜ r ≡ (if isAsked asked e then added i p else p) ⌝ }
+    ensures { λ r. ⌜ r ≡ (if isWanted wanted e then added i p else p) ⌝ }
 {
-    if !is_asked(asked, e) {
+    if !is_wanted(wanted, e) {
         return p;
     }
     added(p, i as u8)
@@ -67,13 +71,13 @@ fn added(p: Positions, i: u8) -> Positions
     }
 }
 
-fn is_asked(asked: Asked, e: Entry) -> bool
-    ensures { λ r. ⌜ r ≡ isAsked asked e ⌝ }
+fn is_wanted(wanted: Wanted, e: Entry) -> bool
+    ensures { λ r. ⌜ r ≡ isWanted wanted e ⌝ }
 {
-    match asked {
-        Asked::Hosted(dgn) => e.command == dgn,
-        Asked::Command(dgn, instance) => is_meant(dgn, instance, e),
-        Asked::Status(dgn) => e.status == dgn,
+    match wanted {
+        Wanted::Hosted(dgn) => e.command == dgn,
+        Wanted::Command(dgn, instance) => is_meant(dgn, instance, e),
+        Wanted::Status(asked) => supports(asked, e),
     }
 }
 
@@ -88,4 +92,11 @@ fn is_meant(dgn: u32, instance: u8, e: Entry) -> bool
         return e.zero_is_all;
     }
     e.instance == instance
+}
+
+// Whether an entry supports a request: its status is asked for.
+fn supports(asked: Asked, e: Entry) -> bool
+    ensures { λ r. ⌜ r ≡ supports (askedBy asked) e ⌝ }
+{
+    e.status == asked.dgn
 }

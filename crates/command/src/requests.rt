@@ -1,98 +1,105 @@
 // A request for a DGN: what is replied to it.
+use crate::Acknowledgment;
 use crate::Host;
 use crate::Requested;
 use crate::Requesting;
-use crate::acknowledgment;
+use crate::acknowledgments;
 use crate::address;
 use crate::address::Address;
 use crate::picking;
-use crate::picking::Asked;
+use crate::picking::Wanted;
 use claim::Claim;
 use frame::Parts;
+use frame::standard;
 ghost use mathlib.Core.Path.{_≡_};
 ghost use mathlib.Core.Bool.{true};
-ghost use Prim.Native.Nat.{_<_, _≤_};
+ghost use Prim.Native.Nat.{_≤_};
 ghost use Rattle.frame.specs.Words.{gives};
-ghost use Rattle.frame.specs.Standard.{unused};
 ghost use Rattle.claim.specs.Promises.{isSound};
 ghost use Rattle.command.specs.Hosted.{hosted};
 ghost use Rattle.claim.specs.Claim.{claiming};
-ghost use Rattle.command.specs.Acknowledgment.{claimFrame, acknowledgment};
-ghost use Rattle.command.specs.Requests.{requestedDgn, isOurAddress, isOurs, nakCode, claims, nak, statusOf, replyOf, askedOf};
+ghost use Rattle.command.specs.Acknowledgment.{claimFrame, acknowledgmentFrame};
+ghost use Rattle.command.specs.Requests.{askedOf, isOurAddress, isOurs, nakTo, claims, nak, statusOf, replyOf, answerOf};
 ghost use Rattle.command.specs.Promises.{RequestedBy};
-ghost use Rattle.command.specs.Private.{standAt, bareRequested};
+ghost use Rattle.command.specs.Private.{askedBy, standAt, bareRequested};
+
+// The code of a NAK.
+const NAK: u8 = 1;
+
+// A request as the frame that it came in has it.
+pub struct Asked {
+    pub destination: u8,
+    pub source: u8,
+    pub dgn: u32,
+}
 
 // A sound frame.
-pub fn ask(host: Host, claim: Claim, parts: Parts, bytes: [u8; 8]) -> Requested
+pub fn answer(host: Host, claim: Claim, parts: Parts, bytes: [u8; 8]) -> Requested
     requires { ⌜ (isSound claim ≡ true) × (host .count ≤ 16) ⌝ }
-    ensures { λ r. ⌜ RequestedBy (askedOf parts bytes (hosted host) claim) r ⌝ }
+    ensures { λ r. ⌜ RequestedBy (answerOf parts bytes (hosted host) claim) r ⌝ }
 {
-    if frame::catalogue_form(parts.dgn) != 0xEA00 {
+    if frame::catalogue_form(parts.dgn) != standard::REQUEST {
         return bare(Requesting::NothingToDo);
     }
-    let dgn = dgn_in(bytes);
-    if 0x1FFFF < dgn {
+    let asked = asked_of(parts, bytes);
+    if standard::GREATEST_DGN < asked.dgn {
         return bare(Requesting::DgnTooLarge);
     }
-    reply(host, claim, (parts.dgn % 256) as u8, parts.source, dgn)
+    reply(host, claim, asked)
 }
 
-// Bytes 0 to 2 of a request: the DGN.
-fn dgn_in(bytes: [u8; 8]) -> u32
-    ensures { λ r. ⌜ r ≡ requestedDgn bytes ⌝ }
+// The request in a frame EAxxh, with its DGN in bytes 0 to 2.
+fn asked_of(parts: Parts, bytes: [u8; 8]) -> Asked
+    ensures { λ r. ⌜ askedBy r ≡ askedOf parts bytes ⌝ }
 {
-    let low = wide(bytes[0]);
-    let middle = wide(bytes[1]);
-    let high = wide(bytes[2]);
-    low + 256 * middle + 65536 * high
-}
-
-fn wide(byte: u8) -> u32
-    ensures { λ r. ⌜ (r ≡ byte) × (r < 256) ⌝ }
-{
-    byte as u32
+    let dgn = frame::dgn_of(bytes[0], bytes[1], bytes[2]);
+    Asked {
+        destination: (parts.dgn % 256) as u8,
+        source: parts.source,
+        dgn,
+    }
 }
 
 // A request for a DGN of 17 bits.
-fn reply(host: Host, claim: Claim, to: u8, source: u8, dgn: u32) -> Requested
+fn reply(host: Host, claim: Claim, asked: Asked) -> Requested
     requires { ⌜ (isSound claim ≡ true) × (host .count ≤ 16) ⌝ }
-    ensures { λ r. ⌜ RequestedBy (replyOf to source dgn (hosted host) claim) r ⌝ }
+    ensures { λ r. ⌜ RequestedBy (replyOf (askedBy asked) (hosted host) claim) r ⌝ }
 {
     let address = address::stand(claim);
-    if !is_ours(to, dgn, address) {
+    if !is_ours(asked, address) {
         return bare(Requesting::NothingToDo);
     }
-    if dgn == 0xEE00 {
+    if asked.dgn == standard::ADDRESS_CLAIMED {
         return our_claim(claim);
     }
     match address {
-        Address::Held(from) => status(host, from, to, source, dgn),
+        Address::Held(from) => status(host, from, asked),
         Address::Claimed(_) => bare(Requesting::NoAddressHeld),
         Address::Nowhere => bare(Requesting::NoAddressHeld),
     }
 }
 
-fn is_ours(to: u8, dgn: u32, address: Address) -> bool
-    ensures { λ r. ⌜ r ≡ isOurs to dgn (standAt address) ⌝ }
+fn is_ours(asked: Asked, address: Address) -> bool
+    ensures { λ r. ⌜ r ≡ isOurs (askedBy asked) (standAt address) ⌝ }
 {
-    if to == 0xFF {
+    if asked.destination == standard::EVERYONE {
         return true;
     }
     match address {
-        Address::Held(a) => to == a,
-        Address::Claimed(a) => is_claimed(to, dgn, a),
+        Address::Held(a) => asked.destination == a,
+        Address::Claimed(a) => is_claimed(asked, a),
         Address::Nowhere => false,
     }
 }
 
 // The address that we claim is ours for EE00h only.
-fn is_claimed(to: u8, dgn: u32, address: u8) -> bool
-    ensures { λ r. ⌜ r ≡ isOurAddress to dgn (claiming address) ⌝ }
+fn is_claimed(asked: Asked, address: u8) -> bool
+    ensures { λ r. ⌜ r ≡ isOurAddress (askedBy asked) (claiming address) ⌝ }
 {
-    if dgn != 0xEE00 {
+    if asked.dgn != standard::ADDRESS_CLAIMED {
         return false;
     }
-    to == address
+    asked.destination == address
 }
 
 // The frame of our claim.
@@ -103,7 +110,7 @@ fn our_claim(claim: Claim) -> Requested
     let ours = claim.our_claim();
     let bytes = ours.bytes;
     Requested {
-        answer: Requesting::ClaimSent,
+        answer: Requesting::SendClaim,
         positions: picking::none(),
         id: ours.id,
         bytes,
@@ -111,37 +118,43 @@ fn our_claim(claim: Claim) -> Requested
 }
 
 // A request for any other DGN, heard at the address that we hold.
-fn status(host: Host, address: u8, to: u8, source: u8, dgn: u32) -> Requested
+fn status(host: Host, address: u8, asked: Asked) -> Requested
     requires { ⌜ host .count ≤ 16 ⌝ }
-    ensures { λ r. ⌜ RequestedBy (gives (statusOf to source dgn (hosted host) address)) r ⌝ }
+    ensures { λ r. ⌜ RequestedBy (gives (statusOf (askedBy asked) (hosted host) address)) r ⌝ }
 {
-    let positions = picking::pick(host, Asked::Status(dgn));
+    let positions = picking::pick(host, Wanted::Status(asked));
     if 0 < positions.count {
         return Requested {
             answer: Requesting::Supported,
             positions,
-            id: 0,
+            id: standard::NO_FRAME,
             bytes: [0u8; 8],
         };
     }
-    if to == 0xFF {
+    if asked.destination == standard::EVERYONE {
         return bare(Requesting::Unsupported);
     }
-    if source == 254 {
+    if asked.source == standard::NO_ADDRESS {
         return bare(Requesting::Unsupported);
     }
-    nak(address, source, dgn)
+    nak(address, asked)
 }
 
-// The acknowledgment that no entry supports the DGN: code 1, instance FFh.
-fn nak(address: u8, source: u8, dgn: u32) -> Requested
-    ensures { λ r. ⌜ RequestedBy (gives (nak (acknowledgment address source nakCode unused dgn))) r ⌝ }
+// The acknowledgment that no entry supports the DGN, of no instance.
+fn nak(address: u8, asked: Asked) -> Requested
+    ensures { λ r. ⌜ RequestedBy (gives (nak (acknowledgmentFrame address (nakTo (askedBy asked))))) r ⌝ }
 {
+    let reply = Acknowledgment {
+        code: NAK,
+        instance: standard::UNUSED,
+        requester: asked.source,
+        dgn: asked.dgn,
+    };
     Requested {
-        answer: Requesting::NakSent,
+        answer: Requesting::SendNak,
         positions: picking::none(),
-        id: acknowledgment::id_of(address, source),
-        bytes: acknowledgment::bytes_of(source, 1, 0xFF, dgn),
+        id: acknowledgments::id_of(address, asked.source),
+        bytes: acknowledgments::bytes_of(reply),
     }
 }
 
@@ -152,7 +165,7 @@ pub fn bare(answer: Requesting) -> Requested
     Requested {
         answer,
         positions: picking::none(),
-        id: 0,
+        id: standard::NO_FRAME,
         bytes: [0u8; 8],
     }
 }

@@ -1,14 +1,16 @@
 // A node with two chargers and two slides hears commands and requests, and sends replies; then damaged lists, states and frames. Prints what
 // `command` answers, held to `stdout`.
 use claim::Claim;
+use claim::HELD_AFTER;
 use command::Acknowledging;
+use command::Acknowledgment;
+use command::ENTRIES;
 use command::Entry;
 use command::Host;
 use command::Positions;
 use command::Requesting;
 use command::Routing;
 use command::Starting;
-use frame::BadFrame;
 use libc::STDOUT_FILENO;
 
 const CHARGER_COMMAND: u32 = 0x1FFC5;
@@ -23,10 +25,8 @@ const GENERAL_RESET: u32 = 0x17F00;
 
 const NAME: u64 = 0x8000_1234_5678_9ABC;
 
-// Where the claim stands.
+// A wait that is not over.
 const CLAIMING: u16 = 249;
-
-const HELD: u16 = 250;
 
 fn main() {
     let host = start(node(), 5);
@@ -43,11 +43,11 @@ fn main() {
     say(b"lists refused\n");
     lists();
     say(b"states and frames refused\n");
-    refused(host);
+    states_and_frames(host);
 }
 
 // Two chargers, two slides and a reset that is sent to an address. Zero is all for the chargers, not for the slides.
-fn node() -> [Entry; 16] {
+fn node() -> [Entry; ENTRIES] {
     let z = entry(0, 0, 0, false);
     let c1 = entry(CHARGER_COMMAND, CHARGER_STATUS, 1, true);
     let s1 = entry(SLIDE_COMMAND, SLIDE_STATUS, 1, false);
@@ -58,7 +58,7 @@ fn node() -> [Entry; 16] {
 }
 
 fn commands(host: Host) {
-    let us = state(HELD, false);
+    let us = state(HELD_AFTER, false);
     // a charger, both chargers, one that is not there
     route(host, us, 0x19FFC544, 2);
     route(host, us, 0x19FFC544, 0);
@@ -90,7 +90,7 @@ fn unheld_commands(host: Host) {
 }
 
 fn requests(host: Host) {
-    let us = state(HELD, false);
+    let us = state(HELD_AFTER, false);
     // the chargers' status, to us and to all, also from a node without an address
     request(host, us, 0x18EA9C44, CHARGER_STATUS);
     request(host, us, 0x18EAFF44, CHARGER_STATUS);
@@ -135,19 +135,19 @@ fn unheld_requests(host: Host) {
 }
 
 fn acknowledgments() {
-    let us = state(HELD, false);
-    acknowledge(us, 0x44, 3, 2, SLIDE_COMMAND);
-    acknowledge(us, 0x44, 0, 0xFF, 0x1FFFF);
-    acknowledge(us, 0xFD, 250, 1, 0);
-    acknowledge(us, 0xFE, 3, 2, SLIDE_COMMAND);
-    acknowledge(us, 0xFF, 3, 2, 0x20000);
-    acknowledge(us, 0x44, 3, 2, 0x20000);
-    acknowledge(state(CLAIMING, false), 0x44, 3, 2, SLIDE_COMMAND);
-    acknowledge(state(0, true), 0x44, 3, 2, SLIDE_COMMAND);
-    acknowledge(state(0, true), 0x44, 3, 2, 0x20000);
-    acknowledge(malformed(), 0x44, 3, 2, 0x20000);
-    acknowledge(malformed(), 0xFE, 3, 2, 0x20000);
-    acknowledge(state(251, false), 0xFE, 3, 2, 0x20000);
+    let us = state(HELD_AFTER, false);
+    acknowledge(us, to(0x44, 3, 2, SLIDE_COMMAND));
+    acknowledge(us, to(0x44, 0, 0xFF, 0x1FFFF));
+    acknowledge(us, to(0xFD, 250, 1, 0));
+    acknowledge(us, to(0xFE, 3, 2, SLIDE_COMMAND));
+    acknowledge(us, to(0xFF, 3, 2, 0x20000));
+    acknowledge(us, to(0x44, 3, 2, 0x20000));
+    acknowledge(state(CLAIMING, false), to(0x44, 3, 2, SLIDE_COMMAND));
+    acknowledge(state(0, true), to(0x44, 3, 2, SLIDE_COMMAND));
+    acknowledge(state(0, true), to(0x44, 3, 2, 0x20000));
+    acknowledge(malformed(), to(0x44, 3, 2, 0x20000));
+    acknowledge(malformed(), to(0xFE, 3, 2, 0x20000));
+    acknowledge(state(251, false), to(0xFE, 3, 2, 0x20000));
 }
 
 fn lists() {
@@ -192,8 +192,8 @@ fn lists() {
     start(pair(entry(GENERAL_RESET, 0x17FFF, 1, false), charger), 2);
 }
 
-fn refused(host: Host) {
-    let us = state(HELD, false);
+fn states_and_frames(host: Host) {
+    let us = state(HELD_AFTER, false);
     let bytes = [1u8, 0, 0, 0, 0, 0, 0, 0];
     let twice = Host {
         entries: full(1),
@@ -223,7 +223,7 @@ fn state(wait: u16, silent: bool) -> Claim {
     Claim {
         name: NAME,
         list: [0x9Cu8, 0, 0, 0, 0, 0, 0, 0, 0, 0, 0, 0, 0, 0, 0, 0],
-        count: 1,
+        candidates: 1,
         position: 0,
         wait,
         silent,
@@ -235,9 +235,9 @@ fn malformed() -> Claim {
     Claim {
         name: NAME,
         list: [0x9Cu8, 0x9C, 0, 0, 0, 0, 0, 0, 0, 0, 0, 0, 0, 0, 0, 0],
-        count: 2,
+        candidates: 2,
         position: 0,
-        wait: HELD,
+        wait: HELD_AFTER,
         silent: false,
     }
 }
@@ -251,13 +251,13 @@ fn entry(command: u32, status: u32, instance: u8, zero_is_all: bool) -> Entry {
     }
 }
 
-fn pair(a: Entry, b: Entry) -> [Entry; 16] {
+fn pair(a: Entry, b: Entry) -> [Entry; ENTRIES] {
     let z = entry(0, 0, 0, false);
     [a, b, z, z, z, z, z, z, z, z, z, z, z, z, z, z]
 }
 
 // Slides 1 to 15, and one more.
-fn full(last: u8) -> [Entry; 16] {
+fn full(last: u8) -> [Entry; ENTRIES] {
     [
         slide(1),
         slide(2),
@@ -282,14 +282,14 @@ fn slide(instance: u8) -> Entry {
     entry(SLIDE_COMMAND, SLIDE_STATUS, instance, false)
 }
 
-fn start(entries: [Entry; 16], count: usize) -> Host {
+fn start(entries: [Entry; ENTRIES], count: usize) -> Host {
     say(b"start ");
     io::print_decimal(STDOUT_FILENO, count as u64);
     let started = Host::start(entries, count);
     let answer = started.answer;
     match answer {
         Starting::Hosted => say(b" hosted\n"),
-        Starting::ListMalformed => refusal(16),
+        _ => refused(answer.refusal()),
     }
     started.host
 }
@@ -313,23 +313,18 @@ fn routed(host: Host, claim: Claim, id: u32, bytes: &[u8]) {
     match answer {
         Routing::NothingToDo => say(b" nothing to do\n"),
         Routing::Picked => positions(routed.positions),
-        Routing::StateBroken => refusal(2),
-        Routing::BadFrame(why) => bad_frame(why),
-        Routing::ListMalformed => refusal(16),
-        Routing::NoAddressHeld => refusal(18),
+        _ => refused(answer.refusal()),
     }
 }
 
 // A request with FFh past its DGN.
 fn request(host: Host, claim: Claim, id: u32, dgn: u32) {
-    let low = (dgn % 256) as u8;
-    let middle = (dgn / 256 % 256) as u8;
-    let high = (dgn / 65536 % 256) as u8;
+    let d = frame::dgn_bytes(dgn);
     ask(
         host,
         claim,
         id,
-        [low, middle, high, 0xFF, 0xFF, 0xFF, 0xFF, 0xFF],
+        [d[0], d[1], d[2], 0xFF, 0xFF, 0xFF, 0xFF, 0xFF],
     );
 }
 
@@ -347,15 +342,11 @@ fn requested(host: Host, claim: Claim, id: u32, bytes: &[u8]) {
     let to_send = requested.bytes;
     match answer {
         Requesting::NothingToDo => say(b" nothing to do\n"),
-        Requesting::ClaimSent => sent(b" our claim", requested.id, to_send),
+        Requesting::SendClaim => send(b" send claim", requested.id, to_send),
         Requesting::Supported => positions(requested.positions),
-        Requesting::NakSent => sent(b" NAK", requested.id, to_send),
+        Requesting::SendNak => send(b" send NAK", requested.id, to_send),
         Requesting::Unsupported => say(b" unsupported\n"),
-        Requesting::StateBroken => refusal(2),
-        Requesting::BadFrame(why) => bad_frame(why),
-        Requesting::ListMalformed => refusal(16),
-        Requesting::DgnTooLarge => refusal(17),
-        Requesting::NoAddressHeld => refusal(18),
+        _ => refused(answer.refusal()),
     }
 }
 
@@ -369,30 +360,26 @@ fn hear(host: Host, claim: Claim, id: u32, bytes: &[u8]) {
     requested(host, claim, id, bytes);
 }
 
-fn acknowledge(claim: Claim, requester: u8, code: u8, instance: u8, dgn: u32) {
-    say(b"acknowledge ");
-    io::print_hex(STDOUT_FILENO, requester as u64, 2);
-    say(b" ");
-    io::print_hex(STDOUT_FILENO, dgn as u64, 5);
-    let formed = command::acknowledge(claim, requester, code, instance, dgn);
-    let answer = formed.answer;
-    let bytes = formed.bytes;
-    match answer {
-        Acknowledging::Formed => sent(b" formed", formed.id, bytes),
-        Acknowledging::StateBroken => refusal(2),
-        Acknowledging::RequesterNotAllowed => refusal(6),
-        Acknowledging::ListMalformed => refusal(16),
-        Acknowledging::DgnTooLarge => refusal(17),
-        Acknowledging::NoAddressHeld => refusal(18),
+fn to(requester: u8, code: u8, instance: u8, dgn: u32) -> Acknowledgment {
+    Acknowledgment {
+        code,
+        instance,
+        requester,
+        dgn,
     }
 }
 
-fn bad_frame(why: BadFrame) {
-    match why {
-        BadFrame::IdentifierTooLarge => refusal(3),
-        BadFrame::NotEightBytes => refusal(4),
-        BadFrame::ReservedBitSet => refusal(5),
-        BadFrame::SourceNotAllowed => refusal(6),
+fn acknowledge(claim: Claim, reply: Acknowledgment) {
+    say(b"acknowledge ");
+    io::print_hex(STDOUT_FILENO, reply.requester as u64, 2);
+    say(b" ");
+    io::print_hex(STDOUT_FILENO, reply.dgn as u64, 5);
+    let formed = command::acknowledge(claim, reply);
+    let answer = formed.answer;
+    let bytes = formed.bytes;
+    match answer {
+        Acknowledging::Send => send(b" send", formed.id, bytes),
+        _ => refused(answer.refusal()),
     }
 }
 
@@ -400,7 +387,7 @@ fn positions(p: Positions) {
     say(b" positions=");
     let at = p.at;
     let mut i: usize = 0;
-    while i < 16 {
+    while i < ENTRIES {
         position(at[i], i, p.count);
         i += 1;
     }
@@ -418,7 +405,7 @@ fn position(at: u8, i: usize, count: usize) {
     io::print_decimal(STDOUT_FILENO, at as u64);
 }
 
-fn sent(text: &[u8], id: u32, bytes: [u8; 8]) {
+fn send(text: &[u8], id: u32, bytes: [u8; 8]) {
     say(text);
     say(b" id=");
     io::print_hex(STDOUT_FILENO, id as u64, 8);
@@ -442,7 +429,7 @@ fn byte(b: u8) {
     io::print_hex(STDOUT_FILENO, b as u64, 2);
 }
 
-fn refusal(number: u8) {
+fn refused(number: u8) {
     say(b" refusal=");
     io::print_decimal(STDOUT_FILENO, number as u64);
     say(b"\n");

@@ -50,6 +50,11 @@ use Rattle.claim.proofs.Claim.stands.Met as claim-stands
 use Rattle.claim.proofs.Claim.our_claim.Met as claim-our-claim
 use Rattle.claim.proofs.Claim.keeps_rules.Met as claim-keeps-rules
 use Rattle.claim.proofs.Claim.holds_list.Met as claim-holds-list
+use Rattle.claim.proofs.Starting.refusal.Met as claim-starting-refusal
+use Rattle.claim.proofs.Hearing.refusal.Met as claim-hearing-refusal
+use Rattle.claim.proofs.Pausing.refusal.Met as claim-pausing-refusal
+use Rattle.claim.proofs.Standing.refusal.Met as claim-standing-refusal
+use Rattle.claim.proofs.Sending.refusal.Met as claim-sending-refusal
 use Rattle.nodes.specs.Promises as nodes-promises
 use Rattle.nodes.proofs.Laws as Nodes
 use Rattle.nodes.proofs.empty.Met as nodes-empty
@@ -65,6 +70,10 @@ use Rattle.command.proofs.Host.start.Met as command-start
 use Rattle.command.proofs.Host.route.Met as command-route
 use Rattle.command.proofs.Host.request.Met as command-request
 use Rattle.command.proofs.acknowledge.Met as command-acknowledge
+use Rattle.command.proofs.Starting.refusal.Met as command-starting-refusal
+use Rattle.command.proofs.Routing.refusal.Met as command-routing-refusal
+use Rattle.command.proofs.Requesting.refusal.Met as command-requesting-refusal
+use Rattle.command.proofs.Acknowledging.refusal.Met as command-acknowledging-refusal
 use Rattle.capture.specs.Promises as capture-promises
 use Rattle.capture.proofs.Laws as Capture
 use Rattle.capture.proofs.take_apart.Met as capture-take-apart
@@ -400,6 +409,46 @@ every-call M =
         one-answer = λ κs a r s w v h k. (Claim.holds-list-only (a .0) r s h k, refl);
         only = Claim.holds-list-only;
       };
+      claim-starting-refusal = record {
+        meets = claim-starting-refusal.met;
+        asks-nothing = free;
+        Promise = λ κs a r e. claim-promises.StartingRefusal (a .0) r;
+        promises = λ 𝓤 H A mem run κs a ghost r. refl;
+        one-answer = λ κs a r s w v h k. (Claim.starting-refusal-only (a .0) r s h k, refl);
+        only = Claim.starting-refusal-only;
+      };
+      claim-hearing-refusal = record {
+        meets = claim-hearing-refusal.met;
+        asks-nothing = free;
+        Promise = λ κs a r e. claim-promises.HearingRefusal (a .0) r;
+        promises = λ 𝓤 H A mem run κs a ghost r. refl;
+        one-answer = λ κs a r s w v h k. (Claim.hearing-refusal-only (a .0) r s h k, refl);
+        only = Claim.hearing-refusal-only;
+      };
+      claim-pausing-refusal = record {
+        meets = claim-pausing-refusal.met;
+        asks-nothing = free;
+        Promise = λ κs a r e. claim-promises.PausingRefusal (a .0) r;
+        promises = λ 𝓤 H A mem run κs a ghost r. refl;
+        one-answer = λ κs a r s w v h k. (Claim.pausing-refusal-only (a .0) r s h k, refl);
+        only = Claim.pausing-refusal-only;
+      };
+      claim-standing-refusal = record {
+        meets = claim-standing-refusal.met;
+        asks-nothing = free;
+        Promise = λ κs a r e. claim-promises.StandingRefusal (a .0) r;
+        promises = λ 𝓤 H A mem run κs a ghost r. refl;
+        one-answer = λ κs a r s w v h k. (Claim.standing-refusal-only (a .0) r s h k, refl);
+        only = Claim.standing-refusal-only;
+      };
+      claim-sending-refusal = record {
+        meets = claim-sending-refusal.met;
+        asks-nothing = free;
+        Promise = λ κs a r e. claim-promises.SendingRefusal (a .0) r;
+        promises = λ 𝓤 H A mem run κs a ghost r. refl;
+        one-answer = λ κs a r s w v h k. (Claim.sending-refusal-only (a .0) r s h k, refl);
+        only = Claim.sending-refusal-only;
+      };
       nodes-empty = record {
         meets = nodes-empty.met;
         asks-nothing = free;
@@ -487,12 +536,42 @@ every-call M =
       command-acknowledge = record {
         meets = command-acknowledge.met;
         asks-nothing = free;
-        Promise =
-            λ κs a r e. command-promises.Acknowledge (a .0) (a .1 .0) (a .1 .1 .0) (a .1 .1 .1 .0) (a .1 .1 .1 .1 .0) r;
+        Promise = λ κs a r e. command-promises.Acknowledge (a .0) (a .1 .0) r;
         promises = λ 𝓤 H A mem run κs a ghost r. refl;
-        one-answer = λ κs a r s w v h k.
-            (Command.acknowledge-only (a .0) (a .1 .0) (a .1 .1 .0) (a .1 .1 .1 .0) (a .1 .1 .1 .1 .0) r s h k, refl);
+        one-answer = λ κs a r s w v h k. (Command.acknowledge-only (a .0) (a .1 .0) r s h k, refl);
         only = Command.acknowledge-only;
+      };
+      command-starting-refusal = record {
+        meets = command-starting-refusal.met;
+        asks-nothing = free;
+        Promise = λ κs a r e. command-promises.StartingRefusal (a .0) r;
+        promises = λ 𝓤 H A mem run κs a ghost r. refl;
+        one-answer = λ κs a r s w v h k. (Command.starting-refusal-only (a .0) r s h k, refl);
+        only = Command.starting-refusal-only;
+      };
+      command-routing-refusal = record {
+        meets = command-routing-refusal.met;
+        asks-nothing = free;
+        Promise = λ κs a r e. command-promises.RoutingRefusal (a .0) r;
+        promises = λ 𝓤 H A mem run κs a ghost r. refl;
+        one-answer = λ κs a r s w v h k. (Command.routing-refusal-only (a .0) r s h k, refl);
+        only = Command.routing-refusal-only;
+      };
+      command-requesting-refusal = record {
+        meets = command-requesting-refusal.met;
+        asks-nothing = free;
+        Promise = λ κs a r e. command-promises.RequestingRefusal (a .0) r;
+        promises = λ 𝓤 H A mem run κs a ghost r. refl;
+        one-answer = λ κs a r s w v h k. (Command.requesting-refusal-only (a .0) r s h k, refl);
+        only = Command.requesting-refusal-only;
+      };
+      command-acknowledging-refusal = record {
+        meets = command-acknowledging-refusal.met;
+        asks-nothing = free;
+        Promise = λ κs a r e. command-promises.AcknowledgingRefusal (a .0) r;
+        promises = λ 𝓤 H A mem run κs a ghost r. refl;
+        one-answer = λ κs a r s w v h k. (Command.acknowledging-refusal-only (a .0) r s h k, refl);
+        only = Command.acknowledging-refusal-only;
       };
       capture-take-apart = record {
         meets = capture-take-apart.met;

@@ -59,6 +59,11 @@ use Rattle.claim.proofs.Claim.stands as claim-stands
 use Rattle.claim.proofs.Claim.our_claim as claim-our-claim
 use Rattle.claim.proofs.Claim.keeps_rules as claim-keeps-rules
 use Rattle.claim.proofs.Claim.holds_list as claim-holds-list
+use Rattle.claim.proofs.Starting.refusal as claim-starting-refusal
+use Rattle.claim.proofs.Hearing.refusal as claim-hearing-refusal
+use Rattle.claim.proofs.Pausing.refusal as claim-pausing-refusal
+use Rattle.claim.proofs.Standing.refusal as claim-standing-refusal
+use Rattle.claim.proofs.Sending.refusal as claim-sending-refusal
 use Rattle.nodes.specs.Laws as Nodes
 use Rattle.nodes.proofs.empty as nodes-empty
 use Rattle.nodes.proofs.hear as nodes-hear
@@ -72,6 +77,10 @@ use Rattle.command.proofs.Host.start as command-start
 use Rattle.command.proofs.Host.route as command-route
 use Rattle.command.proofs.Host.request as command-request
 use Rattle.command.proofs.acknowledge as command-acknowledge
+use Rattle.command.proofs.Starting.refusal as command-starting-refusal
+use Rattle.command.proofs.Routing.refusal as command-routing-refusal
+use Rattle.command.proofs.Requesting.refusal as command-requesting-refusal
+use Rattle.command.proofs.Acknowledging.refusal as command-acknowledging-refusal
 use Rattle.capture.specs.Laws as Capture
 use Rattle.capture.proofs.take_apart as capture-take-apart
 use Rattle.capture.proofs.write as capture-write
@@ -209,6 +218,21 @@ module _ (M : Type 1) where
         Answers claim-keeps-rules.ended claim-keeps-rules.Symbol.routine claim-keeps-rules.spec Claim.KeepsRulesOnly
     pub claim-holds-list :
         Answers claim-holds-list.ended claim-holds-list.Symbol.routine claim-holds-list.spec Claim.HoldsListOnly
+    pub claim-starting-refusal :
+        Answers claim-starting-refusal.ended claim-starting-refusal.Symbol.routine claim-starting-refusal.spec
+        Claim.StartingRefusalOnly
+    pub claim-hearing-refusal :
+        Answers claim-hearing-refusal.ended claim-hearing-refusal.Symbol.routine claim-hearing-refusal.spec
+        Claim.HearingRefusalOnly
+    pub claim-pausing-refusal :
+        Answers claim-pausing-refusal.ended claim-pausing-refusal.Symbol.routine claim-pausing-refusal.spec
+        Claim.PausingRefusalOnly
+    pub claim-standing-refusal :
+        Answers claim-standing-refusal.ended claim-standing-refusal.Symbol.routine claim-standing-refusal.spec
+        Claim.StandingRefusalOnly
+    pub claim-sending-refusal :
+        Answers claim-sending-refusal.ended claim-sending-refusal.Symbol.routine claim-sending-refusal.spec
+        Claim.SendingRefusalOnly
     -- Node table
     pub nodes-empty : Answers nodes-empty.ended nodes-empty.Symbol.routine nodes-empty.spec Nodes.EmptyOnly
     pub nodes-hear : Answers nodes-hear.ended nodes-hear.Symbol.routine nodes-hear.spec Nodes.HearOnly
@@ -234,6 +258,18 @@ module _ (M : Type 1) where
     pub command-acknowledge :
         Answers command-acknowledge.ended command-acknowledge.Symbol.routine command-acknowledge.spec
         Command.AcknowledgeOnly
+    pub command-starting-refusal :
+        Answers command-starting-refusal.ended command-starting-refusal.Symbol.routine command-starting-refusal.spec
+        Command.StartingRefusalOnly
+    pub command-routing-refusal :
+        Answers command-routing-refusal.ended command-routing-refusal.Symbol.routine command-routing-refusal.spec
+        Command.RoutingRefusalOnly
+    pub command-requesting-refusal :
+        Answers command-requesting-refusal.ended command-requesting-refusal.Symbol.routine
+        command-requesting-refusal.spec Command.RequestingRefusalOnly
+    pub command-acknowledging-refusal :
+        Answers command-acknowledging-refusal.ended command-acknowledging-refusal.Symbol.routine
+        command-acknowledging-refusal.spec Command.AcknowledgingRefusalOnly
     -- The capture reader
     pub capture-take-apart :
         Answers capture-take-apart.ended capture-take-apart.Symbol.routine capture-take-apart.spec

@@ -23,6 +23,7 @@ use Rattle.catalogue.specs.declared.Value.{Value}
 use Rattle.claim.specs.declared.Claim.{Claim}
 use Rattle.nodes.specs.declared.Node.{Node}
 use Rattle.command.specs.declared.Host.{Host}
+use Rattle.command.specs.declared.Acknowledgment.{Acknowledgment}
 
 pub record FrameLaws : Type 0 where
   pub told-apart-same : Frame.ToldApartSame
@@ -220,6 +221,11 @@ pub record ClaimLaws : Type 0 where
   pub our-claim-only : Claims.OurClaimOnly
   pub keeps-rules-only : Claims.KeepsRulesOnly
   pub holds-list-only : Claims.HoldsListOnly
+  pub starting-refusal-only : Claims.StartingRefusalOnly
+  pub hearing-refusal-only : Claims.HearingRefusalOnly
+  pub pausing-refusal-only : Claims.PausingRefusalOnly
+  pub standing-refusal-only : Claims.StandingRefusalOnly
+  pub sending-refusal-only : Claims.SendingRefusalOnly
   pub start-refused-keeps : Claims.StartRefusedKeeps
   pub hear-refused-keeps : Claims.HearRefusedKeeps
   pub pause-refused-keeps : Claims.PauseRefusedKeeps
@@ -286,6 +292,13 @@ pub record CommandLaws : Type 0 where
   pub route-only : Command.RouteOnly
   pub request-only : Command.RequestOnly
   pub acknowledge-only : Command.AcknowledgeOnly
+  pub starting-refusal-only : Command.StartingRefusalOnly
+  pub routing-refusal-only : Command.RoutingRefusalOnly
+  pub requesting-refusal-only : Command.RequestingRefusalOnly
+  pub acknowledging-refusal-only : Command.AcknowledgingRefusalOnly
+  pub routing-refusal-any : Command.RoutingRefusalAny
+  pub requesting-refusal-any : Command.RequestingRefusalAny
+  pub acknowledging-refusal-any : Command.AcknowledgingRefusalAny
   pub start-refused-keeps : Command.StartRefusedKeeps
   pub route-refused-keeps : Command.RouteRefusedKeeps
   pub request-refused-keeps : Command.RequestRefusedKeeps
@@ -316,8 +329,7 @@ pub record CommandLaws : Type 0 where
   pub acknowledge-sends-ours : Command.AcknowledgeSendsOurs
   pub example-eleven : Command.ExampleEleven
   pub lowest-wins : (id : ℕ) (bytes : List ℕ) (h : Host) (c : Claim) → Command.LowestWins id bytes h c
-  pub acknowledge-lowest-wins :
-      (c : Claim) (requester code instance dgn : ℕ) → Command.AcknowledgeLowestWins c requester code instance dgn
+  pub acknowledge-lowest-wins : (c : Claim) (a : Acknowledgment) → Command.AcknowledgeLowestWins c a
 
 pub record CaptureLaws : Type 0 where
   pub told-reading-same : Capture.ToldReadingSame

@@ -30,7 +30,7 @@ use Rattle.claim.specs.Claim.{keepsRules as keepsClaimRules, holdsList, held, s
 use Rattle.claim.specs.Promises.{isSound}
 use Rattle.command.specs.Acknowledgment.{acknowledgedOf}
 use Rattle.command.proofs.ReplyLaws.{example-eleven}
-use Rattle.examples.specs.Examples.{sent, holding9C, storageOfZeros, toldFrom, toldOf, answers, eightSenders, nineBytes, announcement54, first54, second54, _▸_, end, AllAsPrinted}
+use Rattle.examples.specs.Examples.{sent, holding9C, slideReply, storageOfZeros, toldFrom, toldOf, answers, eightSenders, nineBytes, announcement54, first54, second54, _▸_, end, AllAsPrinted}
 use Rattle.examples.specs.Examples as Examples
 
 -- the runs of examples (6) and (7), computed on the places, which need no storage
@@ -82,7 +82,8 @@ holds : standOf holding9C ≡ held 0x9C
 unfolding standOf
 holds = refl
 
-eleven : sent (acknowledgedOf holding9C 0x44 3 2 0x1FFE7) ≡ 0 ∷ 0x18E8449C ∷ 0x03 ∷ 0x02 ∷ 0xFF ∷ 0xFF ∷ 0x44 ∷ 0xE7 ∷ 0xFF ∷ 0x01 ∷ []
+eleven : sent (acknowledgedOf holding9C slideReply)
+    ≡ 0 ∷ 0x18E8449C ∷ 0x03 ∷ 0x02 ∷ 0xFF ∷ 0xFF ∷ 0x44 ∷ 0xE7 ∷ 0xFF ∷ 0x01 ∷ []
 eleven = ap sent (example-eleven holding9C sound holds)
 
 pub all-as-printed : AllAsPrinted

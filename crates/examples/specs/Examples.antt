@@ -23,8 +23,8 @@ use Rattle.catalogue.specs.Classes.{classAt, belowGreatest}
 use Rattle.catalogue.specs.Scale.{scaledOf}
 use Rattle.catalogue.specs.declared.Unit.the-variants.{Celsius, Ampere}
 use Rattle.claim.specs.declared.Claim.{Claim}
-use Rattle.command.specs.Acknowledgment as Acknowledgment
 use Rattle.command.specs.Acknowledgment.{acknowledgedOf}
+use Rattle.command.specs.declared.Acknowledgment.{Acknowledgment}
 
 pub record Line : Type 0 where
   pub example : ℕ
@@ -69,7 +69,7 @@ signed (pos n) = 0 ∷ n ∷ []
 signed (negsuc n) = 1 ∷ (n + 1) ∷ []
 
 -- a frame to send: its identifier and its bytes
-abbrev pub sent : Told Acknowledgment.Frame → List ℕ
+abbrev pub sent : Told Frame → List ℕ
 sent (refused n) = n ∷ []
 sent (gives f) = 0 ∷ f .id ∷ f .bytes
 
@@ -124,7 +124,11 @@ eightSenders =
 
 -- a node that holds 9Ch
 abbrev pub holding9C : Claim
-holding9C = record { name = 1; list = 0x9C ∷ replicate 15 0; count = 1; position = 0; wait = 250; silent = false }
+holding9C = record { name = 1; list = 0x9C ∷ replicate 15 0; candidates = 1; position = 0; wait = 250; silent = false }
+
+-- code 3 to 44h for SLIDE_COMMAND instance 2
+abbrev pub slideReply : Acknowledgment
+slideReply = record { code = 3; instance = 2; requester = 0x44; dgn = 0x1FFE7 }
 
 -- The lines, each by a name.
 
@@ -204,7 +208,7 @@ lowestCelsius = line 10 (signed (scaledOf Celsius 8 0)) (1 ∷ 1280 ∷ [])
 -- (11) holding 9Ch, code 3 to 44h for SLIDE_COMMAND instance 2
 abbrev pub slideAcknowledged : Line
 slideAcknowledged =
-    line 11 (sent (acknowledgedOf holding9C 0x44 3 2 0x1FFE7))
+    line 11 (sent (acknowledgedOf holding9C slideReply))
     (0 ∷ 0x18E8449C ∷ 0x03 ∷ 0x02 ∷ 0xFF ∷ 0xFF ∷ 0x44 ∷ 0xE7 ∷ 0xFF ∷ 0x01 ∷ [])
 
 -- The one table. The crate `ledger` names its lines once more, so that one that is dropped here is missed there.

@@ -22,7 +22,7 @@ pub fn start() -> Panel {
     let bytes = started.bytes;
     let claim = started.claim;
     match answer {
-        claim::Starting::Sent => {
+        claim::Starting::SendClaim => {
             show::send(started.id, bytes);
             show::show_standing(claim);
         }
@@ -52,7 +52,7 @@ fn pause_claim(claim: Claim, gap: u16) -> Claim {
                 show::show_standing(after);
             }
         }
-        claim::Pausing::StateBroken => show::refused(2),
+        claim::Pausing::BrokenState => show::refused(2),
         claim::Pausing::ListMalformed => show::refused(16),
     }
     after
@@ -64,7 +64,7 @@ fn is_held(claim: Claim) -> bool {
         Standing::Held(_) => true,
         Standing::Claiming(_) => false,
         Standing::Silent => false,
-        Standing::StateBroken => {
+        Standing::BrokenState => {
             show::refused(2);
             false
         }
@@ -95,16 +95,16 @@ pub fn contest(claim: Claim, id: u32, bytes: [u8; 8]) -> Claim {
     match answer {
         Hearing::NothingToDo => {}
         Hearing::OwnName => show::say(b"own name heard\n"),
-        Hearing::Repeated => show::send(heard.id, to_send),
-        Hearing::Moved => {
+        Hearing::SendClaimAgain => show::send(heard.id, to_send),
+        Hearing::SendNextClaim => {
             show::send(heard.id, to_send);
             show::show_standing(after);
         }
-        Hearing::FellSilent => {
+        Hearing::SendCannotClaim => {
             show::send(heard.id, to_send);
             show::show_standing(after);
         }
-        Hearing::StateBroken => show::refused(2),
+        Hearing::BrokenState => show::refused(2),
         Hearing::BadFrame(why) => show::bad_frame(why),
         Hearing::ListMalformed => show::refused(16),
     }

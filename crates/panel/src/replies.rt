@@ -8,6 +8,7 @@ use catalogue::dgns::TANK_STATUS;
 use claim::Claim;
 use claim::Standing;
 use command::Acknowledging;
+use command::Acknowledgment;
 use command::Entry;
 use command::Host;
 use command::Positions;
@@ -54,11 +55,11 @@ pub fn answer_request(host: Host, claim: Claim, id: u32, bytes: [u8; 8]) {
     let to_send = requested.bytes;
     match answer {
         Requesting::NothingToDo => {}
-        Requesting::ClaimSent => show::send(requested.id, to_send),
+        Requesting::SendClaim => show::send(requested.id, to_send),
         Requesting::Supported => send_statuses(claim, requested.positions),
-        Requesting::NakSent => show::send(requested.id, to_send),
+        Requesting::SendNak => show::send(requested.id, to_send),
         Requesting::Unsupported => {}
-        Requesting::StateBroken => show::refused(2),
+        Requesting::BrokenState => show::refused(2),
         Requesting::BadFrame(why) => show::bad_frame(why),
         Requesting::ListMalformed => show::refused(16),
         Requesting::DgnTooLarge => show::refused(17),
@@ -79,7 +80,7 @@ pub fn answer_command(host: Host, claim: Claim, source: u8, id: u32, bytes: [u8;
                 send_nak(claim, source, bytes[0]);
             }
         }
-        Routing::StateBroken => show::refused(2),
+        Routing::BrokenState => show::refused(2),
         Routing::BadFrame(why) => show::bad_frame(why),
         Routing::ListMalformed => show::refused(16),
         Routing::NoAddressHeld => show::refused(18),
@@ -88,12 +89,18 @@ pub fn answer_command(host: Host, claim: Claim, source: u8, id: u32, bytes: [u8;
 
 // Code 1 of Table 7.5: the command will not be executed.
 fn send_nak(claim: Claim, requester: u8, instance: u8) {
-    let formed = command::acknowledge(claim, requester, 1, instance, TANK_CALIBRATION_COMMAND);
+    let reply = Acknowledgment {
+        code: 1,
+        instance,
+        requester,
+        dgn: TANK_CALIBRATION_COMMAND,
+    };
+    let formed = command::acknowledge(claim, reply);
     let answer = formed.answer;
     let bytes = formed.bytes;
     match answer {
-        Acknowledging::Formed => show::send(formed.id, bytes),
-        Acknowledging::StateBroken => show::refused(2),
+        Acknowledging::Send => show::send(formed.id, bytes),
+        Acknowledging::BrokenState => show::refused(2),
         Acknowledging::RequesterNotAllowed => show::refused(6),
         Acknowledging::ListMalformed => show::refused(16),
         Acknowledging::DgnTooLarge => show::refused(17),
@@ -108,7 +115,7 @@ fn send_statuses(claim: Claim, positions: Positions) {
         Standing::Held(address) => send_each(address, positions),
         Standing::Claiming(_) => show::refused(18),
         Standing::Silent => show::refused(18),
-        Standing::StateBroken => show::refused(2),
+        Standing::BrokenState => show::refused(2),
         Standing::ListMalformed => show::refused(16),
     }
 }

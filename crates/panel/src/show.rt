@@ -30,7 +30,7 @@ pub fn show_standing(claim: Claim) {
         Standing::Held(address) => show_address(address, b" held\n"),
         Standing::Claiming(address) => show_address(address, b" claimed\n"),
         Standing::Silent => say(b"no address\n"),
-        Standing::StateBroken => refused(2),
+        Standing::BrokenState => refused(2),
         Standing::ListMalformed => refused(16),
     }
 }

@@ -1,6 +1,8 @@
 // "Claiming an address": `Claim::start`, `hear`, `pause`, `stands`, `our_claim`, `keeps_rules` and `holds_list`.
+pub use claim::CANDIDATES;
 pub use claim::Claim;
 pub use claim::ClaimFrame;
+pub use claim::HELD_AFTER;
 pub use claim::Heard;
 pub use claim::Hearing;
 pub use claim::Paused;

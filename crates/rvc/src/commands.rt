@@ -1,6 +1,8 @@
 // "Commands, requests, replies": `Host::start`, `route` and `request`, and the acknowledgment.
 pub use command::Acknowledged;
 pub use command::Acknowledging;
+pub use command::Acknowledgment;
+pub use command::ENTRIES;
 pub use command::Entry;
 pub use command::Host;
 pub use command::Positions;

@@ -15,6 +15,9 @@ cast-sum c = search needs
 add-sum : tie.Need-add-sum
 add-sum c = search needs
 
+cast-if2 : tie.Need-cast-if2
+cast-if2 c = search needs
+
 placed-requires : tie.Need-placed-requires
 placed-requires c κs = search needs
 
@@ -37,6 +40,7 @@ waited-spec =
     returns
     cast-sum
     add-sum
+    cast-if2
     placed-requires
     returns-2
     cast-placed

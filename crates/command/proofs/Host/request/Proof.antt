@@ -34,8 +34,8 @@ bare-requires-3 c κs = search needs
 enum-known-answer-2 : tie.Need-enum-known-answer-2
 enum-known-answer-2 c = search needs
 
-ask-requires : tie.Need-ask-requires
-ask-requires c κs =
+answer-requires : tie.Need-answer-requires
+answer-requires c κs =
     let i = c .before .before .before .before in
     let a = i .before .before .args in
     let parts = c .before .answer2 .given .0 .0 in
@@ -47,8 +47,8 @@ returns : tie.Need-returns
 returns c =
     let i = c .before .before .before .before in
     let a = i .before .before .args in
-    let n = handing-refused (a .id) (a .bytes .now) (a .self) (a .claim) _ (i .hand-in .ensures) Handing.StateBroken 2 (c .before .enum-told .given .1) refl in
-    rw (requested-refused (a .id) (a .bytes .now) (a .self) (a .claim) 2 n) (bare-requested (refused 2) Requesting.StateBroken _ refl refl refl (c .bare .ensures))
+    let n = handing-refused (a .id) (a .bytes .now) (a .self) (a .claim) _ (i .hand-in .ensures) Handing.BrokenState 2 (c .before .enum-told .given .1) refl in
+    rw (requested-refused (a .id) (a .bytes .now) (a .self) (a .claim) 2 n) (bare-requested (refused 2) Requesting.BrokenState _ refl refl refl (c .bare .ensures))
 
 returns-2 : tie.Need-returns-2
 returns-2 c =
@@ -71,7 +71,7 @@ returns-4 c =
     let a = i .before .before .args in
     let parts = c .before .before .answer2 .given .0 .0 in
     let g = handing-given (a .id) (a .bytes .now) (a .self) (a .claim) _ (i .hand-in .ensures) (Handing.Sound parts) parts (c .before .before .answer2 .given .1) refl in
-    rw (requested-given (a .id) (a .bytes .now) (a .self) (a .claim) parts _ (g .0) (g .1)) (c .ask .ensures)
+    rw (requested-given (a .id) (a .bytes .now) (a .self) (a .claim) parts _ (g .0) (g .1)) (c .answer3 .ensures)
 
 pub request-spec : {M : Type 1} → statement M
 request-spec =
@@ -85,7 +85,7 @@ request-spec =
     enum-told-2
     bare-requires-3
     enum-known-answer-2
-    ask-requires
+    answer-requires
     returns
     returns-2
     returns-3

@@ -57,8 +57,8 @@ returns : tie.Need-returns
 returns c =
     let i = c .before .before .before .before in
     let a = i .before .before .args in
-    let n = handing-refused (a .id) (a .bytes .now) (a .self) (a .claim) _ (i .hand-in .ensures) Handing.StateBroken 2 (c .before .enum-told .given .1) refl in
-    rw (routed-refused (a .id) (a .bytes .now) (a .self) (a .claim) 2 n) (bare-routed (refused 2) Routing.StateBroken _ refl refl (c .bare .ensures))
+    let n = handing-refused (a .id) (a .bytes .now) (a .self) (a .claim) _ (i .hand-in .ensures) Handing.BrokenState 2 (c .before .enum-told .given .1) refl in
+    rw (routed-refused (a .id) (a .bytes .now) (a .self) (a .claim) 2 n) (bare-routed (refused 2) Routing.BrokenState _ refl refl (c .bare .ensures))
 
 returns-2 : tie.Need-returns-2
 returns-2 c =

@@ -2,7 +2,7 @@
 use mathlib.Core.Path.{refl, sym, _∙_}
 use borrow.Author.Tests.{not-true, not-false}
 use borrow.Author.Needs.{needs}
-use Rattle.command.specs.declared.handed.Handing.the-variants.{StateBroken, BadFrame}
+use Rattle.command.specs.declared.handed.Handing.the-variants.{BrokenState, BadFrame}
 use Rattle.command.proofs.Handing.{bare-handed, handed-broken, handed-bad, handed-sound}
 use Rattle.command.proofs.handed.hand_in.Statement.{statement}
 use Rattle.command.proofs.handed.hand_in.Tie as tie
@@ -16,7 +16,7 @@ bare-requires c κs = search needs
 returns : tie.Need-returns
 returns c =
     let k = sym (c .before .before .keeps-rules .ensures .answer) ∙ not-true _ (c .before .if1 .taken) in
-    rw (handed-broken _ _ _ _ k) (bare-handed 2 _ StateBroken _ refl (c .bare .ensures))
+    rw (handed-broken _ _ _ _ k) (bare-handed 2 _ BrokenState _ refl (c .bare .ensures))
 
 check-requires : tie.Need-check-requires
 check-requires c κs = search needs

@@ -9,7 +9,7 @@ use Rattle.command.specs.declared.Positions.{Positions}
 use Rattle.command.specs.declared.Entry.{Entry}
 use Rattle.frame.specs.Words.{if_then_else_}
 use Rattle.places.proofs.Search.{length-field}
-use Rattle.command.specs.Private.{isAsked, added}
+use Rattle.command.specs.Private.{isWanted, added}
 use Rattle.command.specs.Positions.{positionsWhere, filled}
 use Rattle.command.specs.Hosted.{hosted, blankEntry}
 use Rattle.command.proofs.Picks.{pick-few, pick-turn}
@@ -17,10 +17,10 @@ use Rattle.command.proofs.picking.pick.Statement.{statement}
 use Rattle.command.proofs.picking.pick.Tie as tie
 
 abbrev Inv-loop : tie.InvT-loop
-Inv-loop asked host p₀ i₀ p i = (i ≤ host .count) × (host .count ≤ 16) × (length (host .entries) ≡ 16) × (p ≡ filled (positionsWhere (isAsked asked) (take i (hosted host))))
+Inv-loop wanted host p₀ i₀ p i = (i ≤ host .count) × (host .count ≤ 16) × (length (host .entries) ≡ 16) × (p ≡ filled (positionsWhere (isWanted wanted) (take i (hosted host))))
 
 abbrev μ-loop : tie.MeasureT-loop
-μ-loop asked host p₀ i₀ p i = host .count - i
+μ-loop wanted host p₀ i₀ p i = host .count - i
 
 none-requires : tie.Need-none-requires Inv-loop μ-loop
 none-requires c κs = search needs
@@ -41,7 +41,7 @@ passed-requires c κs =
     let l = c .before .before .loop in
     let a = c .before .before .before .before .args in
     let n = length-take-le (a .t1 .count) (a .t1 .entries) (omega arith) in
-    let k = pick-few (isAsked (a .asked)) (hosted (a .t1)) (l .i) (omega arith) (omega arith) in
+    let k = pick-few (isWanted (a .wanted)) (hosted (a .t1)) (l .i) (omega arith) (omega arith) in
     let e = ap (λ (p : Positions). p .count) (l .inv .3) in
     (omega arith, omega arith)
 
@@ -59,8 +59,8 @@ loop-again c =
     let i : l .i < h .count = omega arith in
     let n = length-take-le (h .count) (h .entries) (omega arith) in
     let g = getD-take (h .count) (h .entries) (l .i) blankEntry i in
-    let q : c .passed .result ≡ (if isAsked (a .asked) (getD (hosted h) (l .i) blankEntry) then added (l .i) (l .p) else l .p) = rw g (c .passed .ensures) in
-    (search needs, l .inv .1, l .inv .2, pick-turn (isAsked (a .asked)) (hosted h) (l .i) (l .p) (c .passed .result) (omega arith) (omega arith) (l .inv .3) q)
+    let q : c .passed .result ≡ (if isWanted (a .wanted) (getD (hosted h) (l .i) blankEntry) then added (l .i) (l .p) else l .p) = rw g (c .passed .ensures) in
+    (search needs, l .inv .1, l .inv .2, pick-turn (isWanted (a .wanted)) (hosted h) (l .i) (l .p) (c .passed .result) (omega arith) (omega arith) (l .inv .3) q)
 
 returns : tie.Need-returns Inv-loop μ-loop
 returns c =

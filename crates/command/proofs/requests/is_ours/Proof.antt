@@ -24,7 +24,7 @@ enum-told c = search needs
 
 returns-2 : tie.Need-returns-2
 unfolding isOurs isOurAddress
-returns-2 c = search (tests, c .before .address .given .1)
+returns-2 c = search (tests, c .before .before .address .given .1)
 
 returns-3 : tie.Need-returns-3
 unfolding isOurs

@@ -1,8 +1,8 @@
 -- `command::requests::nak` meets its contract. Assumes nothing.
 use borrow.Author.Needs.{needs}
-use Rattle.frame.specs.Standard.{unused}
-use Rattle.command.specs.Acknowledgment.{acknowledgment}
-use Rattle.command.specs.Requests.{nakCode}
+use Rattle.command.specs.Acknowledgment.{acknowledgmentFrame}
+use Rattle.command.specs.Requests.{nakTo}
+use Rattle.command.specs.Private.{askedBy}
 use Rattle.command.proofs.Answers.{nak-requested}
 use Rattle.command.proofs.requests.nak.Statement.{statement}
 use Rattle.command.proofs.requests.nak.Tie as tie
@@ -19,7 +19,7 @@ bytes-of-requires c κs = search needs
 returns : tie.Need-returns
 returns c =
     let a = c .before .before .before .args in
-    nak-requested _ (acknowledgment (a .address) (a .source) nakCode unused (a .dgn)) _ _ (c .before .before .none .ensures) (c .before .id-of .ensures) (c .bytes-of .ensures)
+    nak-requested _ (acknowledgmentFrame (a .address) (nakTo (askedBy (a .asked)))) _ _ (c .before .before .none .ensures) (c .before .id-of .ensures) (c .bytes-of .ensures)
 
 pub nak-spec : {M : Type 1} → statement M
 nak-spec = tie.close (tie.spec none-requires id-of-requires bytes-of-requires returns)

@@ -4,7 +4,7 @@ use borrow.Author.Tests.{not-true, not-false}
 use borrow.Author.Needs.{needs}
 use Rattle.command.specs.declared.Requesting.the-variants.{NothingToDo, NoAddressHeld}
 use Rattle.command.specs.declared.address.Address.{Address}
-use Rattle.command.specs.Private.{standAt}
+use Rattle.command.specs.Private.{askedBy, standAt}
 use Rattle.command.specs.Requests.{nothingToDo}
 use Rattle.command.specs.Handed.{addressHeld}
 use Rattle.frame.specs.Words.{refused, gives}
@@ -25,16 +25,16 @@ returns : tie.Need-returns
 returns c =
     let o = c .before .before in
     let a = o .before .before .args in
-    rw (reply-elsewhere (a .to) (a .source) (a .dgn) _ (a .claim) _ (o .before .stand .ensures) (sym (o .is-ours .ensures) ∙ not-true _ (c .before .if1 .taken))) (bare-requested (gives nothingToDo) NothingToDo _ refl refl refl (c .bare .ensures))
+    rw (reply-elsewhere (askedBy (a .asked)) _ (a .claim) _ (o .before .stand .ensures) (sym (o .is-ours .ensures) ∙ not-true _ (c .before .if1 .taken))) (bare-requested (gives nothingToDo) NothingToDo _ refl refl refl (c .bare .ensures))
 
 our-claim-requires : tie.Need-our-claim-requires
 our-claim-requires c κs = search needs
 
 returns-2 : tie.Need-returns-2
 returns-2 c =
-    let o = c .before .before .before in
+    let o = c .before .before .before .before in
     let a = o .before .before .args in
-    rw (reply-claims (a .to) (a .source) (a .dgn) _ (a .claim) _ (o .before .stand .ensures) (sym (o .is-ours .ensures) ∙ not-false _ (c .before .before .if1 .left)) (c .before .if2 .taken)) (c .our-claim .ensures)
+    rw (reply-claims (askedBy (a .asked)) _ (a .claim) _ (o .before .stand .ensures) (sym (o .is-ours .ensures) ∙ not-false _ (c .before .before .before .if1 .left)) (c .before .if2 .taken)) (c .our-claim .ensures)
 
 enum-known-address : tie.Need-enum-known-address
 enum-known-address c = search needs
@@ -58,25 +58,25 @@ returns-3 : tie.Need-returns-3
 unfolding addressHeld
 returns-3 c =
     let d = c .before .before .before .before in
-    let o = d .before .before in
+    let o = d .before .before .before in
     let a = o .before .before .args in
-    rw (reply-held (a .to) (a .source) (a .dgn) _ (a .claim) _ (o .before .stand .ensures) _ (sym (o .is-ours .ensures) ∙ not-false _ (d .before .if1 .left)) (d .if2 .left) (ap (λ (x : Address). addressHeld (standAt x)) (c .before .before .address .given .1))) (c .status .ensures)
+    rw (reply-held (askedBy (a .asked)) _ (a .claim) _ (o .before .stand .ensures) _ (sym (o .is-ours .ensures) ∙ not-false _ (d .before .before .if1 .left)) (d .if2 .left) (ap (λ (x : Address). addressHeld (standAt x)) (c .before .before .address .given .1))) (c .status .ensures)
 
 returns-4 : tie.Need-returns-4
 unfolding addressHeld
 returns-4 c =
     let d = c .before .before .before in
-    let o = d .before .before in
+    let o = d .before .before .before in
     let a = o .before .before .args in
-    rw (reply-unheld (a .to) (a .source) (a .dgn) _ (a .claim) _ (o .before .stand .ensures) (sym (o .is-ours .ensures) ∙ not-false _ (d .before .if1 .left)) (d .if2 .left) (ap (λ (x : Address). addressHeld (standAt x)) (c .before .enum-told .given .1))) (bare-requested (refused 18) NoAddressHeld _ refl refl refl (c .bare2 .ensures))
+    rw (reply-unheld (askedBy (a .asked)) _ (a .claim) _ (o .before .stand .ensures) (sym (o .is-ours .ensures) ∙ not-false _ (d .before .before .if1 .left)) (d .if2 .left) (ap (λ (x : Address). addressHeld (standAt x)) (c .before .enum-told .given .1))) (bare-requested (refused 18) NoAddressHeld _ refl refl refl (c .bare2 .ensures))
 
 returns-5 : tie.Need-returns-5
 unfolding addressHeld
 returns-5 c =
     let d = c .before .before .before in
-    let o = d .before .before in
+    let o = d .before .before .before in
     let a = o .before .before .args in
-    rw (reply-unheld (a .to) (a .source) (a .dgn) _ (a .claim) _ (o .before .stand .ensures) (sym (o .is-ours .ensures) ∙ not-false _ (d .before .if1 .left)) (d .if2 .left) (ap (λ (x : Address). addressHeld (standAt x)) (c .before .enum-told2 .given .1))) (bare-requested (refused 18) NoAddressHeld _ refl refl refl (c .bare3 .ensures))
+    rw (reply-unheld (askedBy (a .asked)) _ (a .claim) _ (o .before .stand .ensures) (sym (o .is-ours .ensures) ∙ not-false _ (d .before .before .if1 .left)) (d .if2 .left) (ap (λ (x : Address). addressHeld (standAt x)) (c .before .enum-told2 .given .1))) (bare-requested (refused 18) NoAddressHeld _ refl refl refl (c .bare3 .ensures))
 
 pub reply-spec : {M : Type 1} → statement M
 reply-spec =

@@ -5,6 +5,7 @@ use borrow.Author.Needs.{needs}
 use Rattle.command.specs.Hosted.{hosted}
 use Rattle.command.specs.declared.Requesting.the-variants.{Unsupported}
 use Rattle.command.specs.Requests.{supports, unsupported}
+use Rattle.command.specs.Private.{askedBy}
 use Rattle.frame.specs.Words.{gives}
 use Rattle.command.proofs.Answers.{bare-requested, supported-requested, status-supported, status-global, status-nobody, status-nak}
 use Rattle.command.proofs.Picks.{none-picked, some-picked}
@@ -18,41 +19,41 @@ returns : tie.Need-returns
 returns c =
     let p = c .before .before in
     let a = p .before .args in
-    let n = some-picked (supports (a .dgn)) (hosted (a .host)) _ (p .pick .ensures) (λ z. omega arith) in
-    rw (status-supported (a .to) (a .source) (a .dgn) (hosted (a .host)) (a .address) n) (supported-requested _ _ (p .pick .ensures))
+    let n = some-picked (supports (askedBy (a .asked))) (hosted (a .host)) _ (p .pick .ensures) (λ z. omega arith) in
+    rw (status-supported (askedBy (a .asked)) (hosted (a .host)) (a .address) n) (supported-requested _ _ (p .pick .ensures))
 
 bare-requires : tie.Need-bare-requires
 bare-requires c κs = search needs
 
 returns-2 : tie.Need-returns-2
 returns-2 c =
-    let p = c .before .before .before .before in
+    let p = c .before .before .before .before .before in
     let a = p .before .args in
     let z : p .pick .result .count ≡ 0 = omega arith in
-    let n = none-picked (supports (a .dgn)) (hosted (a .host)) _ (p .pick .ensures) z in
-    rw (status-global (a .to) (a .source) (a .dgn) (hosted (a .host)) (a .address) n (c .before .if2 .taken)) (bare-requested (gives unsupported) Unsupported _ refl refl refl (c .bare .ensures))
+    let n = none-picked (supports (askedBy (a .asked))) (hosted (a .host)) _ (p .pick .ensures) z in
+    rw (status-global (askedBy (a .asked)) (hosted (a .host)) (a .address) n (c .before .if2 .taken)) (bare-requested (gives unsupported) Unsupported _ refl refl refl (c .bare .ensures))
 
 bare-requires-2 : tie.Need-bare-requires-2
 bare-requires-2 c κs = search needs
 
 returns-3 : tie.Need-returns-3
 returns-3 c =
-    let p = c .before .before .before .before .before in
+    let p = c .before .before .before .before .before .before .before in
     let a = p .before .args in
     let z : p .pick .result .count ≡ 0 = omega arith in
-    let n = none-picked (supports (a .dgn)) (hosted (a .host)) _ (p .pick .ensures) z in
-    rw (status-nobody (a .to) (a .source) (a .dgn) (hosted (a .host)) (a .address) n (c .before .before .if2 .left) (c .before .if3 .taken)) (bare-requested (gives unsupported) Unsupported _ refl refl refl (c .bare2 .ensures))
+    let n = none-picked (supports (askedBy (a .asked))) (hosted (a .host)) _ (p .pick .ensures) z in
+    rw (status-nobody (askedBy (a .asked)) (hosted (a .host)) (a .address) n (c .before .before .before .if2 .left) (c .before .if3 .taken)) (bare-requested (gives unsupported) Unsupported _ refl refl refl (c .bare2 .ensures))
 
 nak-requires : tie.Need-nak-requires
 nak-requires c κs = search needs
 
 returns-4 : tie.Need-returns-4
 returns-4 c =
-    let p = c .before .before .before .before .before in
+    let p = c .before .before .before .before .before .before .before in
     let a = p .before .args in
     let z : p .pick .result .count ≡ 0 = omega arith in
-    let n = none-picked (supports (a .dgn)) (hosted (a .host)) _ (p .pick .ensures) z in
-    rw (status-nak (a .to) (a .source) (a .dgn) (hosted (a .host)) (a .address) n (c .before .before .if2 .left) (c .before .if3 .left)) (c .nak .ensures)
+    let n = none-picked (supports (askedBy (a .asked))) (hosted (a .host)) _ (p .pick .ensures) z in
+    rw (status-nak (askedBy (a .asked)) (hosted (a .host)) (a .address) n (c .before .before .before .if2 .left) (c .before .if3 .left)) (c .nak .ensures)
 
 pub status-spec : {M : Type 1} → statement M
 status-spec =

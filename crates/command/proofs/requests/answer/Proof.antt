@@ -1,12 +1,12 @@
--- `command::requests::ask` meets its contract. Assumes nothing.
+-- `command::requests::answer` meets its contract. Assumes nothing.
 use mathlib.Core.Path.{refl, sym, _∙_}
 use borrow.Author.Needs.{needs}
 use Rattle.command.specs.declared.Requesting.the-variants.{NothingToDo, DgnTooLarge}
 use Rattle.command.specs.Requests.{nothingToDo}
 use Rattle.frame.specs.Words.{refused, gives}
-use Rattle.command.proofs.Answers.{bare-requested, asked-other, asked-large, asked-reply}
-use Rattle.command.proofs.requests.ask.Statement.{statement}
-use Rattle.command.proofs.requests.ask.Tie as tie
+use Rattle.command.proofs.Answers.{bare-requested, answer-other, answer-large, answer-reply}
+use Rattle.command.proofs.requests.answer.Statement.{statement}
+use Rattle.command.proofs.requests.answer.Tie as tie
 
 catalogue-form-requires : tie.Need-catalogue-form-requires
 catalogue-form-requires c κs = search needs
@@ -18,23 +18,20 @@ returns : tie.Need-returns
 returns c =
     let a = c .before .before .before .args in
     let f = c .before .before .catalogue-form .ensures .answer in
-    rw (asked-other (a .parts) _ _ _ (λ e. c .before .if1 .taken (f ∙ e))) (bare-requested (gives nothingToDo) NothingToDo _ refl refl refl (c .bare .ensures))
+    rw (answer-other (a .parts) _ _ _ (λ e. c .before .if1 .taken (f ∙ e))) (bare-requested (gives nothingToDo) NothingToDo _ refl refl refl (c .bare .ensures))
 
-dgn-in-requires : tie.Need-dgn-in-requires
-dgn-in-requires c κs = search needs
+asked-of-requires : tie.Need-asked-of-requires
+asked-of-requires c κs = search needs
 
 bare-requires-2 : tie.Need-bare-requires-2
 bare-requires-2 c κs = search needs
 
 returns-2 : tie.Need-returns-2
 returns-2 c =
-    let d = c .before .before in
+    let d = c .before .before .before in
     let a = d .before .before .before .args in
     let f = d .before .before .catalogue-form .ensures .answer in
-    rw (asked-large (a .parts) _ _ _ _ (sym f ∙ d .before .if1 .left) (d .dgn-in .ensures) (c .before .if2 .taken)) (bare-requested (refused 17) DgnTooLarge _ refl refl refl (c .bare2 .ensures))
-
-cast-reply : tie.Need-cast-reply
-cast-reply c = search needs
+    rw (answer-large (a .parts) _ _ _ _ (sym f ∙ d .before .if1 .left) (d .asked-of .ensures) (c .before .if2 .taken)) (bare-requested (refused 17) DgnTooLarge _ refl refl refl (c .bare2 .ensures))
 
 reply-requires : tie.Need-reply-requires
 reply-requires c κs = search needs
@@ -44,18 +41,17 @@ returns-3 c =
     let d = c .before .before .before in
     let a = d .before .before .before .args in
     let f = d .before .before .catalogue-form .ensures .answer in
-    rw (asked-reply (a .parts) _ _ _ _ _ (sym f ∙ d .before .if1 .left) refl (d .dgn-in .ensures) (c .before .before .if2 .left)) (c .reply .ensures)
+    rw (answer-reply (a .parts) _ _ _ _ (sym f ∙ d .before .if1 .left) (d .asked-of .ensures) (c .before .if2 .left)) (c .reply .ensures)
 
-pub ask-spec : {M : Type 1} → statement M
-ask-spec =
+pub answer-spec : {M : Type 1} → statement M
+answer-spec =
     tie.close
     (tie.spec
     catalogue-form-requires
     bare-requires
     returns
-    dgn-in-requires
+    asked-of-requires
     bare-requires-2
     returns-2
-    cast-reply
     reply-requires
     returns-3)

@@ -1,10 +1,10 @@
--- `command::acknowledgment::id_of` meets its contract. Assumes nothing.
+-- `command::acknowledgments::id_of` meets its contract. Assumes nothing.
 use native.Mathlib.Omega.{arith}
 use borrow.Author.Needs.{needs}
 use Rattle.command.specs.Acknowledgment.{acknowledgmentId}
 use Rattle.frame.specs.Identifier.{identifierOf}
-use Rattle.command.proofs.acknowledgment.id_of.Statement.{statement}
-use Rattle.command.proofs.acknowledgment.id_of.Tie as tie
+use Rattle.command.proofs.acknowledgments.id_of.Statement.{statement}
+use Rattle.command.proofs.acknowledgments.id_of.Tie as tie
 
 mul-result : tie.Need-mul-result
 mul-result c = search needs
