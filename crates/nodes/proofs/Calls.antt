@@ -34,7 +34,6 @@ use denote.Slice.{sliceVal, MutSlice, ShrSlice, Room}
 use denote.Lend.{Held, lends-slice, slice-back, lends-shr-slice}
 use denote.Index.{row, whole-in, whole-out}
 use denote.Steps.{owned, nothing, heard, peeks}
-use denote.Struct.Laws as LL
 use denote.Enum.Laws as EL
 use denote.Triple.Call.{calls-at}
 use denote.Triple.Clauses.{ensured, lasts}

@@ -4,7 +4,7 @@ use mathlib.Core.Path.{_≡_, refl, sym, ap, subst, _∙_}
 use mathlib.Core.Bool.{true, false}
 use mathlib.Core.List.{List, [], _∷_}
 use Prim.Native.Nat.{ℕ, zero, suc, _+_, _<_, _≤_}
-use native.Mathlib.Nat.{not-suc-le-zero, le-of-suc-le-suc, zero-add}
+use native.Mathlib.Nat.{not-suc-le-zero, le-of-suc-le-suc}
 use native.Mathlib.Numerals.{add-one}
 use native.Mathlib.Omega.{arith}
 use lib.ListN.{length, getD, take, drop, drop-of-length-le, length-take}
@@ -13,7 +13,7 @@ use lib.Seq.{drop-cons, getD-take}
 use borrow.Author.Tests.{ltb-true, ltb-false}
 use Rattle.frame.specs.Words.{Told, gives}
 use Rattle.frame.specs.Standard.{greatestAddress}
-use Rattle.frame.proofs.Words.{past-refusal, before-refusal, gives-same, true-false, by-test}
+use Rattle.frame.proofs.Words.{past-refusal, before-refusal, gives-same, by-test}
 use Rattle.nodes.specs.Table.{addresses, absent, hasName, keepsRules}
 use Rattle.nodes.specs.Call.{tableOr, Holder, nobody, holder, holderOf, lookedUpOf, Whereabouts, nowhere, there, addressFrom, foundOf}
 use Rattle.nodes.specs.Laws.{Rules, foundIn, Holds, FoundThere, FoundNowhere, FoundShown}
