@@ -137,6 +137,18 @@ pub write-only : Laws.WriteOnly
 write-only n id bytes value r s after after′ p q =
     (told-writing-same r s (p .answer ∙ sym (q .answer)), p .data-bytes ∙ sym (q .data-bytes))
 
+pub looked-refusal-only : Laws.LookedRefusalOnly
+looked-refusal-only answer r s p q = p .number ∙ sym (q .number)
+
+pub reading-refusal-only : Laws.ReadingRefusalOnly
+reading-refusal-only answer r s p q = p .number ∙ sym (q .number)
+
+pub scaled-reading-refusal-only : Laws.ScaledReadingRefusalOnly
+scaled-reading-refusal-only answer r s p q = p .number ∙ sym (q .number)
+
+pub writing-refusal-only : Laws.WritingRefusalOnly
+writing-refusal-only answer r s p q = p .number ∙ sym (q .number)
+
 kept : (t : Told (List ℕ)) (bytes : List ℕ) (k : ℕ) → doneIf t ≡ refused k → bytesAfter t bytes ≡ bytes
 kept (gives new) bytes k e = refused-gives (sym e)
 kept (refused n) bytes k e = refl

@@ -17,7 +17,7 @@ use Rattle.catalogue.specs.Classes.{greatestCode, hasThree, classAt, cla
 use Rattle.catalogue.specs.Scale.{scaledOf, valueOf}
 use Rattle.catalogue.specs.Codes.{codeOf}
 use Rattle.catalogue.specs.Catalogue.{rowOfDgn, rowFor, readOf, scaledReadOf, replaced, writtenOf}
-use Rattle.catalogue.specs.Promises.{toldLooked, toldReading, toldScaled, toldWriting, Rows, RowAt, RowsOf, Classify, ReadField, ReadScaled, WriteField}
+use Rattle.catalogue.specs.Promises.{toldLooked, toldReading, toldScaled, toldWriting, Rows, RowAt, RowsOf, Classify, ReadField, ReadScaled, WriteField, LookedRefusal, ReadingRefusal, ScaledReadingRefusal, WritingRefusal}
 use Rattle.catalogue.specs.declared.Row.{Row}
 use Rattle.catalogue.specs.declared.Unit.the-variants.{Ampere, Celsius}
 use Rattle.catalogue.specs.declared.Span.{Span}
@@ -67,6 +67,18 @@ abbrev pub WriteOnly : Type 0
 WriteOnly =
     (n id : ℕ) (bytes : List ℕ) (value : Value) (r s : Writing) (after after′ : List ℕ)
     → WriteField n id bytes value r after → WriteField n id bytes value s after′ → (r ≡ s) × (after ≡ after′)
+
+abbrev pub LookedRefusalOnly : Type 0
+LookedRefusalOnly = (answer : Looked) (r s : ℕ) → LookedRefusal answer r → LookedRefusal answer s → r ≡ s
+
+abbrev pub ReadingRefusalOnly : Type 0
+ReadingRefusalOnly = (answer : Reading) (r s : ℕ) → ReadingRefusal answer r → ReadingRefusal answer s → r ≡ s
+
+abbrev pub ScaledReadingRefusalOnly : Type 0
+ScaledReadingRefusalOnly = (answer : ScaledReading) (r s : ℕ) → ScaledReadingRefusal answer r → ScaledReadingRefusal answer s → r ≡ s
+
+abbrev pub WritingRefusalOnly : Type 0
+WritingRefusalOnly = (answer : Writing) (r s : ℕ) → WritingRefusal answer r → WritingRefusal answer s → r ≡ s
 
 -- A refused write leaves the frame's bytes.
 abbrev pub RefusedKeeps : Type 0

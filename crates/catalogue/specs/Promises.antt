@@ -3,7 +3,7 @@ use mathlib.Core.Path.{_≡_}
 use mathlib.Core.List.{List}
 use Prim.Native.Nat.{ℕ}
 use lib.ListN.{length}
-use Rattle.frame.specs.Words.{Told, refused, gives}
+use Rattle.frame.specs.Words.{Told, refused, gives, numberIn}
 use Rattle.frame.specs.Bytes.{numberOf}
 use Rattle.frame.specs.Identifier.{catalogueForm}
 use Rattle.frame.specs.Frame.{checkedOf}
@@ -41,6 +41,9 @@ toldLooked Looked.NoSuchRow = refused 11
 pub record RowAt (n : ℕ) (r : Looked) : Type 0 where
   pub answer : toldLooked r ≡ rowOf n
 
+pub record LookedRefusal (answer : Looked) (r : ℕ) : Type 0 where
+  pub number : r ≡ numberIn (toldLooked answer)
+
 -- rows_of
 
 pub record RowsOf (dgn : ℕ) (r : Span) : Type 0 where
@@ -61,6 +64,9 @@ toldReading Reading.NoSuchRow = refused 11
 pub record ReadField (n id : ℕ) (bytes : List ℕ) (r : Reading) : Type 0 where
   pub answer : toldReading r ≡ readOf n id bytes
 
+pub record ReadingRefusal (answer : Reading) (r : ℕ) : Type 0 where
+  pub number : r ≡ numberIn (toldReading answer)
+
 -- read_scaled
 
 abbrev pub toldScaled : ScaledReading → Told Value
@@ -70,6 +76,9 @@ toldScaled ScaledReading.NoSuchRow = refused 11
 
 pub record ReadScaled (n id : ℕ) (bytes : List ℕ) (r : ScaledReading) : Type 0 where
   pub answer : toldScaled r ≡ scaledReadOf n id bytes
+
+pub record ScaledReadingRefusal (answer : ScaledReading) (r : ℕ) : Type 0 where
+  pub number : r ≡ numberIn (toldScaled answer)
 
 -- write: the answer, and the frame's bytes afterwards
 
@@ -94,6 +103,9 @@ bytesAfter (refused n) old = old
 pub record WriteField (n id : ℕ) (bytes : List ℕ) (value : Value) (r : Writing) (after : List ℕ) : Type 0 where
   pub answer : toldWriting r ≡ doneIf (writtenOf n id bytes value)
   pub data-bytes : after ≡ bytesAfter (writtenOf n id bytes value) bytes
+
+pub record WritingRefusal (answer : Writing) (r : ℕ) : Type 0 where
+  pub number : r ≡ numberIn (toldWriting answer)
 
 -- open, which the three calls above share: the row for a frame, and the frame's bytes as a number
 

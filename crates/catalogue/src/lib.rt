@@ -1,7 +1,7 @@
 // The field catalogue of RV-C: its rows, a field's class and code, its scaled value, and a field written.
 ghost use mathlib.Core.Path.{_≡_};
 ghost use Rattle.catalogue.specs.Catalogue.{rowOfDgn};
-ghost use Rattle.catalogue.specs.Promises.{Rows, RowAt, RowsOf, Classify, ReadField, ReadScaled, WriteField, Opens, toldOutcome};
+ghost use Rattle.catalogue.specs.Promises.{Rows, RowAt, RowsOf, Classify, ReadField, ReadScaled, WriteField, LookedRefusal, ReadingRefusal, ScaledReadingRefusal, WritingRefusal, Opens, toldOutcome};
 
 mod classes;
 pub mod dgns;
@@ -82,6 +82,62 @@ pub enum Writing {
     BadFrame(frame::BadFrame),
     NoSuchRow,
     NoCode,
+}
+
+impl Looked {
+    // The number of the refusal; 0 where there is a row.
+    pub fn refusal(self) -> u8
+        ensures { λ r. ⌜ LookedRefusal self r ⌝ }
+    {
+        let answer = self;
+        match answer {
+            Looked::Is(_) => 0,
+            Looked::NoSuchRow => 11,
+        }
+    }
+}
+
+impl Reading {
+    // The number of the refusal; 0 where the field is read.
+    pub fn refusal(self) -> u8
+        ensures { λ r. ⌜ ReadingRefusal self r ⌝ }
+    {
+        let answer = self;
+        match answer {
+            Reading::Is(_) => 0,
+            Reading::BadFrame(why) => why.refusal(),
+            Reading::NoSuchRow => 11,
+        }
+    }
+}
+
+impl ScaledReading {
+    // The number of the refusal; 0 where the value is read.
+    pub fn refusal(self) -> u8
+        ensures { λ r. ⌜ ScaledReadingRefusal self r ⌝ }
+    {
+        let answer = self;
+        match answer {
+            ScaledReading::Is(_) => 0,
+            ScaledReading::BadFrame(why) => why.refusal(),
+            ScaledReading::NoSuchRow => 11,
+        }
+    }
+}
+
+impl Writing {
+    // The number of the refusal; 0 where the field is written.
+    pub fn refusal(self) -> u8
+        ensures { λ r. ⌜ WritingRefusal self r ⌝ }
+    {
+        let answer = self;
+        match answer {
+            Writing::Written => 0,
+            Writing::BadFrame(why) => why.refusal(),
+            Writing::NoSuchRow => 11,
+            Writing::NoCode => 12,
+        }
+    }
 }
 
 // How many rows the catalogue has.

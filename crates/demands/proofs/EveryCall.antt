@@ -30,6 +30,10 @@ use Rattle.catalogue.proofs.classify.Met as catalogue-classify
 use Rattle.catalogue.proofs.read.Met as catalogue-read
 use Rattle.catalogue.proofs.read_scaled.Met as catalogue-read-scaled
 use Rattle.catalogue.proofs.write.Met as catalogue-write
+use Rattle.catalogue.proofs.Looked.refusal.Met as catalogue-looked-refusal
+use Rattle.catalogue.proofs.Reading.refusal.Met as catalogue-reading-refusal
+use Rattle.catalogue.proofs.ScaledReading.refusal.Met as catalogue-scaled-reading-refusal
+use Rattle.catalogue.proofs.Writing.refusal.Met as catalogue-writing-refusal
 use Rattle.claim.specs.Promises as claim-promises
 use Rattle.claim.proofs.Laws as Claim
 use Rattle.claim.proofs.Claim.start.Met as claim-start
@@ -238,6 +242,38 @@ every-call M =
             (Catalogue.write-only
             (a .0) (a .1 .0) (now (a .1 .1 .0)) (a .1 .1 .1 .0) r s (w .1 .1 .0) (v .1 .1 .0) h k);
         only = Catalogue.write-only;
+      };
+      catalogue-looked-refusal = record {
+        meets = catalogue-looked-refusal.met;
+        asks-nothing = free;
+        Promise = λ κs a r e. catalogue-promises.LookedRefusal (a .0) r;
+        promises = λ 𝓤 H A mem run κs a ghost r. refl;
+        one-answer = λ κs a r s w v h k. (Catalogue.looked-refusal-only (a .0) r s h k, refl);
+        only = Catalogue.looked-refusal-only;
+      };
+      catalogue-reading-refusal = record {
+        meets = catalogue-reading-refusal.met;
+        asks-nothing = free;
+        Promise = λ κs a r e. catalogue-promises.ReadingRefusal (a .0) r;
+        promises = λ 𝓤 H A mem run κs a ghost r. refl;
+        one-answer = λ κs a r s w v h k. (Catalogue.reading-refusal-only (a .0) r s h k, refl);
+        only = Catalogue.reading-refusal-only;
+      };
+      catalogue-scaled-reading-refusal = record {
+        meets = catalogue-scaled-reading-refusal.met;
+        asks-nothing = free;
+        Promise = λ κs a r e. catalogue-promises.ScaledReadingRefusal (a .0) r;
+        promises = λ 𝓤 H A mem run κs a ghost r. refl;
+        one-answer = λ κs a r s w v h k. (Catalogue.scaled-reading-refusal-only (a .0) r s h k, refl);
+        only = Catalogue.scaled-reading-refusal-only;
+      };
+      catalogue-writing-refusal = record {
+        meets = catalogue-writing-refusal.met;
+        asks-nothing = free;
+        Promise = λ κs a r e. catalogue-promises.WritingRefusal (a .0) r;
+        promises = λ 𝓤 H A mem run κs a ghost r. refl;
+        one-answer = λ κs a r s w v h k. (Catalogue.writing-refusal-only (a .0) r s h k, refl);
+        only = Catalogue.writing-refusal-only;
       };
       claim-start = record {
         meets = claim-start.met;

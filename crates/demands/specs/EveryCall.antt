@@ -40,6 +40,10 @@ use Rattle.catalogue.proofs.classify as catalogue-classify
 use Rattle.catalogue.proofs.read as catalogue-read
 use Rattle.catalogue.proofs.read_scaled as catalogue-read-scaled
 use Rattle.catalogue.proofs.write as catalogue-write
+use Rattle.catalogue.proofs.Looked.refusal as catalogue-looked-refusal
+use Rattle.catalogue.proofs.Reading.refusal as catalogue-reading-refusal
+use Rattle.catalogue.proofs.ScaledReading.refusal as catalogue-scaled-reading-refusal
+use Rattle.catalogue.proofs.Writing.refusal as catalogue-writing-refusal
 use Rattle.claim.specs.Laws as Claim
 use Rattle.claim.proofs.Claim.start as claim-start
 use Rattle.claim.proofs.Claim.hear as claim-hear
@@ -151,6 +155,18 @@ module _ (M : Type 1) where
         Catalogue.ReadScaledOnly
     pub catalogue-write :
         Answers catalogue-write.ended catalogue-write.Symbol.routine catalogue-write.spec Catalogue.WriteOnly
+    pub catalogue-looked-refusal :
+        Answers catalogue-looked-refusal.ended catalogue-looked-refusal.Symbol.routine catalogue-looked-refusal.spec
+        Catalogue.LookedRefusalOnly
+    pub catalogue-reading-refusal :
+        Answers catalogue-reading-refusal.ended catalogue-reading-refusal.Symbol.routine catalogue-reading-refusal.spec
+        Catalogue.ReadingRefusalOnly
+    pub catalogue-scaled-reading-refusal :
+        Answers catalogue-scaled-reading-refusal.ended catalogue-scaled-reading-refusal.Symbol.routine
+        catalogue-scaled-reading-refusal.spec Catalogue.ScaledReadingRefusalOnly
+    pub catalogue-writing-refusal :
+        Answers catalogue-writing-refusal.ended catalogue-writing-refusal.Symbol.routine catalogue-writing-refusal.spec
+        Catalogue.WritingRefusalOnly
     -- Claiming an address
     pub claim-start : Answers claim-start.ended claim-start.Symbol.routine claim-start.spec Claim.StartOnly
     pub claim-hear : Answers claim-hear.ended claim-hear.Symbol.routine claim-hear.spec Claim.HearOnly

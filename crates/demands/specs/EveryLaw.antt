@@ -168,6 +168,10 @@ pub record CatalogueLaws : Type 0 where
   pub read-only : Catalogue.ReadOnly
   pub read-scaled-only : Catalogue.ReadScaledOnly
   pub write-only : Catalogue.WriteOnly
+  pub looked-refusal-only : Catalogue.LookedRefusalOnly
+  pub reading-refusal-only : Catalogue.ReadingRefusalOnly
+  pub scaled-reading-refusal-only : Catalogue.ScaledReadingRefusalOnly
+  pub writing-refusal-only : Catalogue.WritingRefusalOnly
   pub refused-keeps : Catalogue.RefusedKeeps
   pub row-count : Catalogue.RowCount
   pub rising : Catalogue.Rising
