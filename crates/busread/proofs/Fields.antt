@@ -15,29 +15,42 @@ use Rattle.frame.specs.Identifier.{catalogueForm}
 use Rattle.frame.specs.Words.{_<?_, gives}
 use Rattle.frame.proofs.Words.{refused-gives, gives-same}
 use Rattle.catalogue.specs.Rows.{rows}
-use Rattle.catalogue.specs.Table.{noRow, rowAt, rowOf, spanOf}
+use Rattle.catalogue.specs.Table.{noRow, rowIn, rowAt, rowOf, spanOf}
 use Rattle.catalogue.specs.Field.{fieldOf}
 use Rattle.catalogue.specs.Catalogue.{fieldIn}
-use Rattle.catalogue.specs.Promises.{RowAt, Classify, toldLooked}
+use Rattle.catalogue.specs.Packed.{packedRows, tableRow, tableSpan}
+use Rattle.catalogue.specs.Promises.{RowIn, RowsIn, Classify, toldLooked}
 use Rattle.catalogue.specs.declared.Row.{Row}
 use Rattle.catalogue.specs.declared.Span.{Span}
 use Rattle.catalogue.specs.declared.Field.{Field}
 use Rattle.catalogue.specs.declared.Looked.{Looked}
 use Rattle.catalogue.specs.declared.Looked.the-variants as Looked
-use Rattle.catalogue.proofs.Laws.{row-count, ends}
+use Rattle.catalogue.proofs.Laws.{row-count, ends, within, row-in-packed, rows-in-packed}
 use Rattle.busread.specs.Report.{fieldText, fieldsText, rowsOf}
 
--- a row that is there is found
+-- a row that is there is found in the catalogue's table
 
-found : {n : ℕ} {r : Looked} → RowAt n r → n < 375 → toldLooked r ≡ gives (rowAt n)
-unfolding rowOf
-found {n} h k = let t : n <? 375 ≡ true = search tests in h .answer ∙ rw t
+found : {table : List ℕ} {n : ℕ} {r : Looked} → table ≡ packedRows → RowIn table n r → n < 375 → toldLooked r ≡ gives (rowAt n)
+unfolding rowOf rowIn rowAt
+found {n = n} e h k =
+    let l : n < length rows = rw row-count k in
+    let t : n <? length rows ≡ true = search tests in
+    h .answer ∙ ap (λ (t : List ℕ). tableRow t n) e ∙ row-in-packed n ∙ rw t
 
-pub row-there : {n : ℕ} {r : Looked} {row : Row} → RowAt n r → r ≡ Looked.Is row → n < 375 → row ≡ rowAt n
-row-there h e k = gives-same (sym (ap toldLooked e) ∙ found h k)
+pub row-there : {table : List ℕ} {n : ℕ} {r : Looked} {row : Row}
+    → table ≡ packedRows → RowIn table n r → r ≡ Looked.Is row → n < 375 → row ≡ rowAt n
+row-there t h e k = gives-same (sym (ap toldLooked e) ∙ found t h k)
 
-pub row-missing : {n : ℕ} {r : Looked} {A : Type 0} → RowAt n r → r ≡ Looked.NoSuchRow → n < 375 → A
-row-missing h e k = refused-gives (sym (ap toldLooked e) ∙ found h k)
+pub row-missing : {table : List ℕ} {n : ℕ} {r : Looked} {A : Type 0}
+    → table ≡ packedRows → RowIn table n r → r ≡ Looked.NoSuchRow → n < 375 → A
+row-missing t h e k = refused-gives (sym (ap toldLooked e) ∙ found t h k)
+
+-- and so are the rows of a DGN
+pub span-there : {table : List ℕ} {dgn : ℕ} {span : Span} → table ≡ packedRows → RowsIn table dgn span → span ≡ spanOf (catalogueForm dgn)
+span-there {dgn = dgn} t h = h .answer ∙ ap (λ (t : List ℕ). tableSpan t (catalogueForm dgn)) t ∙ rows-in-packed (catalogueForm dgn)
+
+pub span-fits : {table : List ℕ} {dgn : ℕ} {span : Span} → table ≡ packedRows → RowsIn table dgn span → span .start + span .count ≤ 375
+span-fits {dgn = dgn} t h = rw (span-there t h) (within (catalogueForm dgn))
 
 -- and its codes have at most 32 bits
 pub code-fits : (n number : ℕ) → n < 375 → fieldIn (rowAt n) number .code < 2 ^ 32
@@ -48,9 +61,9 @@ code-fits n number h =
     let l : number / 2 ^ (rowAt n .first) % 2 ^ w < 2 ^ w = mod-lt (number / 2 ^ (rowAt n .first)) (pow-pos w) in
     omega arith
 
-pub field-fits : {n number : ℕ} {r : Looked} {row : Row} {field : Field}
-    → RowAt n r → r ≡ Looked.Is row → Classify row number field → n < 375 → field .code < 2 ^ 32
-field-fits {n} {number} h e c k = rw (c .answer, row-there h e k) (code-fits n number k)
+pub field-fits : {table : List ℕ} {n number : ℕ} {r : Looked} {row : Row} {field : Field}
+    → table ≡ packedRows → RowIn table n r → r ≡ Looked.Is row → Classify row number field → n < 375 → field .code < 2 ^ 32
+field-fits {n = n} {number} t h e c k = rw (c .answer, row-there t h e k) (code-fits n number k)
 
 -- the rows of a span
 abbrev pub rowsIn : Span → List Row

@@ -3,6 +3,7 @@ ghost use mathlib.Core.Path.{_≡_};
 ghost use Prim.Native.Nat.{_≤_};
 ghost use lib.ListN.{length};
 ghost use Rattle.message.specs.Receiver.{room};
+ghost use Rattle.catalogue.specs.Packed.{packedRows};
 ghost use Rattle.busread.specs.Reader.{outRoom, Ready};
 
 mod reader;
@@ -25,9 +26,10 @@ fn main() {
     let mut block = io::large_buffer();
     let mut storage = storage();
     let mut out = output();
+    let table = catalogue::packed_rows();
     io::write_all(STDOUT_FILENO, b"format=1\n");
-    let reader = read_all(reader::new(), &mut block, &mut storage, &mut out);
-    let next = reader::finish(reader, &mut storage, &mut out);
+    let reader = read_all(reader::new(), &mut block, &mut storage, &mut out, &table);
+    let next = reader::finish(reader, &mut storage, &mut out, &table);
     io::write_all(STDOUT_FILENO, &out[..next]);
 }
 
@@ -46,14 +48,20 @@ fn output() -> [u8; 131072]
 }
 
 // Block after block. Nothing says that an input ends, so the loop counts down from a number that no input uses up.
-fn read_all(reader: Reader, block: &mut [u8], storage: &mut [u8], out: &mut [u8]) -> Reader
-    requires { ⌜ (outRoom ≤ length (now out)) × (room ≤ length (now storage)) × Ready reader ⌝ }
+fn read_all(
+    reader: Reader,
+    block: &mut [u8],
+    storage: &mut [u8],
+    out: &mut [u8],
+    table: &[u64],
+) -> Reader
+    requires { ⌜ (outRoom ≤ length (now out)) × (room ≤ length (now storage)) × Ready reader × (now table ≡ packedRows) ⌝ }
     ensures { λ r. ⌜ Ready r ⌝ }
 {
     let mut reader = reader;
     let mut turns = u64::MAX;
     while turns > 0 {
-        let fed = read_block(reader, block, storage, out);
+        let fed = read_block(reader, block, storage, out, table);
         reader = fed.reader;
         if !fed.more {
             return reader;
@@ -64,8 +72,14 @@ fn read_all(reader: Reader, block: &mut [u8], storage: &mut [u8], out: &mut [u8]
 }
 
 // Reads once; nothing read is the end.
-fn read_block(reader: Reader, block: &mut [u8], storage: &mut [u8], out: &mut [u8]) -> Fed
-    requires { ⌜ (outRoom ≤ length (now out)) × (room ≤ length (now storage)) × Ready reader ⌝ }
+fn read_block(
+    reader: Reader,
+    block: &mut [u8],
+    storage: &mut [u8],
+    out: &mut [u8],
+    table: &[u64],
+) -> Fed
+    requires { ⌜ (outRoom ≤ length (now out)) × (room ≤ length (now storage)) × Ready reader × (now table ≡ packedRows) ⌝ }
     ensures { λ r. ⌜ Ready (r .reader) ⌝ }
 {
     let got = libc::read(STDIN_FILENO, block);
@@ -76,18 +90,18 @@ fn read_block(reader: Reader, block: &mut [u8], storage: &mut [u8], out: &mut [u
             more: false,
         };
     }
-    feed(reader, &block[..count], storage, out)
+    feed(reader, &block[..count], storage, out, table)
 }
 
 // Takes the lines of a block, and writes what they print.
-fn feed(reader: Reader, block: &[u8], storage: &mut [u8], out: &mut [u8]) -> Fed
-    requires { ⌜ (outRoom ≤ length (now out)) × (room ≤ length (now storage)) × Ready reader ⌝ }
+fn feed(reader: Reader, block: &[u8], storage: &mut [u8], out: &mut [u8], table: &[u64]) -> Fed
+    requires { ⌜ (outRoom ≤ length (now out)) × (room ≤ length (now storage)) × Ready reader × (now table ≡ packedRows) ⌝ }
     ensures { λ r. ⌜ Ready (r .reader) ⌝ }
 {
     let mut reader = reader;
     let mut at: usize = 0;
     loop {
-        let run = reader::lines(reader, block, at, storage, out);
+        let run = reader::lines(reader, block, at, storage, out, table);
         let next = run.next;
         io::write_all(STDOUT_FILENO, &out[..next]);
         reader = run.reader;

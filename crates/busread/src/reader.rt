@@ -3,6 +3,7 @@ ghost use mathlib.Core.Path.{_≡_};
 ghost use Prim.Native.Nat.{_≤_};
 ghost use lib.ListN.{length, replicate};
 ghost use Rattle.message.specs.Receiver.{room};
+ghost use Rattle.catalogue.specs.Packed.{packedRows};
 ghost use Rattle.capture.specs.Line.{lineRead};
 ghost use Rattle.capture.specs.Cutter.{fresh};
 ghost use Rattle.busread.specs.Text.{Wrote};
@@ -54,15 +55,22 @@ pub fn new() -> Reader
 }
 
 // Takes lines of a block, from a position on, until the block is used up or half of the output is full.
-pub fn lines(reader: Reader, block: &[u8], from: usize, storage: &mut [u8], out: &mut [u8]) -> Run
-    requires { ⌜ (outRoom ≤ length (now out)) × (room ≤ length (now storage)) × Ready reader ⌝ }
+pub fn lines(
+    reader: Reader,
+    block: &[u8],
+    from: usize,
+    storage: &mut [u8],
+    out: &mut [u8],
+    table: &[u64],
+) -> Run
+    requires { ⌜ (outRoom ≤ length (now out)) × (room ≤ length (now storage)) × Ready reader × (now table ≡ packedRows) ⌝ }
     ensures { λ r. ⌜ Runs (now (block .entry)) from reader (now (storage .entry)) r (now (storage .exit)) (now (out .exit)) ⌝ }
 {
     let mut reader = reader;
     let mut at = from;
     let mut next: usize = 0;
     while next <= 65536 {
-        let turned = turn(reader, block, at, storage, out, next);
+        let turned = turn(reader, block, at, storage, out, next, table);
         let going = turned.going;
         match going {
             Going::On => {
@@ -90,8 +98,9 @@ fn turn(
     storage: &mut [u8],
     out: &mut [u8],
     next: usize,
+    table: &[u64],
 ) -> Run
-    requires { ⌜ (outRoom ≤ length (now out)) × (next ≤ half) × (room ≤ length (now storage)) × Ready reader ⌝ }
+    requires { ⌜ (outRoom ≤ length (now out)) × (next ≤ half) × (room ≤ length (now storage)) × Ready reader × (now table ≡ packedRows) ⌝ }
     ensures { λ r. ⌜ Turned (now (block .entry)) at reader (now (storage .entry)) (now (out .entry)) next r (now (storage .exit)) (now (out .exit)) ⌝ }
 {
     let old = reader.cutter;
@@ -107,6 +116,7 @@ fn turn(
             storage,
             out,
             next,
+            table,
         ),
         Cutting::Carried(count) => {
             let carry = cutter.carry;
@@ -118,6 +128,7 @@ fn turn(
                 storage,
                 out,
                 next,
+                table,
             )
         }
         Cutting::TooLong => long_line(reader, cutter, cut.next, out, next),
@@ -135,13 +146,14 @@ fn line(
     storage: &mut [u8],
     out: &mut [u8],
     next: usize,
+    table: &[u64],
 ) -> Run
-    requires { ⌜ (outRoom ≤ length (now out)) × (next ≤ half) × (room ≤ length (now storage)) × OneMore (reader .counts) ⌝ }
+    requires { ⌜ (outRoom ≤ length (now out)) × (next ≤ half) × (room ≤ length (now storage)) × OneMore (reader .counts) × (now table ≡ packedRows) ⌝ }
     ensures { λ r. ⌜ Went reader cutter at (lineRead (now (text .entry))) (now (storage .entry)) (now (out .entry)) next r (now (storage .exit)) (now (out .exit)) ⌝ }
 {
     let receiver = reader.receiver;
     let counts = reader.counts;
-    let step = step::take(receiver, counts, text, storage, out, next);
+    let step = step::take(receiver, counts, text, storage, out, next, table);
     taken(cutter, at, step)
 }
 
@@ -193,8 +205,8 @@ fn stays(reader: Reader, cutter: Cutter, at: usize, next: usize, going: Going) -
 }
 
 // The end of the capture: a line that has no newline, then the closing line.
-pub fn finish(reader: Reader, storage: &mut [u8], out: &mut [u8]) -> usize
-    requires { ⌜ (outRoom ≤ length (now out)) × (room ≤ length (now storage)) × Ready reader ⌝ }
+pub fn finish(reader: Reader, storage: &mut [u8], out: &mut [u8], table: &[u64]) -> usize
+    requires { ⌜ (outRoom ≤ length (now out)) × (room ≤ length (now storage)) × Ready reader × (now table ≡ packedRows) ⌝ }
     ensures { λ r. ⌜ Wrote (now (out .entry)) 0 (endText (reader .cutter) (keptBy reader (now (storage .entry)))) (now (out .exit)) r ⌝ }
 {
     let cutter = reader.cutter;
@@ -204,7 +216,7 @@ pub fn finish(reader: Reader, storage: &mut [u8], out: &mut [u8]) -> usize
     match ending {
         Ending::Carried(count) => {
             let carry = cutter.carry;
-            let step = step::take(receiver, counts, &carry[..count], storage, out, 0);
+            let step = step::take(receiver, counts, &carry[..count], storage, out, 0, table);
             let counts = step.counts;
             report::put_closing(out, step.next, counts)
         }

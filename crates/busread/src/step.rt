@@ -8,6 +8,7 @@ ghost use Rattle.frame.specs.Bytes.{numberOf};
 ghost use Rattle.frame.specs.Identifier.{sourceOf, dgnOf};
 ghost use Rattle.message.specs.Receiver.{room};
 ghost use Rattle.message.specs.Promises.{toldAnswer};
+ghost use Rattle.catalogue.specs.Packed.{packedRows};
 ghost use Rattle.capture.specs.Line.{lineRead};
 ghost use Rattle.capture.specs.Promises.{frameIn};
 ghost use Rattle.capture.specs.Stream.{mostLines};
@@ -101,20 +102,27 @@ fn count(counts: Counts, print: Print) -> Counts
 }
 
 // The fields of a frame, in the catalogue's order.
-fn put_fields(out: &mut [u8], at: usize, number: u32, id: u32, bytes: [u8; 8]) -> usize
-    requires { ⌜ at + lineRoom ≤ length (now out) ⌝ }
+fn put_fields(
+    out: &mut [u8],
+    at: usize,
+    number: u32,
+    id: u32,
+    bytes: [u8; 8],
+    table: &[u64],
+) -> usize
+    requires { ⌜ (at + lineRoom ≤ length (now out)) × (now table ≡ packedRows) ⌝ }
     ensures { λ r. ⌜ Wrote (now (out .entry)) at (fieldsText (headText number (sourceOf id) (dgnOf id)) (numberOf bytes) (rowsOf (dgnOf id))) (now (out .exit)) r × (r ≤ at + lineRoom) ⌝ }
 {
     let source = (id % 256) as u8;
     let dgn = id / 256 % 131072;
     let content = frame::number_of(bytes);
-    let span = catalogue::rows_of(dgn);
+    let span = catalogue::rows_in(table, dgn);
     let mut head = [0u8; 32];
     let size = report::put_head(&mut head, 0, number, source, dgn);
     let mut next = at;
     let mut i: usize = 0;
     while i < span.count {
-        let looked = catalogue::row_at(span.start + i);
+        let looked = catalogue::row_in(table, span.start + i);
         let catalogue::Looked::Is(row) = looked else {
             return next;
         };
@@ -133,8 +141,9 @@ fn put_answer(
     line: Line,
     answer: Answer,
     storage: &[u8],
+    table: &[u64],
 ) -> usize
-    requires { ⌜ (at + lineRoom ≤ length (now out)) × (room ≤ length (now storage)) ⌝ }
+    requires { ⌜ (at + lineRoom ≤ length (now out)) × (room ≤ length (now storage)) × (now table ≡ packedRows) ⌝ }
     ensures { λ r. ⌜ Wrote (now (out .entry)) at (answerText number (frameIn line) (now (storage .entry)) (toldAnswer answer)) (now (out .exit)) r × (r ≤ at + lineRoom) ⌝ }
 {
     let print = print_of(answer);
@@ -146,7 +155,7 @@ fn put_answer(
         }
         Print::Fields => {
             let bytes = line.bytes;
-            put_fields(out, at, number, line.id, bytes)
+            put_fields(out, at, number, line.id, bytes, table)
         }
         Print::Nothing => at,
     }
@@ -160,8 +169,9 @@ fn hear(
     storage: &mut [u8],
     out: &mut [u8],
     at: usize,
+    table: &[u64],
 ) -> Step
-    requires { ⌜ (at + lineRoom ≤ length (now out)) × (room ≤ length (now storage)) × (counts .frames < mostLines) × Counting counts ⌝ }
+    requires { ⌜ (at + lineRoom ≤ length (now out)) × (room ≤ length (now storage)) × (counts .frames < mostLines) × Counting counts × (now table ≡ packedRows) ⌝ }
     ensures { λ r. ⌜ Took (kept receiver (now (storage .entry)) counts) (gives (frameIn line)) (now (out .entry)) at r (now (storage .exit)) (now (out .exit)) ⌝ }
 {
     let paused = receiver.pause(line.gap);
@@ -169,7 +179,7 @@ fn hear(
     let bytes = line.bytes;
     let heard = quiet.hear(storage, line.id, &bytes);
     let answer = heard.answer;
-    let next = put_answer(out, at, counts.frames + 1, line, answer, storage);
+    let next = put_answer(out, at, counts.frames + 1, line, answer, storage, table);
     let after = heard.receiver;
     Step {
         receiver: after,
@@ -199,14 +209,15 @@ pub fn take(
     storage: &mut [u8],
     out: &mut [u8],
     at: usize,
+    table: &[u64],
 ) -> Step
-    requires { ⌜ (at + lineRoom ≤ length (now out)) × (room ≤ length (now storage)) × (counts .frames < mostLines) × Counting counts ⌝ }
+    requires { ⌜ (at + lineRoom ≤ length (now out)) × (room ≤ length (now storage)) × (counts .frames < mostLines) × Counting counts × (now table ≡ packedRows) ⌝ }
     ensures { λ r. ⌜ Took (kept receiver (now (storage .entry)) counts) (lineRead (now (text .entry))) (now (out .entry)) at r (now (storage .exit)) (now (out .exit)) ⌝ }
 {
     let line = capture::take_apart(text);
     let answer = line.answer;
     match answer {
-        capture::Reading::Sound => hear(receiver, counts, line, storage, out, at),
+        capture::Reading::Sound => hear(receiver, counts, line, storage, out, at, table),
         capture::Reading::Malformed => malformed(receiver, counts, out, at),
     }
 }

@@ -1,4 +1,5 @@
 pub mod Rule
+pub mod Halving
 pub mod Packing
 pub mod Bits
 pub mod Scales

@@ -11,13 +11,14 @@ use Rattle.frame.specs.Bytes.{numberOf, AreBytes}
 use Rattle.frame.specs.Frame.{checkedOf, frameBytes}
 use Rattle.frame.specs.declared.Parts.{Parts}
 use Rattle.catalogue.specs.Rows.{rows, rowCount}
-use Rattle.catalogue.specs.Table.{rowAt, spanOf}
+use Rattle.catalogue.specs.Table.{nth, rowIn, spanIn, rowWith, liesInFrame, KeepsRule, rowAt, rowOf, spanOf}
+use Rattle.catalogue.specs.Packed.{packedRows, tableRows, tableRow, tableRowWith, tableSpan}
 use Rattle.catalogue.specs.Field.{fieldOf, InFrame}
 use Rattle.catalogue.specs.Classes.{greatestCode, hasThree, classAt, classIn}
 use Rattle.catalogue.specs.Scale.{scaledOf, valueOf}
 use Rattle.catalogue.specs.Codes.{codeOf}
-use Rattle.catalogue.specs.Catalogue.{rowOfDgn, rowFor, readOf, scaledReadOf, replaced, writtenOf}
-use Rattle.catalogue.specs.Promises.{toldLooked, toldReading, toldScaled, toldWriting, Rows, RowAt, RowsOf, Classify, ReadField, ReadScaled, WriteField}
+use Rattle.catalogue.specs.Catalogue.{matching, openedFor, readRowOf, scaledRowOf, writtenRowOf, rowOfDgn, rowFor, readOf, scaledReadOf, replaced, writtenOf}
+use Rattle.catalogue.specs.Promises.{toldLooked, toldReading, toldScaled, toldWriting, Rows, RowAt, RowsOf, RowOf, PackedRows, RowIn, RowsIn, RowOfIn, Classify, ReadField, ReadScaled, WriteField, ReadRow, ReadRowScaled, WriteRow, LookedRefusal, ReadingRefusal, ScaledReadingRefusal, WritingRefusal}
 use Rattle.catalogue.specs.declared.Row.{Row}
 use Rattle.catalogue.specs.declared.Unit.the-variants.{Ampere, Celsius}
 use Rattle.catalogue.specs.declared.Span.{Span}
@@ -54,6 +55,22 @@ RowAtOnly = (n : ℕ) (r s : Looked) → RowAt n r → RowAt n s → r ≡ s
 abbrev pub RowsOfOnly : Type 0
 RowsOfOnly = (dgn : ℕ) (r s : Span) → RowsOf dgn r → RowsOf dgn s → r ≡ s
 
+abbrev pub RowOfOnly : Type 0
+RowOfOnly = (dgn first : ℕ) (r s : Looked) → RowOf dgn first r → RowOf dgn first s → r ≡ s
+
+abbrev pub PackedRowsOnly : Type 0
+PackedRowsOnly = (r s : List ℕ) → PackedRows r → PackedRows s → r ≡ s
+
+abbrev pub RowInOnly : Type 0
+RowInOnly = (table : List ℕ) (n : ℕ) (r s : Looked) → RowIn table n r → RowIn table n s → r ≡ s
+
+abbrev pub RowsInOnly : Type 0
+RowsInOnly = (table : List ℕ) (dgn : ℕ) (r s : Span) → RowsIn table dgn r → RowsIn table dgn s → r ≡ s
+
+abbrev pub RowOfInOnly : Type 0
+RowOfInOnly =
+    (table : List ℕ) (dgn first : ℕ) (r s : Looked) → RowOfIn table dgn first r → RowOfIn table dgn first s → r ≡ s
+
 abbrev pub ClassifyOnly : Type 0
 ClassifyOnly = (row : Row) (number : ℕ) (r s : Field) → Classify row number r → Classify row number s → r ≡ s
 
@@ -68,13 +85,54 @@ WriteOnly =
     (n id : ℕ) (bytes : List ℕ) (value : Value) (r s : Writing) (after after′ : List ℕ)
     → WriteField n id bytes value r after → WriteField n id bytes value s after′ → (r ≡ s) × (after ≡ after′)
 
+abbrev pub ReadRowOnly : Type 0
+ReadRowOnly = (row : Row) (id : ℕ) (bytes : List ℕ) (r s : Reading) → ReadRow row id bytes r → ReadRow row id bytes s → r ≡ s
+
+abbrev pub ReadRowScaledOnly : Type 0
+ReadRowScaledOnly =
+    (row : Row) (id : ℕ) (bytes : List ℕ) (r s : ScaledReading) → ReadRowScaled row id bytes r → ReadRowScaled row id bytes s
+    → r ≡ s
+
+abbrev pub WriteRowOnly : Type 0
+WriteRowOnly =
+    (row : Row) (id : ℕ) (bytes : List ℕ) (value : Value) (r s : Writing) (after after′ : List ℕ)
+    → WriteRow row id bytes value r after → WriteRow row id bytes value s after′ → (r ≡ s) × (after ≡ after′)
+
+abbrev pub LookedRefusalOnly : Type 0
+LookedRefusalOnly = (answer : Looked) (r s : ℕ) → LookedRefusal answer r → LookedRefusal answer s → r ≡ s
+
+abbrev pub ReadingRefusalOnly : Type 0
+ReadingRefusalOnly = (answer : Reading) (r s : ℕ) → ReadingRefusal answer r → ReadingRefusal answer s → r ≡ s
+
+abbrev pub ScaledReadingRefusalOnly : Type 0
+ScaledReadingRefusalOnly = (answer : ScaledReading) (r s : ℕ) → ScaledReadingRefusal answer r → ScaledReadingRefusal answer s → r ≡ s
+
+abbrev pub WritingRefusalOnly : Type 0
+WritingRefusalOnly = (answer : Writing) (r s : ℕ) → WritingRefusal answer r → WritingRefusal answer s → r ≡ s
+
 -- A refused write leaves the frame's bytes.
 abbrev pub RefusedKeeps : Type 0
 RefusedKeeps =
     (n id : ℕ) (bytes : List ℕ) (value : Value) (r : Writing) (after : List ℕ) (k : ℕ)
     → WriteField n id bytes value r after → toldWriting r ≡ refused k → after ≡ bytes
 
+abbrev pub RowRefusedKeeps : Type 0
+RowRefusedKeeps =
+    (row : Row) (id : ℕ) (bytes : List ℕ) (value : Value) (r : Writing) (after : List ℕ) (k : ℕ)
+    → WriteRow row id bytes value r after → toldWriting r ≡ refused k → after ≡ bytes
+
 -- The lowest number wins: what the frame alone earns, then 11, then 12.
+pub record RowLowestWins (row : Row) (id : ℕ) (bytes : List ℕ) (value : Value) : Type 0 where
+  pub frame-first :
+      (k : ℕ) → checkedOf id (length bytes) ≡ refused k
+      → (readRowOf row id bytes ≡ refused k) × (scaledRowOf row id bytes ≡ refused k) × (writtenRowOf row id bytes value ≡ refused k)
+  pub row-next :
+      (parts : Parts) → checkedOf id (length bytes) ≡ gives parts → matching row (parts .dgn) ≡ refused 11
+      → (readRowOf row id bytes ≡ refused 11) × (scaledRowOf row id bytes ≡ refused 11) × (writtenRowOf row id bytes value ≡ refused 11)
+  pub code-last :
+      (r : Row) → openedFor row id (length bytes) ≡ gives r → codeOf r value ≡ refused 12
+      → writtenRowOf row id bytes value ≡ refused 12
+
 pub record LowestWins (n id : ℕ) (bytes : List ℕ) (value : Value) : Type 0 where
   pub frame-first :
       (k : ℕ) → checkedOf id (length bytes) ≡ refused k
@@ -84,7 +142,92 @@ pub record LowestWins (n id : ℕ) (bytes : List ℕ) (value : Value) : Type 0 w
       → (readOf n id bytes ≡ refused 11) × (scaledReadOf n id bytes ≡ refused 11) × (writtenOf n id bytes value ≡ refused 11)
   pub code-last : (row : Row) → rowFor n id (length bytes) ≡ gives row → codeOf row value ≡ refused 12 → writtenOf n id bytes value ≡ refused 12
 
--- The rule of the whole table: rows rise strictly by DGN and then first bit, each ends at or before bit 63, and two rows of one DGN share no bit.
+-- The computed test says that a row lies in a frame; one that does not is refused.
+
+abbrev pub LiesInFrame : Type 0
+LiesInFrame = (row : Row) → (liesInFrame row ≡ true) ↔ InFrame (row .first) (row .width)
+
+abbrev pub OutsideRefused : Type 0
+OutsideRefused = (row : Row) (dgn : ℕ) → (InFrame (row .first) (row .width) → ⊥) → matching row dgn ≡ refused 11
+
+-- The rule of a table, in any list of rows that keeps it: rows rise strictly by DGN and then first bit, each ends at or before bit 63, two rows of one
+-- DGN share no bit, the span of a DGN has its rows and no others, and a row is found by its DGN and first bit.
+
+abbrev pub HasBit : Row → ℕ → Type 0
+HasBit row b = (row .first ≤ b) × (b < row .first + row .width)
+
+pub record Ruled (list : List Row) : Type 0 where
+  pub rising :
+      (i j : ℕ) → i < j → j < length list
+      → (nth list i .dgn < nth list j .dgn) ⊎ ((nth list i .dgn ≡ nth list j .dgn) × (nth list i .first < nth list j .first))
+  pub ends : (i : ℕ) → i < length list → InFrame (nth list i .first) (nth list i .width)
+  pub apart :
+      (i j b : ℕ) → i < length list → j < length list → (i ≡ j → ⊥) → nth list i .dgn ≡ nth list j .dgn
+      → HasBit (nth list i) b → HasBit (nth list j) b → ⊥
+  pub exactly :
+      (dgn n : ℕ) → n < length list
+      → ((spanIn list dgn .start ≤ n) × (n < spanIn list dgn .start + spanIn list dgn .count)) ↔ (nth list n .dgn ≡ dgn)
+  pub one-row : (n : ℕ) → n < length list → rowWith list (nth list n .dgn) (nth list n .first) ≡ gives (nth list n)
+
+abbrev pub RuleHolds : Type 0
+RuleHolds = (list : List Row) → KeepsRule list → Ruled list
+
+abbrev pub CatalogueRule : Type 0
+CatalogueRule = KeepsRule rows
+
+-- In any list, a row that is found is a row of the list with that DGN and first bit, and a span is within the list.
+
+pub record FoundWith (list : List Row) (dgn first : ℕ) (row : Row) : Type 0 where
+  pub number : ℕ
+  pub there : number < length list
+  pub is : row ≡ nth list number
+  pub dgn-is : row .dgn ≡ dgn
+  pub first-is : row .first ≡ first
+
+abbrev pub RowFound : Type 0
+RowFound = (list : List Row) (dgn first : ℕ) (row : Row) → rowWith list dgn first ≡ gives row → FoundWith list dgn first row
+
+abbrev pub SpanWithin : Type 0
+SpanWithin = (list : List Row) (dgn : ℕ) → spanIn list dgn .start + spanIn list dgn .count ≤ length list
+
+-- A lent table that keeps the rule: what is found in it is what its rows have. In any table a span is within it.
+
+abbrev pub RowInRuled : Type 0
+RowInRuled = (table : List ℕ) (n : ℕ) → KeepsRule (tableRows table) → tableRow table n ≡ rowIn (tableRows table) n
+
+abbrev pub RowsInRuled : Type 0
+RowsInRuled = (table : List ℕ) (dgn : ℕ) → KeepsRule (tableRows table) → tableSpan table dgn ≡ spanIn (tableRows table) dgn
+
+abbrev pub RowOfInRuled : Type 0
+RowOfInRuled =
+    (table : List ℕ) (dgn first : ℕ) → KeepsRule (tableRows table) → tableRowWith table dgn first ≡ rowWith (tableRows table) dgn first
+
+abbrev pub RowsInWithin : Type 0
+RowsInWithin = (table : List ℕ) (dgn : ℕ) → tableSpan table dgn .start + tableSpan table dgn .count ≤ length table
+
+-- The catalogue's own table is the catalogue.
+
+abbrev pub RowInPacked : Type 0
+RowInPacked = (n : ℕ) → tableRow packedRows n ≡ rowOf n
+
+abbrev pub RowsInPacked : Type 0
+RowsInPacked = (dgn : ℕ) → tableSpan packedRows dgn ≡ spanOf dgn
+
+abbrev pub RowOfInPacked : Type 0
+RowOfInPacked = (dgn first : ℕ) → tableRowWith packedRows dgn first ≡ rowWith rows dgn first
+
+-- Reading and writing by number are reading and writing the row with that number.
+
+abbrev pub ReadAt : Type 0
+ReadAt = (n id : ℕ) (bytes : List ℕ) → readOf n id bytes ≡ readRowOf (rowAt n) id bytes
+
+abbrev pub ScaledAt : Type 0
+ScaledAt = (n id : ℕ) (bytes : List ℕ) → scaledReadOf n id bytes ≡ scaledRowOf (rowAt n) id bytes
+
+abbrev pub WrittenAt : Type 0
+WrittenAt = (n id : ℕ) (bytes : List ℕ) (value : Value) → writtenOf n id bytes value ≡ writtenRowOf (rowAt n) id bytes value
+
+-- The same of the catalogue.
 
 abbrev pub RowCount : Type 0
 RowCount = length rows ≡ rowCount
@@ -94,9 +237,6 @@ Rising = (i j : ℕ) → i < j → j < rowCount → (rowAt i .dgn < rowAt j .dgn
 
 abbrev pub Ends : Type 0
 Ends = (i : ℕ) → i < rowCount → InFrame (rowAt i .first) (rowAt i .width)
-
-abbrev pub HasBit : Row → ℕ → Type 0
-HasBit row b = (row .first ≤ b) × (b < row .first + row .width)
 
 abbrev pub Apart : Type 0
 Apart = (i j b : ℕ) → i < rowCount → j < rowCount → (i ≡ j → ⊥) → rowAt i .dgn ≡ rowAt j .dgn → HasBit (rowAt i) b → HasBit (rowAt j) b → ⊥
@@ -155,6 +295,17 @@ ValueBack = (row : Row) (value : Value) (code : ℕ) → codeOf row value ≡ gi
 
 -- What was written is read back, with the code that stands for it.
 
+abbrev pub RowReadsBack : Type 0
+RowReadsBack =
+    (row : Row) (id : ℕ) (bytes new : List ℕ) (value : Value) → AreBytes bytes → writtenRowOf row id bytes value ≡ gives new
+    → scaledRowOf row id new ≡ gives value
+
+abbrev pub RowReadsCode : Type 0
+RowReadsCode =
+    (row : Row) (id : ℕ) (bytes : List ℕ) (value : Value) (r : Row) (code : ℕ)
+    → AreBytes bytes → openedFor row id (length bytes) ≡ gives r → codeOf r value ≡ gives code
+    → readRowOf row id (replaced r code bytes) ≡ gives (fieldAt r code)
+
 abbrev pub ReadsBack : Type 0
 ReadsBack =
     (n id : ℕ) (bytes new : List ℕ) (value : Value) → AreBytes bytes → writtenOf n id bytes value ≡ gives new → scaledReadOf n id new ≡ gives value
@@ -165,6 +316,24 @@ ReadsCode =
     → readOf n id (replaced row code bytes) ≡ gives (fieldAt row code)
 
 -- Every other row of the frame reads as it did, and every bit outside the row is as it was; the frame keeps eight bytes.
+
+abbrev pub RowReadsOthers : Type 0
+RowReadsOthers =
+    (row other : Row) (id : ℕ) (bytes new : List ℕ) (value : Value)
+    → AreBytes bytes → (row .dgn ≡ other .dgn → (b : ℕ) → HasBit row b → HasBit other b → ⊥)
+    → writtenRowOf row id bytes value ≡ gives new
+    → (readRowOf other id new ≡ readRowOf other id bytes) × (scaledRowOf other id new ≡ scaledRowOf other id bytes)
+
+abbrev pub RowBitsKept : Type 0
+RowBitsKept =
+    (row : Row) (id b : ℕ) (bytes new : List ℕ) (value : Value)
+    → AreBytes bytes → (HasBit row b → ⊥) → writtenRowOf row id bytes value ≡ gives new
+    → bitOf b (numberOf new) ≡ bitOf b (numberOf bytes)
+
+abbrev pub RowEightBytes : Type 0
+RowEightBytes =
+    (row : Row) (id : ℕ) (bytes new : List ℕ) (value : Value) → writtenRowOf row id bytes value ≡ gives new
+    → (length new ≡ frameBytes) × AreBytes new
 
 abbrev pub ReadsOthers : Type 0
 ReadsOthers =

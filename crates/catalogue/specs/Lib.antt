@@ -1,7 +1,7 @@
 pub mod Rows
+pub mod Field
 pub mod Table
 pub mod Packed
-pub mod Field
 pub mod Classes
 pub mod Scale
 pub mod Codes

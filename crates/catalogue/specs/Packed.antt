@@ -1,10 +1,13 @@
--- How a row stands in the code's table: one number, in hexadecimal digits DGN (5), first bit (2), width (2), unit (1), plain mark (1).
-use mathlib.Core.List.{map}
-use Prim.Native.Nat.{ℕ, _+_, _*_, _/_, _%_}
-use lib.ListN.{getD}
-use Rattle.frame.specs.Words.{if_then_else_, _=?_}
+-- A table of packed rows. A row is one number, in hexadecimal digits DGN (5), first bit (2), width (2), unit (1), plain mark (1).
+use mathlib.Core.Bool.{not}
+use mathlib.Core.List.{List, map}
+use Prim.Native.Nat.{ℕ, zero, suc, _+_, _*_, _-_, _/_, _%_}
+use lib.ListN.{length}
+use Rattle.frame.specs.Words.{if_then_else_, given_then_, _<?_, _=?_, Told, refused, gives}
 use Rattle.catalogue.specs.Rows.{rows}
+use Rattle.catalogue.specs.Table.{nth, rowIn, rowWith, liesInFrame}
 use Rattle.catalogue.specs.declared.Row.{Row}
+use Rattle.catalogue.specs.declared.Span.{Span}
 use Rattle.catalogue.specs.declared.Unit.{Unit}
 use Rattle.catalogue.specs.declared.Unit.the-variants.{Other, Percent, Celsius, Volt, Ampere, Hertz}
 
@@ -38,6 +41,44 @@ unitDigit Hertz = 5
 unfoldable pub pack : Row → ℕ
 pack r = r .dgn * 0x1000000 + r .first * 0x10000 + r .width * 256 + unitDigit (r .unit) * 16 + (if r .plain then 1 else 0)
 
--- the number for the row with a number
-unfoldable pub packedRow : ℕ → ℕ
-packedRow n = getD (map pack rows) n 0
+-- the catalogue, packed
+unfoldable pub packedRows : List ℕ
+packedRows = map pack rows
+
+-- the rows of a table
+abbrev pub tableRows : List ℕ → List Row
+tableRows table = map unpacked table
+
+-- a row of a table is given where it lies in a frame
+unfoldable pub lying : Row → Told Row
+lying row = if liesInFrame row then gives row else refused 11
+
+-- by its number
+unfoldable pub tableRow : List ℕ → ℕ → Told Row
+tableRow table n = given rowIn (tableRows table) n then λ row. lying row
+
+-- by DGN and first bit
+unfoldable pub tableRowWith : List ℕ → ℕ → ℕ → Told Row
+tableRowWith table dgn first = given rowWith (tableRows table) dgn first then λ row. lying row
+
+-- Halving: where the rows with a DGN below the key end, in a list whose DGNs never fall; each turn halves the stretch from `low` to `high`.
+abbrev pub middle : ℕ → ℕ → ℕ
+middle low high = low + (high - low) / 2
+
+unfoldable pub halve : ℕ → List Row → ℕ → ℕ → ℕ → ℕ
+halve zero list key low high = low
+halve (suc turns) list key low high =
+    if not (low <? high) then low else
+    if nth list (middle low high) .dgn <? key then halve turns list key (middle low high + 1) high else
+    halve turns list key low (middle low high)
+
+unfoldable pub halved : List Row → ℕ → ℕ
+halved list key = halve (length list) list key 0 (length list)
+
+-- the rows of a DGN, as halving finds them
+unfoldable pub tableSpan : List ℕ → ℕ → Span
+tableSpan table dgn =
+    record {
+      start = halved (tableRows table) dgn;
+      count = halved (tableRows table) (dgn + 1) - halved (tableRows table) dgn;
+    }

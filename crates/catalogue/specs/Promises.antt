@@ -3,14 +3,15 @@ use mathlib.Core.Path.{_≡_}
 use mathlib.Core.List.{List}
 use Prim.Native.Nat.{ℕ}
 use lib.ListN.{length}
-use Rattle.frame.specs.Words.{Told, refused, gives}
+use Rattle.frame.specs.Words.{Told, refused, gives, numberIn}
 use Rattle.frame.specs.Bytes.{numberOf}
 use Rattle.frame.specs.Identifier.{catalogueForm}
 use Rattle.frame.specs.Frame.{checkedOf}
 use Rattle.frame.specs.Promises.{refusalOf, bytesIf}
 use Rattle.catalogue.specs.Rows.{rows}
-use Rattle.catalogue.specs.Table.{rowOf, spanOf}
-use Rattle.catalogue.specs.Catalogue.{fieldIn, rowFor, readOf, scaledReadOf, writtenOf}
+use Rattle.catalogue.specs.Table.{rowWith, rowOf, spanOf}
+use Rattle.catalogue.specs.Packed.{packedRows, tableRow, tableRowWith, tableSpan}
+use Rattle.catalogue.specs.Catalogue.{fieldIn, openedFor, readRowOf, scaledRowOf, writtenRowOf, readOf, scaledReadOf, writtenOf}
 use Rattle.catalogue.specs.declared.Row.{Row}
 use Rattle.catalogue.specs.declared.Span.{Span}
 use Rattle.catalogue.specs.declared.Field.{Field}
@@ -41,17 +42,39 @@ toldLooked Looked.NoSuchRow = refused 11
 pub record RowAt (n : ℕ) (r : Looked) : Type 0 where
   pub answer : toldLooked r ≡ rowOf n
 
+pub record LookedRefusal (answer : Looked) (r : ℕ) : Type 0 where
+  pub number : r ≡ numberIn (toldLooked answer)
+
 -- rows_of
 
 pub record RowsOf (dgn : ℕ) (r : Span) : Type 0 where
   pub answer : r ≡ spanOf (catalogueForm dgn)
+
+-- row_of
+
+pub record RowOf (dgn first : ℕ) (r : Looked) : Type 0 where
+  pub answer : toldLooked r ≡ rowWith rows (catalogueForm dgn) first
+
+-- packed_rows, and the calls on a lent table of packed rows: row_in, rows_in, row_of_in
+
+pub record PackedRows (r : List ℕ) : Type 0 where
+  pub answer : r ≡ packedRows
+
+pub record RowIn (table : List ℕ) (n : ℕ) (r : Looked) : Type 0 where
+  pub answer : toldLooked r ≡ tableRow table n
+
+pub record RowsIn (table : List ℕ) (dgn : ℕ) (r : Span) : Type 0 where
+  pub answer : r ≡ tableSpan table (catalogueForm dgn)
+
+pub record RowOfIn (table : List ℕ) (dgn first : ℕ) (r : Looked) : Type 0 where
+  pub answer : toldLooked r ≡ tableRowWith table (catalogueForm dgn) first
 
 -- classify
 
 pub record Classify (row : Row) (number : ℕ) (r : Field) : Type 0 where
   pub answer : r ≡ fieldIn row number
 
--- read
+-- read, and read_row
 
 abbrev pub toldReading : Reading → Told Field
 toldReading (Reading.Is field) = gives field
@@ -61,7 +84,13 @@ toldReading Reading.NoSuchRow = refused 11
 pub record ReadField (n id : ℕ) (bytes : List ℕ) (r : Reading) : Type 0 where
   pub answer : toldReading r ≡ readOf n id bytes
 
--- read_scaled
+pub record ReadRow (row : Row) (id : ℕ) (bytes : List ℕ) (r : Reading) : Type 0 where
+  pub answer : toldReading r ≡ readRowOf row id bytes
+
+pub record ReadingRefusal (answer : Reading) (r : ℕ) : Type 0 where
+  pub number : r ≡ numberIn (toldReading answer)
+
+-- read_scaled, and read_row_scaled
 
 abbrev pub toldScaled : ScaledReading → Told Value
 toldScaled (ScaledReading.Is value) = gives value
@@ -71,7 +100,13 @@ toldScaled ScaledReading.NoSuchRow = refused 11
 pub record ReadScaled (n id : ℕ) (bytes : List ℕ) (r : ScaledReading) : Type 0 where
   pub answer : toldScaled r ≡ scaledReadOf n id bytes
 
--- write: the answer, and the frame's bytes afterwards
+pub record ReadRowScaled (row : Row) (id : ℕ) (bytes : List ℕ) (r : ScaledReading) : Type 0 where
+  pub answer : toldScaled r ≡ scaledRowOf row id bytes
+
+pub record ScaledReadingRefusal (answer : ScaledReading) (r : ℕ) : Type 0 where
+  pub number : r ≡ numberIn (toldScaled answer)
+
+-- write, and write_row: the answer, and the frame's bytes afterwards
 
 pub data Done : Type 0 where
   done : Done
@@ -95,13 +130,20 @@ pub record WriteField (n id : ℕ) (bytes : List ℕ) (value : Value) (r : Writi
   pub answer : toldWriting r ≡ doneIf (writtenOf n id bytes value)
   pub data-bytes : after ≡ bytesAfter (writtenOf n id bytes value) bytes
 
--- open, which the three calls above share: the row for a frame, and the frame's bytes as a number
+pub record WriteRow (row : Row) (id : ℕ) (bytes : List ℕ) (value : Value) (r : Writing) (after : List ℕ) : Type 0 where
+  pub answer : toldWriting r ≡ doneIf (writtenRowOf row id bytes value)
+  pub data-bytes : after ≡ bytesAfter (writtenRowOf row id bytes value) bytes
+
+pub record WritingRefusal (answer : Writing) (r : ℕ) : Type 0 where
+  pub number : r ≡ numberIn (toldWriting answer)
+
+-- open_row, which the three calls on a row share: the row for a frame, and the frame's bytes as a number
 
 abbrev pub toldOutcome : Outcome → Told Row
 toldOutcome (Outcome.At row) = gives row
 toldOutcome (Outcome.Bad why) = refused (refusalOf why)
 toldOutcome Outcome.NoSuchRow = refused 11
 
-pub record Opens (n id : ℕ) (bytes : List ℕ) (r : Opened) : Type 0 where
-  pub outcome : toldOutcome (r .outcome) ≡ rowFor n id (length bytes)
+pub record Opens (row : Row) (id : ℕ) (bytes : List ℕ) (r : Opened) : Type 0 where
+  pub outcome : toldOutcome (r .outcome) ≡ openedFor row id (length bytes)
   pub number : r .number ≡ numberOf (bytesIf (checkedOf id (length bytes)) bytes)

@@ -6,15 +6,25 @@ ghost use Rattle.frame.specs.Bytes.{bytesOf};
 ghost use Rattle.frame.specs.Frame.{frameBytes};
 ghost use Rattle.catalogue.specs.Field.{fieldOf, withField, InFrame};
 
+// The greatest width, the bits of a frame, and its bytes.
+pub const WIDEST: u8 = 32;
+
+pub const FRAME_BITS: u8 = 64;
+
+const FRAME_BYTES: usize = 8;
+
+// How many values a byte has.
+const BYTE_VALUES: u64 = 256;
+
 // The code in a field; 0 beyond the frame.
 pub fn cut(number: u64, first: u8, width: u8) -> u64
     ensures { λ r. ⌜ r ≡ fieldOf first width number ⌝ }
 {
-    if 64 <= first {
+    if FRAME_BITS <= first {
         return 0;
     }
     let rest = number >> first;
-    if 64 <= width {
+    if FRAME_BITS <= width {
         return rest;
     }
     rest % power(width)
@@ -37,9 +47,9 @@ pub fn store(bytes: &mut [u8], number: u64)
 {
     let mut rest = number;
     let mut i: usize = 0;
-    while i < 8 {
+    while i < FRAME_BYTES {
         bytes[i] = low(rest);
-        rest = rest / 256;
+        rest = rest / BYTE_VALUES;
         i += 1;
     }
 }
@@ -54,5 +64,5 @@ pub fn power(k: u8) -> u64
 fn low(number: u64) -> u8
     ensures { λ r. ⌜ r ≡ number % 256 ⌝ }
 {
-    (number % 256) as u8
+    (number % BYTE_VALUES) as u8
 }

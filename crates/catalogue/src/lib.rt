@@ -1,7 +1,8 @@
 // The field catalogue of RV-C: its rows, a field's class and code, its scaled value, and a field written.
 ghost use mathlib.Core.Path.{_≡_};
-ghost use Rattle.catalogue.specs.Catalogue.{rowOfDgn};
-ghost use Rattle.catalogue.specs.Promises.{Rows, RowAt, RowsOf, Classify, ReadField, ReadScaled, WriteField, Opens, toldOutcome};
+ghost use Rattle.catalogue.specs.Table.{rowAt};
+ghost use Rattle.catalogue.specs.Catalogue.{matching};
+ghost use Rattle.catalogue.specs.Promises.{Rows, RowAt, RowsOf, RowOf, PackedRows, RowIn, RowsIn, RowOfIn, Classify, ReadField, ReadScaled, WriteField, ReadRow, ReadRowScaled, WriteRow, LookedRefusal, ReadingRefusal, ScaledReadingRefusal, WritingRefusal, Opens, toldOutcome};
 
 mod classes;
 pub mod dgns;
@@ -84,28 +85,119 @@ pub enum Writing {
     NoCode,
 }
 
+impl Looked {
+    // The number of the refusal; 0 where there is a row.
+    pub fn refusal(self) -> u8
+        ensures { λ r. ⌜ LookedRefusal self r ⌝ }
+    {
+        let answer = self;
+        match answer {
+            Looked::Is(_) => 0,
+            Looked::NoSuchRow => 11,
+        }
+    }
+}
+
+impl Reading {
+    // The number of the refusal; 0 where the field is read.
+    pub fn refusal(self) -> u8
+        ensures { λ r. ⌜ ReadingRefusal self r ⌝ }
+    {
+        let answer = self;
+        match answer {
+            Reading::Is(_) => 0,
+            Reading::BadFrame(why) => why.refusal(),
+            Reading::NoSuchRow => 11,
+        }
+    }
+}
+
+impl ScaledReading {
+    // The number of the refusal; 0 where the value is read.
+    pub fn refusal(self) -> u8
+        ensures { λ r. ⌜ ScaledReadingRefusal self r ⌝ }
+    {
+        let answer = self;
+        match answer {
+            ScaledReading::Is(_) => 0,
+            ScaledReading::BadFrame(why) => why.refusal(),
+            ScaledReading::NoSuchRow => 11,
+        }
+    }
+}
+
+impl Writing {
+    // The number of the refusal; 0 where the field is written.
+    pub fn refusal(self) -> u8
+        ensures { λ r. ⌜ WritingRefusal self r ⌝ }
+    {
+        let answer = self;
+        match answer {
+            Writing::Written => 0,
+            Writing::BadFrame(why) => why.refusal(),
+            Writing::NoSuchRow => 11,
+            Writing::NoCode => 12,
+        }
+    }
+}
+
 // How many rows the catalogue has.
 pub fn rows() -> usize
     ensures { λ r. ⌜ Rows r ⌝ }
 {
-    table::COUNT
+    packed::COUNT
 }
 
 // The row with this number, from 0.
 pub fn row_at(n: usize) -> Looked
     ensures { λ r. ⌜ RowAt n r ⌝ }
 {
-    if table::COUNT <= n {
-        return Looked::NoSuchRow;
-    }
-    Looked::Is(table::nth(n))
+    let table = packed_rows();
+    row_in(&table, n)
 }
 
 // The rows of a DGN, as it stands in a frame.
 pub fn rows_of(dgn: u32) -> Span
     ensures { λ r. ⌜ RowsOf dgn r ⌝ }
 {
-    table::span_of(frame::catalogue_form(dgn))
+    let table = packed_rows();
+    rows_in(&table, dgn)
+}
+
+// The row of a DGN, as it stands in a frame, that begins at this bit.
+pub fn row_of(dgn: u32, first: u8) -> Looked
+    ensures { λ r. ⌜ RowOf dgn first r ⌝ }
+{
+    let table = packed_rows();
+    row_of_in(&table, dgn, first)
+}
+
+// The catalogue as a table of packed rows, for a program that holds it and lends it: each call above makes it anew.
+pub fn packed_rows() -> [u64; 375]
+    ensures { λ r. ⌜ PackedRows r ⌝ }
+{
+    packed::ROWS
+}
+
+// The row of a table with this number, from 0.
+pub fn row_in(table: &[u64], n: usize) -> Looked
+    ensures { λ r. ⌜ RowIn (now (table .entry)) n r ⌝ }
+{
+    table::row_in(table, n)
+}
+
+// The rows of a DGN in a table, as it stands in a frame.
+pub fn rows_in(table: &[u64], dgn: u32) -> Span
+    ensures { λ r. ⌜ RowsIn (now (table .entry)) dgn r ⌝ }
+{
+    table::span_in(table, frame::catalogue_form(dgn))
+}
+
+// The row of a DGN in a table, as it stands in a frame, that begins at this bit.
+pub fn row_of_in(table: &[u64], dgn: u32, first: u8) -> Looked
+    ensures { λ r. ⌜ RowOfIn (now (table .entry)) dgn first r ⌝ }
+{
+    table::row_with(table, frame::catalogue_form(dgn), first)
 }
 
 // A row's field in a frame whose eight bytes are this number.
@@ -120,10 +212,10 @@ pub fn classify(row: Row, number: u64) -> Field
 }
 
 // Reads a row's field from a frame.
-pub fn read(n: usize, id: u32, bytes: &[u8]) -> Reading
-    ensures { λ r. ⌜ ReadField n id (now (bytes .entry)) r ⌝ }
+pub fn read_row(row: Row, id: u32, bytes: &[u8]) -> Reading
+    ensures { λ r. ⌜ ReadRow row id (now (bytes .entry)) r ⌝ }
 {
-    let opened = row_for(n, id, bytes);
+    let opened = open_row(row, id, bytes);
     let outcome = opened.outcome;
     match outcome {
         Outcome::Bad(why) => Reading::BadFrame(why),
@@ -133,10 +225,10 @@ pub fn read(n: usize, id: u32, bytes: &[u8]) -> Reading
 }
 
 // Reads a row's field from a frame as a scaled value.
-pub fn read_scaled(n: usize, id: u32, bytes: &[u8]) -> ScaledReading
-    ensures { λ r. ⌜ ReadScaled n id (now (bytes .entry)) r ⌝ }
+pub fn read_row_scaled(row: Row, id: u32, bytes: &[u8]) -> ScaledReading
+    ensures { λ r. ⌜ ReadRowScaled row id (now (bytes .entry)) r ⌝ }
 {
-    let opened = row_for(n, id, bytes);
+    let opened = open_row(row, id, bytes);
     let outcome = opened.outcome;
     match outcome {
         Outcome::Bad(why) => ScaledReading::BadFrame(why),
@@ -146,10 +238,10 @@ pub fn read_scaled(n: usize, id: u32, bytes: &[u8]) -> ScaledReading
 }
 
 // Writes a value into a row's field of a frame, and alters no other bit.
-pub fn write(n: usize, id: u32, bytes: &mut [u8], value: Value) -> Writing
-    ensures { λ r. ⌜ WriteField n id (now (bytes .entry)) value r (now (bytes .exit)) ⌝ }
+pub fn write_row(row: Row, id: u32, bytes: &mut [u8], value: Value) -> Writing
+    ensures { λ r. ⌜ WriteRow row id (now (bytes .entry)) value r (now (bytes .exit)) ⌝ }
 {
-    let opened = row_for(n, id, bytes);
+    let opened = open_row(row, id, bytes);
     let outcome = opened.outcome;
     match outcome {
         Outcome::Bad(why) => Writing::BadFrame(why),
@@ -167,6 +259,35 @@ pub fn write(n: usize, id: u32, bytes: &mut [u8], value: Value) -> Writing
     }
 }
 
+// Reads the field of the row with this number.
+pub fn read(n: usize, id: u32, bytes: &[u8]) -> Reading
+    ensures { λ r. ⌜ ReadField n id (now (bytes .entry)) r ⌝ }
+{
+    read_row(nth(n), id, bytes)
+}
+
+// Reads the field of the row with this number as a scaled value.
+pub fn read_scaled(n: usize, id: u32, bytes: &[u8]) -> ScaledReading
+    ensures { λ r. ⌜ ReadScaled n id (now (bytes .entry)) r ⌝ }
+{
+    read_row_scaled(nth(n), id, bytes)
+}
+
+// Writes a value into the field of the row with this number.
+pub fn write(n: usize, id: u32, bytes: &mut [u8], value: Value) -> Writing
+    ensures { λ r. ⌜ WriteField n id (now (bytes .entry)) value r (now (bytes .exit)) ⌝ }
+{
+    write_row(nth(n), id, bytes, value)
+}
+
+// The row with this number; past the end one that lies in no frame.
+fn nth(n: usize) -> Row
+    ensures { λ r. ⌜ r ≡ rowAt n ⌝ }
+{
+    let table = packed_rows();
+    table::at(&table, n)
+}
+
 // A frame of a row's DGN, or why not.
 enum Outcome {
     At(Row),
@@ -179,8 +300,8 @@ struct Opened {
     number: u64,
 }
 
-fn row_for(n: usize, id: u32, bytes: &[u8]) -> Opened
-    ensures { λ r. ⌜ Opens n id (now (bytes .entry)) r ⌝ }
+fn open_row(row: Row, id: u32, bytes: &[u8]) -> Opened
+    ensures { λ r. ⌜ Opens row id (now (bytes .entry)) r ⌝ }
 {
     let checked = frame::check(id, bytes);
     let verdict = checked.verdict;
@@ -192,23 +313,20 @@ fn row_for(n: usize, id: u32, bytes: &[u8]) -> Opened
             number,
         },
         frame::Verdict::Sound(parts) => Opened {
-            outcome: row_of_dgn(n, parts.dgn),
+            outcome: match_row(row, parts.dgn),
             number,
         },
     }
 }
 
-fn row_of_dgn(n: usize, dgn: u32) -> Outcome
-    ensures { λ r. ⌜ toldOutcome r ≡ rowOfDgn n dgn ⌝ }
+fn match_row(row: Row, dgn: u32) -> Outcome
+    ensures { λ r. ⌜ toldOutcome r ≡ matching row dgn ⌝ }
 {
-    let looked = row_at(n);
-    match looked {
-        Looked::NoSuchRow => Outcome::NoSuchRow,
-        Looked::Is(row) => {
-            if row.dgn != frame::catalogue_form(dgn) {
-                return Outcome::NoSuchRow;
-            }
-            Outcome::At(row)
-        }
+    if !table::lies_in_frame(row) {
+        return Outcome::NoSuchRow;
     }
+    if row.dgn != frame::catalogue_form(dgn) {
+        return Outcome::NoSuchRow;
+    }
+    Outcome::At(row)
 }

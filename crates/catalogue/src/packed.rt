@@ -1,35 +1,7 @@
 // The rows of the catalogue, a number each: DGN, first bit, width, unit, plain mark (made by tools/catalogue from docs/catalogue.tsv).
-// A constant array is made anew wherever it is read, so the rows stand in parts.
-ghost use mathlib.Core.Path.{_≡_};
-ghost use Prim.Native.Nat.{_<_};
-ghost use Rattle.catalogue.specs.Rows.{rowCount};
-ghost use Rattle.catalogue.specs.Packed.{packedRow};
+pub const COUNT: usize = 375;
 
-// The row with this number.
-pub fn row(n: usize) -> u64
-    requires { ⌜ n < rowCount ⌝ }
-    ensures { λ r. ⌜ r ≡ packedRow n ⌝ }
-{
-    match n {
-        0..=24 => ROWS_0[n],
-        25..=49 => ROWS_1[n - 25],
-        50..=74 => ROWS_2[n - 50],
-        75..=99 => ROWS_3[n - 75],
-        100..=124 => ROWS_4[n - 100],
-        125..=149 => ROWS_5[n - 125],
-        150..=174 => ROWS_6[n - 150],
-        175..=199 => ROWS_7[n - 175],
-        200..=224 => ROWS_8[n - 200],
-        225..=249 => ROWS_9[n - 225],
-        250..=274 => ROWS_10[n - 250],
-        275..=299 => ROWS_11[n - 275],
-        300..=324 => ROWS_12[n - 300],
-        325..=349 => ROWS_13[n - 325],
-        _ => ROWS_14[n - 350],
-    }
-}
-
-const ROWS_0: [u64; 25] = [
+pub const ROWS: [u64; 375] = [
     0x1FD9C_00_08_0_0,
     0x1FD9C_08_10_0_1,
     0x1FD9C_18_10_0_0,
@@ -55,9 +27,6 @@ const ROWS_0: [u64; 25] = [
     0x1FDAB_20_10_3_0,
     0x1FDAB_30_10_0_0,
     0x1FDAC_00_08_0_0,
-];
-
-const ROWS_1: [u64; 25] = [
     0x1FDAC_08_08_0_0,
     0x1FDAC_10_04_0_0,
     0x1FDAC_18_08_1_0,
@@ -83,9 +52,6 @@ const ROWS_1: [u64; 25] = [
     0x1FDCA_10_08_0_0,
     0x1FE96_00_08_0_0,
     0x1FE96_08_04_0_0,
-];
-
-const ROWS_2: [u64; 25] = [
     0x1FE97_00_08_0_0,
     0x1FE97_08_04_0_0,
     0x1FE97_10_02_0_0,
@@ -111,9 +77,6 @@ const ROWS_2: [u64; 25] = [
     0x1FE99_26_02_0_0,
     0x1FE99_28_02_0_0,
     0x1FE99_2A_02_0_0,
-];
-
-const ROWS_3: [u64; 25] = [
     0x1FE99_2C_02_0_0,
     0x1FE99_30_02_0_0,
     0x1FE99_32_02_0_0,
@@ -139,9 +102,6 @@ const ROWS_3: [u64; 25] = [
     0x1FEBF_28_10_0_0,
     0x1FECB_00_08_0_0,
     0x1FECB_08_10_3_0,
-];
-
-const ROWS_4: [u64; 25] = [
     0x1FECB_18_10_3_0,
     0x1FECB_28_10_3_0,
     0x1FECB_38_08_0_0,
@@ -167,9 +127,6 @@ const ROWS_4: [u64; 25] = [
     0x1FEF6_08_08_0_0,
     0x1FEF6_10_02_0_0,
     0x1FEF6_12_02_0_0,
-];
-
-const ROWS_5: [u64; 25] = [
     0x1FEF6_14_02_0_0,
     0x1FEF6_16_02_0_0,
     0x1FEF6_1C_02_0_0,
@@ -195,9 +152,6 @@ const ROWS_5: [u64; 25] = [
     0x1FEFA_18_02_0_0,
     0x1FF86_00_08_0_0,
     0x1FF86_08_08_5_0,
-];
-
-const ROWS_6: [u64; 25] = [
     0x1FF86_10_08_5_0,
     0x1FF87_00_08_0_0,
     0x1FF87_08_08_3_0,
@@ -223,9 +177,6 @@ const ROWS_6: [u64; 25] = [
     0x1FF8A_14_02_0_0,
     0x1FF8A_16_02_0_0,
     0x1FF8A_18_04_0_0,
-];
-
-const ROWS_7: [u64; 25] = [
     0x1FF95_00_08_0_0,
     0x1FF95_08_08_1_0,
     0x1FF95_10_08_1_0,
@@ -251,9 +202,6 @@ const ROWS_7: [u64; 25] = [
     0x1FF9A_08_08_0_0,
     0x1FF9A_10_08_1_0,
     0x1FF9A_18_08_1_0,
-];
-
-const ROWS_8: [u64; 25] = [
     0x1FF9A_20_08_0_0,
     0x1FF9A_28_08_0_0,
     0x1FF9A_30_08_1_0,
@@ -279,9 +227,6 @@ const ROWS_8: [u64; 25] = [
     0x1FFB6_00_08_0_0,
     0x1FFB6_08_08_0_0,
     0x1FFB6_10_08_0_0,
-];
-
-const ROWS_9: [u64; 25] = [
     0x1FFB6_18_10_0_0,
     0x1FFB6_28_10_0_0,
     0x1FFB7_00_08_0_0,
@@ -307,9 +252,6 @@ const ROWS_9: [u64; 25] = [
     0x1FFC4_20_10_0_0,
     0x1FFC4_30_04_0_0,
     0x1FFC4_38_08_4_0,
-];
-
-const ROWS_10: [u64; 25] = [
     0x1FFC5_00_08_0_0,
     0x1FFC5_08_08_0_0,
     0x1FFC5_10_02_0_0,
@@ -335,9 +277,6 @@ const ROWS_10: [u64; 25] = [
     0x1FFC7_3C_04_0_0,
     0x1FFC8_00_08_0_0,
     0x1FFC8_08_02_0_0,
-];
-
-const ROWS_11: [u64; 25] = [
     0x1FFC8_10_10_0_0,
     0x1FFC8_20_10_0_0,
     0x1FFC8_30_08_1_0,
@@ -363,9 +302,6 @@ const ROWS_11: [u64; 25] = [
     0x1FFE0_28_08_1_0,
     0x1FFE0_30_08_0_0,
     0x1FFE0_38_08_0_0,
-];
-
-const ROWS_12: [u64; 25] = [
     0x1FFE1_00_08_0_0,
     0x1FFE1_08_08_0_0,
     0x1FFE1_10_08_1_0,
@@ -391,9 +327,6 @@ const ROWS_12: [u64; 25] = [
     0x1FFE6_08_02_0_0,
     0x1FFE6_0A_02_0_0,
     0x1FFE6_0C_02_0_0,
-];
-
-const ROWS_13: [u64; 25] = [
     0x1FFE6_0E_02_0_0,
     0x1FFE6_10_02_0_0,
     0x1FFE6_12_02_0_0,
@@ -419,9 +352,6 @@ const ROWS_13: [u64; 25] = [
     0x1FFE8_00_08_0_0,
     0x1FFE8_08_08_0_0,
     0x1FFE8_10_08_1_0,
-];
-
-const ROWS_14: [u64; 25] = [
     0x1FFE8_18_02_0_0,
     0x1FFE8_1A_02_0_0,
     0x1FFE8_1C_02_0_0,

@@ -41,6 +41,18 @@ use Rattle.catalogue.proofs.classify.Met as catalogue-classify
 use Rattle.catalogue.proofs.read.Met as catalogue-read
 use Rattle.catalogue.proofs.read_scaled.Met as catalogue-read-scaled
 use Rattle.catalogue.proofs.write.Met as catalogue-write
+use Rattle.catalogue.proofs.Looked.refusal.Met as catalogue-looked-refusal
+use Rattle.catalogue.proofs.Reading.refusal.Met as catalogue-reading-refusal
+use Rattle.catalogue.proofs.ScaledReading.refusal.Met as catalogue-scaled-reading-refusal
+use Rattle.catalogue.proofs.Writing.refusal.Met as catalogue-writing-refusal
+use Rattle.catalogue.proofs.row_of.Met as catalogue-row-of
+use Rattle.catalogue.proofs.packed_rows.Met as catalogue-packed-rows
+use Rattle.catalogue.proofs.row_in.Met as catalogue-row-in
+use Rattle.catalogue.proofs.rows_in.Met as catalogue-rows-in
+use Rattle.catalogue.proofs.row_of_in.Met as catalogue-row-of-in
+use Rattle.catalogue.proofs.read_row.Met as catalogue-read-row
+use Rattle.catalogue.proofs.read_row_scaled.Met as catalogue-read-row-scaled
+use Rattle.catalogue.proofs.write_row.Met as catalogue-write-row
 use Rattle.claim.specs.Promises as claim-promises
 use Rattle.claim.proofs.Laws as Claim
 use Rattle.claim.proofs.Claim.start.Met as claim-start
@@ -352,6 +364,106 @@ every-call M =
             (Catalogue.write-only
             (a .0) (a .1 .0) (now (a .1 .1 .0)) (a .1 .1 .1 .0) r s (w .1 .1 .0) (v .1 .1 .0) h k);
         only = Catalogue.write-only;
+      };
+      catalogue-looked-refusal = record {
+        meets = catalogue-looked-refusal.met;
+        asks-nothing = free;
+        Promise = λ κs a r e. catalogue-promises.LookedRefusal (a .0) r;
+        promises = λ 𝓤 H A mem run κs a ghost r. refl;
+        one-answer = λ κs a r s w v h k. (Catalogue.looked-refusal-only (a .0) r s h k, refl);
+        only = Catalogue.looked-refusal-only;
+      };
+      catalogue-reading-refusal = record {
+        meets = catalogue-reading-refusal.met;
+        asks-nothing = free;
+        Promise = λ κs a r e. catalogue-promises.ReadingRefusal (a .0) r;
+        promises = λ 𝓤 H A mem run κs a ghost r. refl;
+        one-answer = λ κs a r s w v h k. (Catalogue.reading-refusal-only (a .0) r s h k, refl);
+        only = Catalogue.reading-refusal-only;
+      };
+      catalogue-scaled-reading-refusal = record {
+        meets = catalogue-scaled-reading-refusal.met;
+        asks-nothing = free;
+        Promise = λ κs a r e. catalogue-promises.ScaledReadingRefusal (a .0) r;
+        promises = λ 𝓤 H A mem run κs a ghost r. refl;
+        one-answer = λ κs a r s w v h k. (Catalogue.scaled-reading-refusal-only (a .0) r s h k, refl);
+        only = Catalogue.scaled-reading-refusal-only;
+      };
+      catalogue-writing-refusal = record {
+        meets = catalogue-writing-refusal.met;
+        asks-nothing = free;
+        Promise = λ κs a r e. catalogue-promises.WritingRefusal (a .0) r;
+        promises = λ 𝓤 H A mem run κs a ghost r. refl;
+        one-answer = λ κs a r s w v h k. (Catalogue.writing-refusal-only (a .0) r s h k, refl);
+        only = Catalogue.writing-refusal-only;
+      };
+      catalogue-row-of = record {
+        meets = catalogue-row-of.met;
+        asks-nothing = free;
+        Promise = λ κs a r e. catalogue-promises.RowOf (a .0) (a .1 .0) r;
+        promises = λ 𝓤 H A mem run κs a ghost r. refl;
+        one-answer = λ κs a r s w v h k. (Catalogue.row-of-only (a .0) (a .1 .0) r s h k, refl);
+        only = Catalogue.row-of-only;
+      };
+      catalogue-packed-rows = record {
+        meets = catalogue-packed-rows.met;
+        asks-nothing = free;
+        Promise = λ κs a r e. catalogue-promises.PackedRows r;
+        promises = λ 𝓤 H A mem run κs a ghost r. refl;
+        one-answer = λ κs a r s w v h k. (Catalogue.packed-rows-only r s h k, refl);
+        only = Catalogue.packed-rows-only;
+      };
+      catalogue-row-in = record {
+        meets = catalogue-row-in.met;
+        asks-nothing = free;
+        Promise = λ κs a r e. catalogue-promises.RowIn (now (a .0)) (a .1 .0) r;
+        promises = λ 𝓤 H A mem run κs a ghost r. refl;
+        one-answer = λ κs a r s w v h k. (Catalogue.row-in-only (now (a .0)) (a .1 .0) r s h k, refl);
+        only = Catalogue.row-in-only;
+      };
+      catalogue-rows-in = record {
+        meets = catalogue-rows-in.met;
+        asks-nothing = free;
+        Promise = λ κs a r e. catalogue-promises.RowsIn (now (a .0)) (a .1 .0) r;
+        promises = λ 𝓤 H A mem run κs a ghost r. refl;
+        one-answer = λ κs a r s w v h k. (Catalogue.rows-in-only (now (a .0)) (a .1 .0) r s h k, refl);
+        only = Catalogue.rows-in-only;
+      };
+      catalogue-row-of-in = record {
+        meets = catalogue-row-of-in.met;
+        asks-nothing = free;
+        Promise = λ κs a r e. catalogue-promises.RowOfIn (now (a .0)) (a .1 .0) (a .1 .1 .0) r;
+        promises = λ 𝓤 H A mem run κs a ghost r. refl;
+        one-answer = λ κs a r s w v h k. (Catalogue.row-of-in-only (now (a .0)) (a .1 .0) (a .1 .1 .0) r s h k, refl);
+        only = Catalogue.row-of-in-only;
+      };
+      catalogue-read-row = record {
+        meets = catalogue-read-row.met;
+        asks-nothing = free;
+        Promise = λ κs a r e. catalogue-promises.ReadRow (a .0) (a .1 .0) (now (a .1 .1 .0)) r;
+        promises = λ 𝓤 H A mem run κs a ghost r. refl;
+        one-answer = λ κs a r s w v h k. (Catalogue.read-row-only (a .0) (a .1 .0) (now (a .1 .1 .0)) r s h k, refl);
+        only = Catalogue.read-row-only;
+      };
+      catalogue-read-row-scaled = record {
+        meets = catalogue-read-row-scaled.met;
+        asks-nothing = free;
+        Promise = λ κs a r e. catalogue-promises.ReadRowScaled (a .0) (a .1 .0) (now (a .1 .1 .0)) r;
+        promises = λ 𝓤 H A mem run κs a ghost r. refl;
+        one-answer = λ κs a r s w v h k. (Catalogue.read-row-scaled-only (a .0) (a .1 .0) (now (a .1 .1 .0)) r s h k, refl);
+        only = Catalogue.read-row-scaled-only;
+      };
+      catalogue-write-row = record {
+        meets = catalogue-write-row.met;
+        asks-nothing = free;
+        Promise = λ κs a r e.
+            catalogue-promises.WriteRow (a .0) (a .1 .0) (now (a .1 .1 .0)) (a .1 .1 .1 .0) r (now (e .1 .1 .0));
+        promises = λ 𝓤 H A mem run κs a ghost r. refl;
+        one-answer = λ κs a r s w v h k.
+            lent (λ x. (tt, (tt, (x, (tt, tt)))))
+            (Catalogue.write-row-only
+            (a .0) (a .1 .0) (now (a .1 .1 .0)) (a .1 .1 .1 .0) r s (w .1 .1 .0) (v .1 .1 .0) h k);
+        only = Catalogue.write-row-only;
       };
       claim-start = record {
         meets = claim-start.met;

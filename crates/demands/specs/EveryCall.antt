@@ -51,6 +51,18 @@ use Rattle.catalogue.proofs.classify as catalogue-classify
 use Rattle.catalogue.proofs.read as catalogue-read
 use Rattle.catalogue.proofs.read_scaled as catalogue-read-scaled
 use Rattle.catalogue.proofs.write as catalogue-write
+use Rattle.catalogue.proofs.Looked.refusal as catalogue-looked-refusal
+use Rattle.catalogue.proofs.Reading.refusal as catalogue-reading-refusal
+use Rattle.catalogue.proofs.ScaledReading.refusal as catalogue-scaled-reading-refusal
+use Rattle.catalogue.proofs.Writing.refusal as catalogue-writing-refusal
+use Rattle.catalogue.proofs.row_of as catalogue-row-of
+use Rattle.catalogue.proofs.packed_rows as catalogue-packed-rows
+use Rattle.catalogue.proofs.row_in as catalogue-row-in
+use Rattle.catalogue.proofs.rows_in as catalogue-rows-in
+use Rattle.catalogue.proofs.row_of_in as catalogue-row-of-in
+use Rattle.catalogue.proofs.read_row as catalogue-read-row
+use Rattle.catalogue.proofs.read_row_scaled as catalogue-read-row-scaled
+use Rattle.catalogue.proofs.write_row as catalogue-write-row
 use Rattle.claim.specs.Laws as Claim
 use Rattle.claim.proofs.Claim.start as claim-start
 use Rattle.claim.proofs.Claim.hear as claim-hear
@@ -207,6 +219,38 @@ module _ (M : Type 1) where
         Catalogue.ReadScaledOnly
     pub catalogue-write :
         Answers catalogue-write.ended catalogue-write.Symbol.routine catalogue-write.spec Catalogue.WriteOnly
+    pub catalogue-looked-refusal :
+        Answers catalogue-looked-refusal.ended catalogue-looked-refusal.Symbol.routine catalogue-looked-refusal.spec
+        Catalogue.LookedRefusalOnly
+    pub catalogue-reading-refusal :
+        Answers catalogue-reading-refusal.ended catalogue-reading-refusal.Symbol.routine catalogue-reading-refusal.spec
+        Catalogue.ReadingRefusalOnly
+    pub catalogue-scaled-reading-refusal :
+        Answers catalogue-scaled-reading-refusal.ended catalogue-scaled-reading-refusal.Symbol.routine
+        catalogue-scaled-reading-refusal.spec Catalogue.ScaledReadingRefusalOnly
+    pub catalogue-writing-refusal :
+        Answers catalogue-writing-refusal.ended catalogue-writing-refusal.Symbol.routine catalogue-writing-refusal.spec
+        Catalogue.WritingRefusalOnly
+    pub catalogue-row-of :
+        Answers catalogue-row-of.ended catalogue-row-of.Symbol.routine catalogue-row-of.spec Catalogue.RowOfOnly
+    pub catalogue-packed-rows :
+        Answers catalogue-packed-rows.ended catalogue-packed-rows.Symbol.routine catalogue-packed-rows.spec
+        Catalogue.PackedRowsOnly
+    pub catalogue-row-in :
+        Answers catalogue-row-in.ended catalogue-row-in.Symbol.routine catalogue-row-in.spec Catalogue.RowInOnly
+    pub catalogue-rows-in :
+        Answers catalogue-rows-in.ended catalogue-rows-in.Symbol.routine catalogue-rows-in.spec Catalogue.RowsInOnly
+    pub catalogue-row-of-in :
+        Answers catalogue-row-of-in.ended catalogue-row-of-in.Symbol.routine catalogue-row-of-in.spec
+        Catalogue.RowOfInOnly
+    pub catalogue-read-row :
+        Answers catalogue-read-row.ended catalogue-read-row.Symbol.routine catalogue-read-row.spec Catalogue.ReadRowOnly
+    pub catalogue-read-row-scaled :
+        Answers catalogue-read-row-scaled.ended catalogue-read-row-scaled.Symbol.routine catalogue-read-row-scaled.spec
+        Catalogue.ReadRowScaledOnly
+    pub catalogue-write-row :
+        Answers catalogue-write-row.ended catalogue-write-row.Symbol.routine catalogue-write-row.spec
+        Catalogue.WriteRowOnly
     -- Claiming an address
     pub claim-start : Answers claim-start.ended claim-start.Symbol.routine claim-start.spec Claim.StartOnly
     pub claim-hear : Answers claim-hear.ended claim-hear.Symbol.routine claim-hear.spec Claim.HearOnly

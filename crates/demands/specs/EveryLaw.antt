@@ -19,6 +19,7 @@ use Rattle.nodes.specs.Laws as Nodes
 use Rattle.command.specs.Laws as Command
 use Rattle.capture.specs.Laws as Capture
 use Rattle.message.specs.declared.Place.{Place}
+use Rattle.catalogue.specs.declared.Row.{Row}
 use Rattle.catalogue.specs.declared.Value.{Value}
 use Rattle.claim.specs.declared.Claim.{Claim}
 use Rattle.nodes.specs.declared.Node.{Node}
@@ -180,11 +181,40 @@ pub record CatalogueLaws : Type 0 where
   pub rows-only : Catalogue.RowsOnly
   pub row-at-only : Catalogue.RowAtOnly
   pub rows-of-only : Catalogue.RowsOfOnly
+  pub row-of-only : Catalogue.RowOfOnly
+  pub packed-rows-only : Catalogue.PackedRowsOnly
+  pub row-in-only : Catalogue.RowInOnly
+  pub rows-in-only : Catalogue.RowsInOnly
+  pub row-of-in-only : Catalogue.RowOfInOnly
   pub classify-only : Catalogue.ClassifyOnly
   pub read-only : Catalogue.ReadOnly
   pub read-scaled-only : Catalogue.ReadScaledOnly
   pub write-only : Catalogue.WriteOnly
+  pub read-row-only : Catalogue.ReadRowOnly
+  pub read-row-scaled-only : Catalogue.ReadRowScaledOnly
+  pub write-row-only : Catalogue.WriteRowOnly
+  pub looked-refusal-only : Catalogue.LookedRefusalOnly
+  pub reading-refusal-only : Catalogue.ReadingRefusalOnly
+  pub scaled-reading-refusal-only : Catalogue.ScaledReadingRefusalOnly
+  pub writing-refusal-only : Catalogue.WritingRefusalOnly
   pub refused-keeps : Catalogue.RefusedKeeps
+  pub row-refused-keeps : Catalogue.RowRefusedKeeps
+  pub lies-in-frame : Catalogue.LiesInFrame
+  pub outside-refused : Catalogue.OutsideRefused
+  pub rule-holds : Catalogue.RuleHolds
+  pub catalogue-rule : Catalogue.CatalogueRule
+  pub row-found : Catalogue.RowFound
+  pub span-within : Catalogue.SpanWithin
+  pub row-in-ruled : Catalogue.RowInRuled
+  pub rows-in-ruled : Catalogue.RowsInRuled
+  pub row-of-in-ruled : Catalogue.RowOfInRuled
+  pub rows-in-within : Catalogue.RowsInWithin
+  pub row-in-packed : Catalogue.RowInPacked
+  pub rows-in-packed : Catalogue.RowsInPacked
+  pub row-of-in-packed : Catalogue.RowOfInPacked
+  pub read-at : Catalogue.ReadAt
+  pub scaled-at : Catalogue.ScaledAt
+  pub written-at : Catalogue.WrittenAt
   pub row-count : Catalogue.RowCount
   pub rising : Catalogue.Rising
   pub ends : Catalogue.Ends
@@ -198,6 +228,11 @@ pub record CatalogueLaws : Type 0 where
   pub bit-of-byte : Catalogue.BitOfByte
   pub code-back : Catalogue.CodeBack
   pub value-back : Catalogue.ValueBack
+  pub row-reads-back : Catalogue.RowReadsBack
+  pub row-reads-code : Catalogue.RowReadsCode
+  pub row-reads-others : Catalogue.RowReadsOthers
+  pub row-bits-kept : Catalogue.RowBitsKept
+  pub row-eight-bytes : Catalogue.RowEightBytes
   pub reads-back : Catalogue.ReadsBack
   pub reads-code : Catalogue.ReadsCode
   pub reads-others : Catalogue.ReadsOthers
@@ -206,6 +241,8 @@ pub record CatalogueLaws : Type 0 where
   pub example-eight : Catalogue.ExampleEight
   pub example-nine : Catalogue.ExampleNine
   pub example-ten : Catalogue.ExampleTen
+  pub row-lowest-wins :
+      (row : Row) (id : ℕ) (bytes : List ℕ) (value : Value) → Catalogue.RowLowestWins row id bytes value
   pub lowest-wins : (n id : ℕ) (bytes : List ℕ) (value : Value) → Catalogue.LowestWins n id bytes value
 
 pub record ClaimLaws : Type 0 where

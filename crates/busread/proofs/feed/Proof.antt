@@ -10,16 +10,16 @@ use Rattle.busread.proofs.feed.Statement.{statement}
 use Rattle.busread.proofs.feed.Tie as tie
 
 abbrev Inv-loop : tie.InvT-loop
-Inv-loop block storage₀ out₀ reader₀ at₀ storage out reader at = (length out ≡ length out₀) × (length storage ≡ length storage₀) × Ready reader
+Inv-loop block storage₀ out₀ table reader₀ at₀ storage out reader at = (length out ≡ length out₀) × (length storage ≡ length storage₀) × Ready reader
 
 abbrev μ-loop : tie.MeasureT-loop
-μ-loop block storage₀ out₀ reader₀ at₀ storage out reader at = length block - at
+μ-loop block storage₀ out₀ table reader₀ at₀ storage out reader at = length block - at
 
 loop-holds : tie.Need-loop-holds Inv-loop μ-loop
-loop-holds c = (refl, refl, c .before .before .before .pre .2)
+loop-holds c = (refl, refl, c .before .before .before .before .pre .2)
 
 lines-requires : tie.Need-lines-requires Inv-loop μ-loop
-lines-requires c κs = (omega arith, omega arith, c .before .before .loop .inv .2)
+lines-requires c κs = (omega arith, omega arith, c .before .before .loop .inv .2, c .before .before .before .before .before .before .before .pre .3)
 
 slice-reshare-prefix-write-all : tie.Need-slice-reshare-prefix-write-all Inv-loop μ-loop
 slice-reshare-prefix-write-all c = search needs

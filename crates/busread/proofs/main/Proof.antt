@@ -14,6 +14,9 @@ storage-requires c κs = search needs
 output-requires : tie.Need-output-requires
 output-requires c κs = search needs
 
+packed-rows-requires : tie.Need-packed-rows-requires
+packed-rows-requires c κs = search needs
+
 slice-aggregate-write-all : tie.Need-slice-aggregate-write-all
 slice-aggregate-write-all c = search needs
 
@@ -32,6 +35,9 @@ slice-aggregate-read-all-2 c = search needs
 slice-aggregate-read-all-3 : tie.Need-slice-aggregate-read-all-3
 slice-aggregate-read-all-3 c = search needs
 
+slice-aggregate-read-all-4 : tie.Need-slice-aggregate-read-all-4
+slice-aggregate-read-all-4 c = search needs
+
 read-all-requires : tie.Need-read-all-requires
 read-all-requires c κs = search needs
 
@@ -40,6 +46,9 @@ slice-aggregate-finish c = search needs
 
 slice-aggregate-finish-2 : tie.Need-slice-aggregate-finish-2
 slice-aggregate-finish-2 c = search needs
+
+slice-aggregate-finish-3 : tie.Need-slice-aggregate-finish-3
+slice-aggregate-finish-3 c = let held = c .before .before .before .before .before .before .before .before .before .before .before .before .before .before .packed-rows .ok in search needs
 
 finish-requires : tie.Need-finish-requires
 finish-requires c κs = search needs
@@ -63,15 +72,18 @@ main-spec =
     large-buffer-requires
     storage-requires
     output-requires
+    packed-rows-requires
     slice-aggregate-write-all
     write-all-requires
     new-requires
     slice-aggregate-read-all
     slice-aggregate-read-all-2
     slice-aggregate-read-all-3
+    slice-aggregate-read-all-4
     read-all-requires
     slice-aggregate-finish
     slice-aggregate-finish-2
+    slice-aggregate-finish-3
     finish-requires
     array-share-prefix-out
     slice-aggregate-write-all-2

@@ -8,16 +8,16 @@ use Rattle.busread.proofs.read_all.Statement.{statement}
 use Rattle.busread.proofs.read_all.Tie as tie
 
 abbrev Inv-loop : tie.InvT-loop
-Inv-loop block₀ storage₀ out₀ reader₀ turns₀ block storage out reader turns = (length block ≡ length block₀) × (length storage ≡ length storage₀) × (length out ≡ length out₀) × Ready reader
+Inv-loop block₀ storage₀ out₀ table reader₀ turns₀ block storage out reader turns = (length block ≡ length block₀) × (length storage ≡ length storage₀) × (length out ≡ length out₀) × Ready reader
 
 abbrev μ-loop : tie.MeasureT-loop
-μ-loop block₀ storage₀ out₀ reader₀ turns₀ block storage out reader turns = turns
+μ-loop block₀ storage₀ out₀ table reader₀ turns₀ block storage out reader turns = turns
 
 loop-holds : tie.Need-loop-holds Inv-loop μ-loop
-loop-holds c = (refl, refl, refl, c .before .before .before .pre .2)
+loop-holds c = (refl, refl, refl, c .before .before .before .before .pre .2)
 
 read-block-requires : tie.Need-read-block-requires Inv-loop μ-loop
-read-block-requires c κs = (omega arith, omega arith, c .before .before .before .before .loop .inv .3)
+read-block-requires c κs = (omega arith, omega arith, c .before .before .before .before .loop .inv .3, c .before .before .before .before .before .before .before .before .before .pre .3)
 
 same-length : tie.Need-same-length Inv-loop μ-loop
 same-length c = search needs

@@ -23,18 +23,18 @@ enum-known-ending c = search needs
 
 array-share-prefix-carry : tie.Need-array-share-prefix-carry
 array-share-prefix-carry c =
-    let l : length (c .before .before .before .before .before .before .before .before .before .before .args .reader .cutter .carry) ≡ 80 = search needs in
-    let w = last-fits (c .before .before .ending .given .0 .0) (c .before .before .before .before .before .before .before .before .before .before .args .reader .cutter) (c .before .before .before .before .last .result) (c .before .before .before .before .last .ensures) (c .before .before .ending .given .1) in
+    let l : length (c .before .before .before .before .before .before .before .before .before .before .before .args .reader .cutter .carry) ≡ 80 = search needs in
+    let w = last-fits (c .before .before .ending .given .0 .0) (c .before .before .before .before .before .before .before .before .before .before .before .args .reader .cutter) (c .before .before .before .before .last .result) (c .before .before .before .before .last .ensures) (c .before .before .ending .given .1) in
     omega arith
 
 slice-aggregate-take : tie.Need-slice-aggregate-take
 slice-aggregate-take c =
-    let l : length (c .before .before .before .before .before .before .before .before .before .before .before .args .reader .cutter .carry) ≡ 80 = search needs in
-    let w = last-fits (c .before .before .before .ending .given .0 .0) (c .before .before .before .before .before .before .before .before .before .before .before .args .reader .cutter) (c .before .before .before .before .before .last .result) (c .before .before .before .before .before .last .ensures) (c .before .before .before .ending .given .1) in
-    sym (length-take-le (c .before .before .before .ending .given .0 .0) (c .before .before .before .before .before .before .before .before .before .before .before .args .reader .cutter .carry) (omega arith))
+    let l : length (c .before .before .before .before .before .before .before .before .before .before .before .before .args .reader .cutter .carry) ≡ 80 = search needs in
+    let w = last-fits (c .before .before .before .ending .given .0 .0) (c .before .before .before .before .before .before .before .before .before .before .before .before .args .reader .cutter) (c .before .before .before .before .before .last .result) (c .before .before .before .before .before .last .ensures) (c .before .before .before .ending .given .1) in
+    sym (length-take-le (c .before .before .before .ending .given .0 .0) (c .before .before .before .before .before .before .before .before .before .before .before .before .args .reader .cutter .carry) (omega arith))
 
 take-requires : tie.Need-take-requires
-take-requires c κs = let g = c .before .before .before .before .before .ending .given .1 in (omega arith, omega arith, one-more-last (c .before .before .before .before .before .before .before .before .before .before .before .before .before .pre .2) (c .before .before .before .before .before .before .before .last .ensures) (λ e. let z : _≡_ {A = ℕ} 0 1 = cc in omega arith), c .before .before .before .before .before .before .before .before .before .before .before .before .before .pre .2 .counting)
+take-requires c κs = let g = c .before .before .before .before .before .ending .given .1 in (omega arith, omega arith, one-more-last (c .before .before .before .before .before .before .before .before .before .before .before .before .before .before .pre .2) (c .before .before .before .before .before .before .before .last .ensures) (λ e. let z : _≡_ {A = ℕ} 0 1 = cc in omega arith), c .before .before .before .before .before .before .before .before .before .before .before .before .before .before .pre .2 .counting, c .before .before .before .before .before .before .before .before .before .before .before .before .before .before .pre .3)
 
 put-closing-requires : tie.Need-put-closing-requires
 put-closing-requires c κs = let w = c .before .before .before .before .before .before .take .ensures .printed .room in let s = c .before .before .before .before .before .before .take .ensures .short in omega arith
@@ -43,10 +43,10 @@ enum-told : tie.Need-enum-told
 enum-told c = search needs
 
 malformed-requires : tie.Need-malformed-requires
-malformed-requires c κs = let g = c .before .enum-told .given .1 in (omega arith, one-more-last (c .before .before .before .before .before .before .before .before .before .pre .2) (c .before .before .before .last .ensures) (λ e. let z : _≡_ {A = ℕ} 0 1 = cc in omega arith), c .before .before .before .before .before .before .before .before .before .pre .2 .counting)
+malformed-requires c κs = let g = c .before .enum-told .given .1 in (omega arith, one-more-last (c .before .before .before .before .before .before .before .before .before .before .pre .2) (c .before .before .before .last .ensures) (λ e. let z : _≡_ {A = ℕ} 0 1 = cc in omega arith), c .before .before .before .before .before .before .before .before .before .before .pre .2 .counting)
 
 put-closing-requires-2 : tie.Need-put-closing-requires-2
-put-closing-requires-2 c κs = let w = c .before .before .before .before .malformed .ensures (c .before .before .before .before .before .before .before .before .before .before .before .before .before .before .args .storage .now) in omega arith
+put-closing-requires-2 c κs = let w = c .before .before .before .before .malformed .ensures (c .before .before .before .before .before .before .before .before .before .before .before .before .before .before .before .args .storage .now) in omega arith
 
 enum-told-2 : tie.Need-enum-told-2
 enum-told-2 c = search needs
@@ -62,21 +62,21 @@ same-length-2 c = search needs
 
 returns : tie.Need-returns
 unfolding pieceRead
-returns c = rw (ap (λ (e : Ending). linesText (keptBy (c .before .before .before .before .before .before .before .before .before .before .before .before .before .before .before .before .before .before .before .before .before .before .before .args .reader) (c .before .before .before .before .before .before .before .before .before .before .before .before .before .before .before .before .before .before .before .before .before .before .before .args .storage .now)) (lastPieces (c .before .before .before .before .before .before .before .before .before .before .before .before .before .before .before .before .before .before .before .before .before .before .before .args .reader .cutter) e)) (sym (c .before .before .before .before .before .before .before .before .before .before .before .before .before .before .before .before .before .last .ensures .answer) ∙ c .before .before .before .before .before .before .before .before .before .before .before .before .before .before .before .ending .given .1)) (last-line (whole (take (c .before .before .before .before .before .before .before .before .before .before .before .before .before .before .before .ending .given .0 .0) (c .before .before .before .before .before .before .before .before .before .before .before .before .before .before .before .before .before .before .before .before .before .before .before .args .reader .cutter .carry))) (c .before .before .before .before .before .before .before .before .before .take .ensures) (c .before .before .put-closing .ensures))
+returns c = rw (ap (λ (e : Ending). linesText (keptBy (c .before .before .before .before .before .before .before .before .before .before .before .before .before .before .before .before .before .before .before .before .before .before .before .before .args .reader) (c .before .before .before .before .before .before .before .before .before .before .before .before .before .before .before .before .before .before .before .before .before .before .before .before .args .storage .now)) (lastPieces (c .before .before .before .before .before .before .before .before .before .before .before .before .before .before .before .before .before .before .before .before .before .before .before .before .args .reader .cutter) e)) (sym (c .before .before .before .before .before .before .before .before .before .before .before .before .before .before .before .before .before .last .ensures .answer) ∙ c .before .before .before .before .before .before .before .before .before .before .before .before .before .before .before .ending .given .1)) (last-line (whole (take (c .before .before .before .before .before .before .before .before .before .before .before .before .before .before .before .ending .given .0 .0) (c .before .before .before .before .before .before .before .before .before .before .before .before .before .before .before .before .before .before .before .before .before .before .before .before .args .reader .cutter .carry))) (c .before .before .before .before .before .before .before .before .before .take .ensures) (c .before .before .put-closing .ensures))
 
 same-length-3 : tie.Need-same-length-3
 same-length-3 c = search needs
 
 returns-2 : tie.Need-returns-2
 unfolding pieceRead
-returns-2 c = rw (ap (λ (e : Ending). linesText (keptBy (c .before .before .before .before .before .before .before .before .before .before .before .before .before .before .before .before .before .args .reader) (c .before .before .before .before .before .before .before .before .before .before .before .before .before .before .before .before .before .args .storage .now)) (lastPieces (c .before .before .before .before .before .before .before .before .before .before .before .before .before .before .before .before .before .args .reader .cutter) e)) (sym (c .before .before .before .before .before .before .before .before .before .before .before .last .ensures .answer) ∙ c .before .before .before .before .before .before .before .before .before .enum-told .given .1)) (last-line tooLong (c .before .before .before .before .before .before .before .malformed .ensures (c .before .before .before .before .before .before .before .before .before .before .before .before .before .before .before .before .before .args .storage .now)) (c .before .before .put-closing2 .ensures))
+returns-2 c = rw (ap (λ (e : Ending). linesText (keptBy (c .before .before .before .before .before .before .before .before .before .before .before .before .before .before .before .before .before .before .args .reader) (c .before .before .before .before .before .before .before .before .before .before .before .before .before .before .before .before .before .before .args .storage .now)) (lastPieces (c .before .before .before .before .before .before .before .before .before .before .before .before .before .before .before .before .before .before .args .reader .cutter) e)) (sym (c .before .before .before .before .before .before .before .before .before .before .before .last .ensures .answer) ∙ c .before .before .before .before .before .before .before .before .before .enum-told .given .1)) (last-line tooLong (c .before .before .before .before .before .before .before .malformed .ensures (c .before .before .before .before .before .before .before .before .before .before .before .before .before .before .before .before .before .before .args .storage .now)) (c .before .before .put-closing2 .ensures))
 
 same-length-4 : tie.Need-same-length-4
 same-length-4 c = search needs
 
 returns-3 : tie.Need-returns-3
 unfolding linesText
-returns-3 c = rw (ap (λ (e : Ending). linesText (keptBy (c .before .before .before .before .before .before .before .before .before .before .before .before .args .reader) (c .before .before .before .before .before .before .before .before .before .before .before .before .args .storage .now)) (lastPieces (c .before .before .before .before .before .before .before .before .before .before .before .before .args .reader .cutter) e)) (sym (c .before .before .before .before .before .before .last .ensures .answer) ∙ c .before .before .before .before .enum-told2 .given .1)) (c .before .before .put-closing3 .ensures)
+returns-3 c = rw (ap (λ (e : Ending). linesText (keptBy (c .before .before .before .before .before .before .before .before .before .before .before .before .before .args .reader) (c .before .before .before .before .before .before .before .before .before .before .before .before .before .args .storage .now)) (lastPieces (c .before .before .before .before .before .before .before .before .before .before .before .before .before .args .reader .cutter) e)) (sym (c .before .before .before .before .before .before .last .ensures .answer) ∙ c .before .before .before .before .enum-told2 .given .1)) (c .before .before .put-closing3 .ensures)
 
 pub finish-spec : {M : Type 1} → statement M
 finish-spec =

@@ -12,19 +12,19 @@ use Rattle.busread.proofs.reader.lines.Statement.{statement}
 use Rattle.busread.proofs.reader.lines.Tie as tie
 
 abbrev Inv-loop : tie.InvT-loop
-Inv-loop block from storage₀ out₀ reader₀ at₀ next₀ storage out reader at next =
+Inv-loop block from storage₀ out₀ table reader₀ at₀ next₀ storage out reader at next =
     Ran block from (reader₀ .cutter) (keptBy reader₀ storage₀) (take next out) at (reader .cutter) (keptBy reader storage) On
     × Ready reader × (next ≤ length out) × (length out ≡ length out₀) × (length storage ≡ length storage₀) × (from ≤ at)
     × ((next ≡ 0) ⊎ ((from < at) × (at ≤ length block)))
 
 abbrev μ-loop : tie.MeasureT-loop
-μ-loop block from storage₀ out₀ reader₀ at₀ next₀ storage out reader at next = length block - at
+μ-loop block from storage₀ out₀ table reader₀ at₀ next₀ storage out reader at next = length block - at
 
 loop-holds : tie.Need-loop-holds Inv-loop μ-loop
-loop-holds c = (begun, c .before .before .before .pre .2, omega arith, refl, refl, omega arith, inl refl)
+loop-holds c = (begun, c .before .before .before .before .pre .2, omega arith, refl, refl, omega arith, inl refl)
 
 turn-requires : tie.Need-turn-requires Inv-loop μ-loop
-turn-requires c κs = (omega arith, omega arith, omega arith, c .before .before .before .loop .inv .1)
+turn-requires c κs = (omega arith, omega arith, omega arith, c .before .before .before .loop .inv .1, c .before .before .before .before .before .before .before .before .pre .3)
 
 enum-told : tie.Need-enum-told Inv-loop μ-loop
 enum-told c = search needs
@@ -35,7 +35,7 @@ loop-less c = let h = c .before .before .before .before .before .before .before 
 loop-again : tie.Need-loop-again Inv-loop μ-loop
 loop-again c =
     let l = c .before .before .before .before .before .before .before .before .before .before .before .loop in
-    let a = c .before .before .before .before .before .before .before .before .before .before .before .before .before .before .before .args in
+    let a = c .before .before .before .before .before .before .before .before .before .before .before .before .before .before .before .before .args in
     let t = c .before .before .before .before .before .before .before .turn in
     let e = c .before .enum-told .given .1 in
     let h = t .ensures .advances e in

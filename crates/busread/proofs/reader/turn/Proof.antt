@@ -26,7 +26,7 @@ part-line-end : tie.Need-part-line-end
 part-line-end c = let w = within (c .before .before .before .before .next .ensures) (c .before .answer .given .1) in search needs
 
 line-requires : tie.Need-line-requires
-line-requires c κs = (omega arith, omega arith, omega arith, one-more (c .before .before .before .before .before .before .before .before .before .before .before .before .pre .3) (c .before .before .before .before .before .before .before .next .ensures) (ap (yieldIn (c .before .before .before .before .before .before .before .before .before .before .before .before .args .block .now) (c .before .before .before .before .before .before .before .next .result .cutter)) (c .before .before .before .before .answer .given .1)))
+line-requires c κs = (omega arith, omega arith, omega arith, one-more (c .before .before .before .before .before .before .before .before .before .before .before .before .before .pre .3) (c .before .before .before .before .before .before .before .next .ensures) (ap (yieldIn (c .before .before .before .before .before .before .before .before .before .before .before .before .before .args .block .now) (c .before .before .before .before .before .before .before .next .result .cutter)) (c .before .before .before .before .answer .given .1)), c .before .before .before .before .before .before .before .before .before .before .before .before .before .pre .4)
 
 enum-known-answer-2 : tie.Need-enum-known-answer-2
 enum-known-answer-2 c = search needs
@@ -44,13 +44,13 @@ slice-aggregate-line c =
     sym (length-take-le (c .before .before .before .answer2 .given .0 .0) (c .before .before .before .before .before .before .next .result .cutter .carry) (omega arith))
 
 line-requires-2 : tie.Need-line-requires-2
-line-requires-2 c κs = (omega arith, omega arith, omega arith, one-more (c .before .before .before .before .before .before .before .before .before .before .before .before .before .pre .3) (c .before .before .before .before .before .before .before .before .next .ensures) (ap (yieldIn (c .before .before .before .before .before .before .before .before .before .before .before .before .before .args .block .now) (c .before .before .before .before .before .before .before .before .next .result .cutter)) (c .before .before .before .before .before .answer2 .given .1)))
+line-requires-2 c κs = (omega arith, omega arith, omega arith, one-more (c .before .before .before .before .before .before .before .before .before .before .before .before .before .before .pre .3) (c .before .before .before .before .before .before .before .before .next .ensures) (ap (yieldIn (c .before .before .before .before .before .before .before .before .before .before .before .before .before .before .args .block .now) (c .before .before .before .before .before .before .before .before .next .result .cutter)) (c .before .before .before .before .before .answer2 .given .1)), c .before .before .before .before .before .before .before .before .before .before .before .before .before .before .pre .4)
 
 enum-told : tie.Need-enum-told
 enum-told c = search needs
 
 long-line-requires : tie.Need-long-line-requires
-long-line-requires c κs = (omega arith, omega arith, one-more (c .before .before .before .before .before .before .before .before .before .pre .3) (c .before .before .before .before .next .ensures) (ap (yieldIn (c .before .before .before .before .before .before .before .before .before .args .block .now) (c .before .before .before .before .next .result .cutter)) (c .before .enum-told .given .1)))
+long-line-requires c κs = (omega arith, omega arith, one-more (c .before .before .before .before .before .before .before .before .before .before .pre .3) (c .before .before .before .before .next .ensures) (ap (yieldIn (c .before .before .before .before .before .before .before .before .before .before .args .block .now) (c .before .before .before .before .next .result .cutter)) (c .before .enum-told .given .1)))
 
 enum-told-2 : tie.Need-enum-told-2
 enum-told-2 c = search needs
@@ -72,7 +72,7 @@ same-length-2 c = search needs
 
 returns : tie.Need-returns
 unfolding pieceRead
-returns c = turned (c .before .before .before .before .before .before .before .before .before .before .before .before .before .before .before .before .before .pre .3) (c .before .before .before .before .before .before .before .before .before .before .before .before .next .ensures) (ap (yieldIn (c .before .before .before .before .before .before .before .before .before .before .before .before .before .before .before .before .before .args .block .now) (c .before .before .before .before .before .before .before .before .before .before .before .before .next .result .cutter)) (c .before .before .before .before .before .before .before .before .before .answer .given .1)) (c .before .before .before .before .line .ensures)
+returns c = turned (c .before .before .before .before .before .before .before .before .before .before .before .before .before .before .before .before .before .before .pre .3) (c .before .before .before .before .before .before .before .before .before .before .before .before .next .ensures) (ap (yieldIn (c .before .before .before .before .before .before .before .before .before .before .before .before .before .before .before .before .before .before .args .block .now) (c .before .before .before .before .before .before .before .before .before .before .before .before .next .result .cutter)) (c .before .before .before .before .before .before .before .before .before .answer .given .1)) (c .before .before .before .before .line .ensures)
 
 same-length-3 : tie.Need-same-length-3
 same-length-3 c = search needs
@@ -82,20 +82,20 @@ same-length-4 c = search needs
 
 returns-2 : tie.Need-returns-2
 unfolding pieceRead
-returns-2 c = turned (c .before .before .before .before .before .before .before .before .before .before .before .before .before .before .before .before .before .before .pre .3) (c .before .before .before .before .before .before .before .before .before .before .before .before .before .next .ensures) (ap (yieldIn (c .before .before .before .before .before .before .before .before .before .before .before .before .before .before .before .before .before .before .args .block .now) (c .before .before .before .before .before .before .before .before .before .before .before .before .before .next .result .cutter)) (c .before .before .before .before .before .before .before .before .before .before .answer2 .given .1)) (c .before .before .before .before .line2 .ensures)
+returns-2 c = turned (c .before .before .before .before .before .before .before .before .before .before .before .before .before .before .before .before .before .before .before .pre .3) (c .before .before .before .before .before .before .before .before .before .before .before .before .before .next .ensures) (ap (yieldIn (c .before .before .before .before .before .before .before .before .before .before .before .before .before .before .before .before .before .before .before .args .block .now) (c .before .before .before .before .before .before .before .before .before .before .before .before .before .next .result .cutter)) (c .before .before .before .before .before .before .before .before .before .before .answer2 .given .1)) (c .before .before .before .before .line2 .ensures)
 
 same-length-5 : tie.Need-same-length-5
 same-length-5 c = search needs
 
 returns-3 : tie.Need-returns-3
 unfolding pieceRead
-returns-3 c = turned (c .before .before .before .before .before .before .before .before .before .before .before .before .pre .3) (c .before .before .before .before .before .before .before .next .ensures) (ap (yieldIn (c .before .before .before .before .before .before .before .before .before .before .before .before .args .block .now) (c .before .before .before .before .before .before .before .next .result .cutter)) (c .before .before .before .before .enum-told .given .1)) (c .before .before .long-line .ensures (c .before .before .before .before .before .before .before .before .before .before .before .before .args .storage .now))
+returns-3 c = turned (c .before .before .before .before .before .before .before .before .before .before .before .before .before .pre .3) (c .before .before .before .before .before .before .before .next .ensures) (ap (yieldIn (c .before .before .before .before .before .before .before .before .before .before .before .before .before .args .block .now) (c .before .before .before .before .before .before .before .next .result .cutter)) (c .before .before .before .before .enum-told .given .1)) (c .before .before .long-line .ensures (c .before .before .before .before .before .before .before .before .before .before .before .before .before .args .storage .now))
 
 returns-4 : tie.Need-returns-4
-returns-4 c = rw (c .stays .ensures) (used-up (c .before .before .before .before .before .before .before .before .before .pre .3) (c .before .before .before .before .next .ensures) (ap (yieldIn (c .before .before .before .before .before .before .before .before .before .args .block .now) (c .before .before .before .before .next .result .cutter)) (c .before .enum-told2 .given .1)) (omega arith))
+returns-4 c = rw (c .stays .ensures) (used-up (c .before .before .before .before .before .before .before .before .before .before .pre .3) (c .before .before .before .before .next .ensures) (ap (yieldIn (c .before .before .before .before .before .before .before .before .before .before .args .block .now) (c .before .before .before .before .next .result .cutter)) (c .before .enum-told2 .given .1)) (omega arith))
 
 returns-5 : tie.Need-returns-5
-returns-5 c = rw (c .stays2 .ensures) (read-up (c .before .before .before .before .before .before .before .before .before .pre .3) (c .before .before .before .before .next .ensures) (ap (yieldIn (c .before .before .before .before .before .before .before .before .before .args .block .now) (c .before .before .before .before .next .result .cutter)) (c .before .enum-told3 .given .1)) (omega arith))
+returns-5 c = rw (c .stays2 .ensures) (read-up (c .before .before .before .before .before .before .before .before .before .before .pre .3) (c .before .before .before .before .next .ensures) (ap (yieldIn (c .before .before .before .before .before .before .before .before .before .before .args .block .now) (c .before .before .before .before .next .result .cutter)) (c .before .enum-told3 .given .1)) (omega arith))
 
 pub turn-spec : {M : Type 1} → statement M
 turn-spec =

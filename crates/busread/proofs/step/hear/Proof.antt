@@ -35,7 +35,7 @@ same-length-2 : tie.Need-same-length-2
 same-length-2 c = search needs
 
 returns : tie.Need-returns
-returns c = took {f = frameIn (c .before .before .before .before .before .before .before .before .before .before .before .before .before .before .before .before .before .before .before .args .line)} (c .before .before .before .before .before .before .before .before .before .before .before .before .before .before .before .before .pause .ensures) (c .before .before .before .before .before .before .before .before .before .before .before .hear .ensures) (c .before .before .before .before .before .put-answer .ensures .0) (c .before .before .before .before .before .put-answer .ensures .1) (c .count .ensures .0 ∙ ap (counted (c .before .before .before .before .before .before .before .before .before .before .before .before .before .before .before .before .before .before .before .args .counts)) (c .before .print-of .ensures)) (c .count .ensures .1)
+returns c = took {f = frameIn (c .before .before .before .before .before .before .before .before .before .before .before .before .before .before .before .before .before .before .before .before .args .line)} (c .before .before .before .before .before .before .before .before .before .before .before .before .before .before .before .before .pause .ensures) (c .before .before .before .before .before .before .before .before .before .before .before .hear .ensures) (c .before .before .before .before .before .put-answer .ensures .0) (c .before .before .before .before .before .put-answer .ensures .1) (c .count .ensures .0 ∙ ap (counted (c .before .before .before .before .before .before .before .before .before .before .before .before .before .before .before .before .before .before .before .before .args .counts)) (c .before .print-of .ensures)) (c .count .ensures .1)
 
 pub hear-spec : {M : Type 1} → statement M
 hear-spec =

@@ -32,7 +32,7 @@ same-length-3 : tie.Need-same-length-3
 same-length-3 c = search needs
 
 returns-2 : tie.Need-returns-2
-returns-2 c = rw (malformed-line (c .before .before .before .before .before .before .take-apart .ensures) (c .before .before .before .before .enum-told2 .given .1)) (c .before .before .malformed .ensures (c .before .before .before .before .before .before .before .before .before .before .args .storage .now))
+returns-2 c = rw (malformed-line (c .before .before .before .before .before .before .take-apart .ensures) (c .before .before .before .before .enum-told2 .given .1)) (c .before .before .malformed .ensures (c .before .before .before .before .before .before .before .before .before .before .before .args .storage .now))
 
 pub take-spec : {M : Type 1} → statement M
 take-spec =

@@ -1,19 +1,23 @@
 -- `catalogue::table::dgn_at` meets its contract. Assumes nothing.
-use mathlib.Core.Path.{ap, _∙_}
-use Prim.Native.Nat.{ℕ, _/_, _%_}
+use mathlib.Core.Path.{sym, ap}
 use Rattle.catalogue.specs.Packed.{unpacked}
 use Rattle.catalogue.specs.declared.Row.{Row}
-use Rattle.catalogue.proofs.Packing.{row-packed}
+use Rattle.catalogue.proofs.Packing.{table-at}
 use borrow.Author.Needs.{needs}
 use Rattle.catalogue.proofs.table.dgn_at.Statement.{statement}
 use Rattle.catalogue.proofs.table.dgn_at.Tie as tie
 
-row-requires : tie.Need-row-requires
-row-requires c κs = search needs
+mul-result : tie.Need-mul-result
+mul-result c = search needs
+
+shared-slice-read-result : tie.Need-shared-slice-read-result
+shared-slice-read-result c = search needs
 
 returns : tie.Need-returns
 unfolding unpacked
-returns c = ap (λ (m : ℕ). m / 0x1000000 % 0x100000) (c .row .ensures) ∙ ap (λ (r : Row). r .dgn) (row-packed (c .before .args .n))
+returns c =
+    let a = c .before .args in
+    sym (ap (λ (r : Row). r .dgn) (table-at (a .table .now) (a .n)))
 
 pub dgn-at-spec : {M : Type 1} → statement M
-dgn-at-spec = tie.close (tie.spec row-requires returns)
+dgn-at-spec = tie.close (tie.spec mul-result shared-slice-read-result returns)

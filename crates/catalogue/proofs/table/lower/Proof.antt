@@ -1,21 +1,26 @@
 -- `catalogue::table::lower` meets its contract. Assumes nothing.
+use mathlib.Core.Path.{subst}
+use mathlib.Core.List.{List}
 use Prim.Native.Nat.{ℕ, _+_, _-_, _≤_, _<_, _/_}
 use native.Mathlib.Omega.{arith}
-use native.Mathlib.Nat.{not-suc-le-zero}
-use Rattle.catalogue.specs.Table.{rowAt}
-use Rattle.catalogue.specs.Rows.{rowCount}
-use Rattle.catalogue.proofs.Rule.{rising-dgn, below-is}
+use lib.ListN.{length, length-map}
+use Rattle.catalogue.specs.Table.{nth}
+use Rattle.catalogue.specs.Packed.{unpacked, tableRows}
+use Rattle.catalogue.proofs.Halving.{Left, left-first, left-up, left-down, left-last}
 use Rattle.catalogue.proofs.table.lower.Statement.{statement}
 use Rattle.catalogue.proofs.table.lower.Tie as tie
 
 abbrev Inv-loop : tie.InvT-loop
-Inv-loop key low₀ high₀ low high = (low ≤ high) × (high ≤ rowCount) × ((k : ℕ) → k < low → rowAt k .dgn < key) × ((k : ℕ) → high ≤ k → k < rowCount → key ≤ rowAt k .dgn)
+Inv-loop table key low₀ high₀ low high = (low ≤ high) × (high ≤ length table) × Left (tableRows table) key low high
 
 abbrev μ-loop : tie.MeasureT-loop
-μ-loop key low₀ high₀ low high = high - low
+μ-loop table key low₀ high₀ low high = high - low
+
+first : (table : List ℕ) (key : ℕ) → Left (tableRows table) key 0 (length table)
+first table key = subst (Left (tableRows table) key 0) (length-map table unpacked) (left-first (tableRows table) key)
 
 loop-holds : tie.Need-loop-holds Inv-loop μ-loop
-loop-holds c = (omega arith, omega arith, (λ k h. absurd (not-suc-le-zero h)), (λ k h g. omega arith))
+loop-holds c = let a = c .before .args in (omega arith, omega arith, first (a .table .now) (a .key))
 
 sub-middle : tie.Need-sub-middle Inv-loop μ-loop
 sub-middle c = omega arith
@@ -34,26 +39,30 @@ loop-less c = omega arith
 
 loop-again : tie.Need-loop-again Inv-loop μ-loop
 loop-again c =
+    let a = c .before .before .before .before .before .args in
     let l = c .before .before .before .loop in
+    let list = tableRows (a .table .now) in
     let middle = l .low + (l .high - l .low) / 2 in
-    let b : middle < rowCount = omega arith in
-    let at : rowAt middle .dgn < c .before .before .before .before .args .key = omega arith in
-    (omega arith, omega arith, (λ k h. omega (arith, rising-dgn k middle (omega arith) b)), l .inv .3)
+    let at : nth list middle .dgn < a .key = omega arith in
+    (omega arith, omega arith, left-up list (a .key) (l .low) (l .high) (omega arith) at (l .inv .2))
 
 loop-less-2 : tie.Need-loop-less-2 Inv-loop μ-loop
 loop-less-2 c = omega arith
 
 loop-again-2 : tie.Need-loop-again-2 Inv-loop μ-loop
 loop-again-2 c =
+    let a = c .before .before .before .before .before .args in
     let l = c .before .before .before .loop in
+    let list = tableRows (a .table .now) in
     let middle = l .low + (l .high - l .low) / 2 in
-    let at : c .before .before .before .before .args .key ≤ rowAt middle .dgn = omega arith in
-    (omega arith, omega arith, l .inv .2, (λ k h g. omega (arith, rising-dgn middle k h g)))
+    let at : a .key ≤ nth list middle .dgn = omega arith in
+    (omega arith, omega arith, left-down list (a .key) (l .low) (l .high) (omega arith) at (l .inv .2))
 
 returns : tie.Need-returns Inv-loop μ-loop
 returns c =
+    let a = c .before .before .before .args in
     let l = c .before .loop in
-    below-is (c .before .before .args .key) (l .low) (omega arith) (l .inv .2) (λ k h g. l .inv .3 k (omega arith) g)
+    left-last (tableRows (a .table .now)) (a .key) (l .low) (l .high) (omega arith) (l .inv .2)
 
 pub lower-spec : {M : Type 1} → statement M
 lower-spec =

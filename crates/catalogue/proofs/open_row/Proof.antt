@@ -1,12 +1,12 @@
--- `catalogue::row_for` meets its contract. Assumes nothing.
+-- `catalogue::open_row` meets its contract. Assumes nothing.
 use mathlib.Core.Path.{sym, ap, _∙_}
 use borrow.Author.Needs.{needs}
 use lib.ListN.{length}
 use Rattle.frame.specs.Promises.{toldVerdict, refusalOf}
 use Rattle.frame.specs.Bytes.{numberOf}
 use Rattle.catalogue.proofs.Found.{for-bad, for-sound}
-use Rattle.catalogue.proofs.row_for.Statement.{statement}
-use Rattle.catalogue.proofs.row_for.Tie as tie
+use Rattle.catalogue.proofs.open_row.Statement.{statement}
+use Rattle.catalogue.proofs.open_row.Tie as tie
 
 check-requires : tie.Need-check-requires
 check-requires c κs = search needs
@@ -20,8 +20,8 @@ enum-known-verdict c = search needs
 enum-known-verdict-2 : tie.Need-enum-known-verdict-2
 enum-known-verdict-2 c = search needs
 
-row-of-dgn-requires : tie.Need-row-of-dgn-requires
-row-of-dgn-requires c κs = search needs
+match-row-requires : tie.Need-match-row-requires
+match-row-requires c κs = search needs
 
 returns : tie.Need-returns
 returns c =
@@ -29,7 +29,7 @@ returns c =
     let k = c .before .before .before .before .before .check in
     let why = c .before .verdict .given .0 .0 in
     record {
-      outcome = for-bad (s .args .n) (s .args .id) (length (s .args .bytes .now)) (refusalOf why) (sym (k .ensures .answer) ∙ ap toldVerdict (c .before .verdict .given .1));
+      outcome = for-bad (s .args .row) (s .args .id) (length (s .args .bytes .now)) (refusalOf why) (sym (k .ensures .answer) ∙ ap toldVerdict (c .before .verdict .given .1));
       number = c .before .before .before .number-of .ensures .answer ∙ ap numberOf (k .ensures .data-bytes);
     }
 
@@ -39,18 +39,18 @@ returns-2 c =
     let k = c .before .before .before .before .before .before .check in
     let parts = c .before .before .verdict2 .given .0 .0 in
     record {
-      outcome = c .row-of-dgn .ensures ∙ for-sound (s .args .n) (s .args .id) (length (s .args .bytes .now)) parts (sym (k .ensures .answer) ∙ ap toldVerdict (c .before .before .verdict2 .given .1));
+      outcome = c .match-row .ensures ∙ for-sound (s .args .row) (s .args .id) (length (s .args .bytes .now)) parts (sym (k .ensures .answer) ∙ ap toldVerdict (c .before .before .verdict2 .given .1));
       number = c .before .before .before .before .number-of .ensures .answer ∙ ap numberOf (k .ensures .data-bytes);
     }
 
-pub row-for-spec : {M : Type 1} → statement M
-row-for-spec =
+pub open-row-spec : {M : Type 1} → statement M
+open-row-spec =
     tie.close
     (tie.spec
     check-requires
     number-of-requires
     enum-known-verdict
     enum-known-verdict-2
-    row-of-dgn-requires
+    match-row-requires
     returns
     returns-2)
