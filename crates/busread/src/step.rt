@@ -3,7 +3,6 @@ ghost use mathlib.Core.Path.{_≡_};
 ghost use Prim.Native.Nat.{_+_, _≤_, _<_};
 ghost use lib.ListN.{length};
 ghost use Rattle.frame.specs.Words.{gives};
-ghost use Rattle.frame.specs.Promises.{refusalOf};
 ghost use Rattle.frame.specs.Bytes.{numberOf};
 ghost use Rattle.frame.specs.Identifier.{sourceOf, dgnOf};
 ghost use Rattle.message.specs.Receiver.{room};
@@ -36,25 +35,13 @@ pub struct Step {
     pub next: usize,
 }
 
-// The number of a frame that is refused by itself.
-fn refusal_of(why: frame::BadFrame) -> u32
-    ensures { λ r. ⌜ r ≡ refusalOf why ⌝ }
-{
-    match why {
-        frame::BadFrame::IdentifierTooLarge => 3,
-        frame::BadFrame::NotEightBytes => 4,
-        frame::BadFrame::ReservedBitSet => 5,
-        frame::BadFrame::SourceNotAllowed => 6,
-    }
-}
-
 fn print_of(answer: Answer) -> Print
     ensures { λ r. ⌜ r ≡ printOf (toldAnswer answer) ⌝ }
 {
     match answer {
         Answer::StorageTooShort => Print::Refused(1),
         Answer::BrokenState => Print::Refused(2),
-        Answer::BadFrame(why) => Print::Refused(refusal_of(why)),
+        Answer::BadFrame(why) => Print::Refused(why.refusal() as u32),
         Answer::MalformedAnnouncement => Print::Refused(7),
         Answer::NoPlaceFree => Print::Refused(8),
         Answer::NoOpenMessage => Print::Refused(9),

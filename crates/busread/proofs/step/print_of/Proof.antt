@@ -12,8 +12,11 @@ enum-told-2 c = search needs
 enum-known-answer : tie.Need-enum-known-answer
 enum-known-answer c = search needs
 
-refusal-of-requires : tie.Need-refusal-of-requires
-refusal-of-requires c κs = search needs
+refusal-requires : tie.Need-refusal-requires
+refusal-requires c κs = search needs
+
+cast-t7 : tie.Need-cast-t7
+cast-t7 c = search needs
 
 enum-told-3 : tie.Need-enum-told-3
 enum-told-3 c = search needs
@@ -46,7 +49,7 @@ returns-2 : tie.Need-returns-2
 returns-2 c = search needs
 
 returns-3 : tie.Need-returns-3
-returns-3 c = rw (c .before .before .answer .given .1, c .refusal-of .ensures)
+returns-3 c = rw (c .before .before .answer .given .1, c .refusal .ensures .number)
 
 returns-4 : tie.Need-returns-4
 returns-4 c = search needs
@@ -79,7 +82,8 @@ print-of-spec =
     enum-told
     enum-told-2
     enum-known-answer
-    refusal-of-requires
+    refusal-requires
+    cast-t7
     enum-told-3
     enum-told-4
     enum-told-5
