@@ -1,4 +1,5 @@
--- The candidate list: the addresses that a node tries to claim, in its order (document 01, "Claiming an address"; 000, 3.3.2).
+-- The candidate list: the addresses that a node tries to claim, in its order (document 01, "Claiming an address"; 000,
+-- 3.3.2).
 use mathlib.Core.Bool.{Bool, true, not}
 use mathlib.Core.List.{List, [], _∷_, _++_}
 use Prim.Native.Nat.{ℕ, _-_}

@@ -1,5 +1,5 @@
--- Claiming an address as a machine on what was heard and waited (document 01, "Claiming an address"; J1939-81's contest of NAMEs; 000, 3.3).
--- A state is built in four places only: `begun`, `atNext`, `fallen` and `waited`.
+-- Claiming an address as a machine on what was heard and waited (document 01, "Claiming an address"; J1939-81's contest
+-- of NAMEs; 000, 3.3). A state is built in four places only: `begun`, `atNext`, `fallen` and `waited`.
 use mathlib.Core.Bool.{Bool, true, false, not}
 use mathlib.Core.List.{List}
 use Prim.Native.Nat.{ℕ, _+_, min}
@@ -19,7 +19,8 @@ heldAfter = 250
 abbrev pub claimPriority : ℕ
 claimPriority = 6
 
--- a state that breaks its rules is refused with 2: a position outside its list, a wait above 250, or silent with either not 0
+-- a state that breaks its rules is refused with 2: a position outside its list, a wait above 250, or silent with either
+-- not 0
 unfoldable pub keepsRules : Claim → Bool
 keepsRules c =
     (c .position <? c .candidates) and (c .wait ≤? heldAfter)
@@ -64,7 +65,14 @@ begun name list =
 -- the next address of the list is claimed, and the wait begins anew
 abbrev pub atNext : Claim → Claim
 atNext c =
-    record { name = c .name; list = c .list; candidates = c .candidates; position = c .position + 1; wait = 0; silent = false }
+    record {
+      name = c .name;
+      list = c .list;
+      candidates = c .candidates;
+      position = c .position + 1;
+      wait = 0;
+      silent = false;
+    }
 
 -- no address is left
 abbrev pub fallen : Claim → Claim
@@ -73,9 +81,17 @@ fallen c =
 
 abbrev pub waited : ℕ → Claim → Claim
 waited wait c =
-    record { name = c .name; list = c .list; candidates = c .candidates; position = c .position; wait = wait; silent = c .silent }
+    record {
+      name = c .name;
+      list = c .list;
+      candidates = c .candidates;
+      position = c .position;
+      wait = wait;
+      silent = c .silent;
+    }
 
--- how a claim that we hear ends for us: no contest, an equal NAME, a contest won, or one lost with an address left or with none
+-- how a claim that we hear ends for us: no contest, an equal NAME, a contest won, or one lost with an address left or
+-- with none
 pub data Outcome : Type 0 where
   nothingToDo : Outcome
   ownName : Outcome

@@ -1,4 +1,5 @@
--- The laws of this crate, each a named statement. proofs/Laws.antt and proofs/Machine.antt have a proof of each, under the same name written small.
+-- The laws of this crate, each a named statement. proofs/Laws.antt and proofs/Machine.antt have a proof of each, under
+-- the same name written small.
 use mathlib.Core.Path.{_≡_}
 use mathlib.Core.Bool.{Bool, true, false}
 use mathlib.Core.List.{List}
@@ -102,14 +103,18 @@ PauseRefusedKeeps =
 
 abbrev pub OurClaimRefusedKeeps : Type 0
 OurClaimRefusedKeeps =
-    (c : Claim) (r : ClaimFrame) (n : ℕ) → OurClaim c r → toldSending (r .answer) ≡ refused n → NoFrame (r .id) (r .bytes)
+    (c : Claim) (r : ClaimFrame) (n : ℕ) → OurClaim c r → toldSending (r .answer) ≡ refused n
+    → NoFrame (r .id) (r .bytes)
 
 -- The lowest number wins: 2, then 3 to 6, then 16; to a frame to which none applies the machine answers.
 pub record LowestWins (id : ℕ) (bytes : List ℕ) (c : Claim) : Type 0 where
   pub two : keepsRules c ≡ false → heardOf id bytes c ≡ refused 2
-  pub three-to-six : (n : ℕ) → keepsRules c ≡ true → checkedOf id (length bytes) ≡ refused n → heardOf id bytes c ≡ refused n
-  pub sixteen : (p : Parts) → keepsRules c ≡ true → checkedOf id (length bytes) ≡ gives p → holdsList c ≡ false → heardOf id bytes c ≡ refused 16
-  pub heard : (p : Parts) → isSound c ≡ true → checkedOf id (length bytes) ≡ gives p → heardOf id bytes c ≡ gives (meetsFrame p bytes c)
+  pub three-to-six : (n : ℕ) → keepsRules c ≡ true → checkedOf id (length bytes) ≡ refused n
+      → heardOf id bytes c ≡ refused n
+  pub sixteen : (p : Parts) → keepsRules c ≡ true → checkedOf id (length bytes) ≡ gives p → holdsList c ≡ false
+      → heardOf id bytes c ≡ refused 16
+  pub heard : (p : Parts) → isSound c ≡ true → checkedOf id (length bytes) ≡ gives p
+      → heardOf id bytes c ≡ gives (meetsFrame p bytes c)
 
 -- Priority is ignored on receipt.
 abbrev pub PriorityIgnored : Type 0
@@ -123,15 +128,19 @@ OtherDgn = (p : Parts) (bytes : List ℕ) (c : Claim) → (p .dgn ≡ claimDgn �
 
 -- A claim from 254 is at no address of ours.
 abbrev pub NobodysClaim : Type 0
-NobodysClaim = (source name : ℕ) (c : Claim) → isSound c ≡ true → greatestAddress < source → outcomeOf source name c ≡ nothingToDo
+NobodysClaim =
+    (source name : ℕ) (c : Claim) → isSound c ≡ true → greatestAddress < source → outcomeOf source name c ≡ nothingToDo
 
 -- A state that keeps its rules leads to one that keeps them, and no call of ours refuses what another gave.
 
 abbrev pub StartSound : Type 0
-StartSound = (name : ℕ) (list : List ℕ) (r : Started) → Start name list r → toldStarting (r .answer) ≡ gives done → isSound (r .claim) ≡ true
+StartSound =
+    (name : ℕ) (list : List ℕ) (r : Started) → Start name list r → toldStarting (r .answer) ≡ gives done
+    → isSound (r .claim) ≡ true
 
 abbrev pub HearSound : Type 0
-HearSound = (id : ℕ) (bytes : List ℕ) (c : Claim) (r : Heard) → Hear id bytes c r → isSound c ≡ true → isSound (r .claim) ≡ true
+HearSound =
+    (id : ℕ) (bytes : List ℕ) (c : Claim) (r : Heard) → Hear id bytes c r → isSound c ≡ true → isSound (r .claim) ≡ true
 
 abbrev pub PauseSound : Type 0
 PauseSound = (ms : ℕ) (c : Claim) (r : Paused) → Pause ms c r → isSound c ≡ true → isSound (r .claim) ≡ true
@@ -174,7 +183,8 @@ HeldExactly =
 -- The frame of our claim is a sound frame, EEFFh with priority 6, from our address or from 254, and spells our NAME.
 pub record OurFrame (c : Claim) : Type 0 where
   pub source : (c .silent ≡ false → claimSource c ≡ address c) × (c .silent ≡ true → claimSource c ≡ noAddress)
-  pub parts : checkedOf (claimId c) (length (claimBytes c)) ≡ gives (record { priority = claimPriority; dgn = claimDgn; source = claimSource c })
+  pub parts : checkedOf (claimId c) (length (claimBytes c))
+      ≡ gives (record { priority = claimPriority; dgn = claimDgn; source = claimSource c })
   pub name : numberOf (claimBytes c) ≡ c .name
 
 abbrev pub ClaimIsOurs : Type 0

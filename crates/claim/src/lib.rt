@@ -1,4 +1,5 @@
-// Claiming an address: the candidate list, the contest of NAMEs, the wait until an address is held (document 01, "Claiming an address").
+// Claiming an address: the candidate list, the contest of NAMEs, the wait until an address is held (document 01,
+// "Claiming an address").
 use frame::BadFrame;
 use frame::standard;
 ghost use Rattle.claim.specs.Promises.{Start, Hear, Pause, Stands, OurClaim, KeepsRules, HoldsList, StartingRefusal, HearingRefusal, PausingRefusal, StandingRefusal, SendingRefusal};

@@ -1,4 +1,5 @@
-// Contests for an address run to their end, frames that are none, and damaged states and lists; prints what `claim` answers, held to `stdout`.
+// Contests for an address run to their end, frames that are none, and damaged states and lists; prints what `claim`
+// answers, held to `stdout`.
 use claim::Claim;
 use claim::Hearing;
 use claim::Pausing;

@@ -1,5 +1,5 @@
--- The laws of this crate, each a named statement. proofs/Laws.antt, proofs/PositionLaws.antt and proofs/ReplyLaws.antt have a proof of each, under
--- the same name written small.
+-- The laws of this crate, each a named statement. proofs/Laws.antt, proofs/PositionLaws.antt and proofs/ReplyLaws.antt
+-- have a proof of each, under the same name written small.
 use mathlib.Core.Path.{_≡_}
 use mathlib.Core.Bool.{Bool, true, false}
 use mathlib.Core.List.{List, [], _∷_}
@@ -50,7 +50,8 @@ abbrev pub ToldRoutingSame : Type 0
 ToldRoutingSame = (r s : Routing) (ps qs : List ℕ) → toldRouting r ps ≡ toldRouting s qs → r ≡ s
 
 abbrev pub ToldRequestingSame : Type 0
-ToldRequestingSame = (r s : Requesting) (ps qs : List ℕ) (f g : Frame) → toldRequesting r ps f ≡ toldRequesting s qs g → r ≡ s
+ToldRequestingSame =
+    (r s : Requesting) (ps qs : List ℕ) (f g : Frame) → toldRequesting r ps f ≡ toldRequesting s qs g → r ≡ s
 
 abbrev pub ToldAcknowledgingSame : Type 0
 ToldAcknowledgingSame = (r s : Acknowledging) (f g : Frame) → toldAcknowledging r f ≡ toldAcknowledging s g → r ≡ s
@@ -61,10 +62,14 @@ abbrev pub StartOnly : Type 0
 StartOnly = (entries : List Entry) (count : ℕ) (r s : Started) → Start entries count r → Start entries count s → r ≡ s
 
 abbrev pub RouteOnly : Type 0
-RouteOnly = (id : ℕ) (bytes : List ℕ) (h : Host) (c : Claim) (r s : Routed) → Route id bytes h c r → Route id bytes h c s → r ≡ s
+RouteOnly =
+    (id : ℕ) (bytes : List ℕ) (h : Host) (c : Claim) (r s : Routed) → Route id bytes h c r → Route id bytes h c s
+    → r ≡ s
 
 abbrev pub RequestOnly : Type 0
-RequestOnly = (id : ℕ) (bytes : List ℕ) (h : Host) (c : Claim) (r s : Requested) → Request id bytes h c r → Request id bytes h c s → r ≡ s
+RequestOnly =
+    (id : ℕ) (bytes : List ℕ) (h : Host) (c : Claim) (r s : Requested) → Request id bytes h c r → Request id bytes h c s
+    → r ≡ s
 
 abbrev pub AcknowledgeOnly : Type 0
 AcknowledgeOnly =
@@ -77,10 +82,12 @@ abbrev pub RoutingRefusalOnly : Type 0
 RoutingRefusalOnly = (answer : Routing) (r s : ℕ) → RoutingRefusal answer r → RoutingRefusal answer s → r ≡ s
 
 abbrev pub RequestingRefusalOnly : Type 0
-RequestingRefusalOnly = (answer : Requesting) (r s : ℕ) → RequestingRefusal answer r → RequestingRefusal answer s → r ≡ s
+RequestingRefusalOnly =
+    (answer : Requesting) (r s : ℕ) → RequestingRefusal answer r → RequestingRefusal answer s → r ≡ s
 
 abbrev pub AcknowledgingRefusalOnly : Type 0
-AcknowledgingRefusalOnly = (answer : Acknowledging) (r s : ℕ) → AcknowledgingRefusal answer r → AcknowledgingRefusal answer s → r ≡ s
+AcknowledgingRefusalOnly =
+    (answer : Acknowledging) (r s : ℕ) → AcknowledgingRefusal answer r → AcknowledgingRefusal answer s → r ≡ s
 
 -- The number of a refusal is the answer's alone: it is the same whatever positions and frame stand beside.
 
@@ -98,11 +105,13 @@ AcknowledgingRefusalAny =
     (answer : Acknowledging) (r : ℕ) (frame : Frame) → AcknowledgingRefusal answer r
     → r ≡ numberIn (toldAcknowledging answer frame)
 
--- A refusal returns its number and nothing else: no positions and no frame stand beside it. Host and claim are handed in by value, and stay.
+-- A refusal returns its number and nothing else: no positions and no frame stand beside it. Host and claim are handed
+-- in by value, and stay.
 
 abbrev pub StartRefusedKeeps : Type 0
 StartRefusedKeeps =
-    (entries : List Entry) (count : ℕ) (r : Started) (n : ℕ) → Start entries count r → toldStarting (r .answer) ≡ refused n → r .host ≡ empty
+    (entries : List Entry) (count : ℕ) (r : Started) (n : ℕ) → Start entries count r
+    → toldStarting (r .answer) ≡ refused n → r .host ≡ empty
 
 abbrev pub RouteRefusedKeeps : Type 0
 RouteRefusedKeeps =
@@ -120,31 +129,42 @@ AcknowledgeRefusedKeeps =
     (c : Claim) (a : Acknowledgment) (r : Acknowledged) (n : ℕ) → Acknowledge c a r
     → toldAcknowledging (r .answer) (record { id = r .id; bytes = r .bytes }) ≡ refused n → NoFrame (r .id) (r .bytes)
 
--- The lowest number wins: what is handed in is refused with 2, then 3 to 6, then 16, before anything is asked of the frame.
+-- The lowest number wins: what is handed in is refused with 2, then 3 to 6, then 16, before anything is asked of the
+-- frame.
 pub record LowestWins (id : ℕ) (bytes : List ℕ) (h : Host) (c : Claim) : Type 0 where
   pub two : keepsRules c ≡ false → handedIn id bytes h c ≡ refused 2
-  pub three-to-six : (n : ℕ) → keepsRules c ≡ true → checkedOf id (length bytes) ≡ refused n → handedIn id bytes h c ≡ refused n
-  pub sixteen-claim : (p : Parts) → keepsRules c ≡ true → checkedOf id (length bytes) ≡ gives p → holdsList c ≡ false → handedIn id bytes h c ≡ refused 16
-  pub sixteen-host : (p : Parts) → keepsRules c ≡ true → checkedOf id (length bytes) ≡ gives p → isWellFormed h ≡ false → handedIn id bytes h c ≡ refused 16
-  pub fine : (p : Parts) → isSound c ≡ true → checkedOf id (length bytes) ≡ gives p → isWellFormed h ≡ true → handedIn id bytes h c ≡ gives p
-  pub passed-on : (n : ℕ) → handedIn id bytes h c ≡ refused n → (routedOf id bytes h c ≡ refused n) × (requestedOf id bytes h c ≡ refused n)
+  pub three-to-six : (n : ℕ) → keepsRules c ≡ true → checkedOf id (length bytes) ≡ refused n
+      → handedIn id bytes h c ≡ refused n
+  pub sixteen-claim : (p : Parts) → keepsRules c ≡ true → checkedOf id (length bytes) ≡ gives p → holdsList c ≡ false
+      → handedIn id bytes h c ≡ refused 16
+  pub sixteen-host : (p : Parts) → keepsRules c ≡ true → checkedOf id (length bytes) ≡ gives p → isWellFormed h ≡ false
+      → handedIn id bytes h c ≡ refused 16
+  pub fine : (p : Parts) → isSound c ≡ true → checkedOf id (length bytes) ≡ gives p → isWellFormed h ≡ true
+      → handedIn id bytes h c ≡ gives p
+  pub passed-on : (n : ℕ) → handedIn id bytes h c ≡ refused n
+      → (routedOf id bytes h c ≡ refused n) × (requestedOf id bytes h c ≡ refused n)
 
 -- An acknowledgment: 2, then 6, 16, 17, 18.
 pub record AcknowledgeLowestWins (c : Claim) (a : Acknowledgment) : Type 0 where
   pub two : keepsRules c ≡ false → acknowledgedOf c a ≡ refused 2
   pub six : keepsRules c ≡ true → greatestAddress < a .requester → acknowledgedOf c a ≡ refused 6
-  pub sixteen : keepsRules c ≡ true → a .requester ≤ greatestAddress → holdsList c ≡ false → acknowledgedOf c a ≡ refused 16
-  pub seventeen : isSound c ≡ true → a .requester ≤ greatestAddress → greatestDgn < a .dgn → acknowledgedOf c a ≡ refused 17
-  pub eighteen : isSound c ≡ true → a .requester ≤ greatestAddress → a .dgn ≤ greatestDgn → addressHeld (standOf c) ≡ refused 18
+  pub sixteen : keepsRules c ≡ true → a .requester ≤ greatestAddress → holdsList c ≡ false
+      → acknowledgedOf c a ≡ refused 16
+  pub seventeen : isSound c ≡ true → a .requester ≤ greatestAddress → greatestDgn < a .dgn
+      → acknowledgedOf c a ≡ refused 17
+  pub eighteen : isSound c ≡ true → a .requester ≤ greatestAddress → a .dgn ≤ greatestDgn
+      → addressHeld (standOf c) ≡ refused 18
       → acknowledgedOf c a ≡ refused 18
 
 -- Priority is ignored on receipt.
 abbrev pub PriorityIgnored : Type 0
 PriorityIgnored =
-    (id id′ : ℕ) (bytes : List ℕ) (h : Host) (c : Claim) → id < identifiers → id′ < identifiers → id % 2 ^ 26 ≡ id′ % 2 ^ 26
+    (id id′ : ℕ) (bytes : List ℕ) (h : Host) (c : Claim) → id < identifiers → id′ < identifiers
+    → id % 2 ^ 26 ≡ id′ % 2 ^ 26
     → (routedOf id bytes h c ≡ routedOf id′ bytes h c) × (requestedOf id bytes h c ≡ requestedOf id′ bytes h c)
 
--- A started host has just the entries that were given, and no call refuses it; and what an array holds past its count changes no answer.
+-- A started host has just the entries that were given, and no call refuses it; and what an array holds past its count
+-- changes no answer.
 
 abbrev pub StartHosts : Type 0
 StartHosts =
@@ -182,32 +202,37 @@ PositionsRise =
 abbrev pub ListedFilled : Type 0
 ListedFilled = (ps : List ℕ) → listed (filled ps) ≡ ps
 
--- A command by instance: an instance picks the entry of its DGN with that instance, of which a well formed list has one at most; zero picks the
--- marked entries of its DGN.
+-- A command by instance: an instance picks the entry of its DGN with that instance, of which a well formed list has one
+-- at most; zero picks the marked entries of its DGN.
 
 abbrev pub InstancePicks : Type 0
 InstancePicks =
     (dgn instance : ℕ) (es : List Entry) (k : ℕ) → (instance ≡ 0 → ⊥)
-    → StandsIn k (positionsWhere (isMeant dgn instance) es) ↔ ((k < length es) × (entryAt es k .command ≡ dgn) × (entryAt es k .instance ≡ instance))
+    → StandsIn k (positionsWhere (isMeant dgn instance) es)
+    ↔ ((k < length es) × (entryAt es k .command ≡ dgn) × (entryAt es k .instance ≡ instance))
 
 abbrev pub InstancePicksOne : Type 0
 InstancePicksOne =
-    (dgn instance : ℕ) (h : Host) → isWellFormed h ≡ true → (instance ≡ 0 → ⊥) → length (positionsWhere (isMeant dgn instance) (hosted h)) ≤ 1
+    (dgn instance : ℕ) (h : Host) → isWellFormed h ≡ true → (instance ≡ 0 → ⊥)
+    → length (positionsWhere (isMeant dgn instance) (hosted h)) ≤ 1
 
 abbrev pub ZeroPicksMarked : Type 0
 ZeroPicksMarked =
     (dgn : ℕ) (es : List Entry) (k : ℕ)
-    → StandsIn k (positionsWhere (isMeant dgn 0) es) ↔ ((k < length es) × (entryAt es k .command ≡ dgn) × (entryAt es k .«zero_is_all» ≡ true))
+    → StandsIn k (positionsWhere (isMeant dgn 0) es)
+    ↔ ((k < length es) × (entryAt es k .command ≡ dgn) × (entryAt es k .«zero_is_all» ≡ true))
 
--- A slide's instance 0 picks nothing: where no entry of the DGN is marked, a command with byte 0 of zero hands out no position.
+-- A slide's instance 0 picks nothing: where no entry of the DGN is marked, a command with byte 0 of zero hands out no
+-- position.
 abbrev pub SlideIgnoresZero : Type 0
 SlideIgnoresZero =
     (id : ℕ) (bytes : List ℕ) (h : Host) (c : Claim) (r : Routed) → Route id bytes h c r → getD bytes 0 0 ≡ 0
-    → ((k : ℕ) → k < length (hosted h) → entryAt (hosted h) k .command ≡ catalogueForm (dgnOf id) → entryAt (hosted h) k .«zero_is_all» ≡ false)
+    → ((k : ℕ) → k < length (hosted h) → entryAt (hosted h) k .command ≡ catalogueForm (dgnOf id)
+    → entryAt (hosted h) k .«zero_is_all» ≡ false)
     → r .positions ≡ filled []
 
--- A frame of no hosted command DGN is nothing to do; without a held address every hosted command is 18; with one, a command to another address is
--- nothing to do.
+-- A frame of no hosted command DGN is nothing to do; without a held address every hosted command is 18; with one, a
+-- command to another address is nothing to do.
 
 abbrev pub NotHosted : Type 0
 NotHosted =
@@ -217,28 +242,34 @@ NotHosted =
 abbrev pub UnheldCommand : Type 0
 UnheldCommand =
     (id : ℕ) (bytes : List ℕ) (h : Host) (c : Claim) (p : Parts) → handedIn id bytes h c ≡ gives p
-    → any (hasCommand (catalogueForm (p .dgn))) (hosted h) ≡ true → addressHeld (standOf c) ≡ refused 18 → routedOf id bytes h c ≡ refused 18
+    → any (hasCommand (catalogueForm (p .dgn))) (hosted h) ≡ true → addressHeld (standOf c) ≡ refused 18
+    → routedOf id bytes h c ≡ refused 18
 
 abbrev pub CommandElsewhere : Type 0
 CommandElsewhere =
-    (id : ℕ) (bytes : List ℕ) (h : Host) (c : Claim) (p : Parts) (to address : ℕ) → handedIn id bytes h c ≡ gives p → standOf c ≡ held address
+    (id : ℕ) (bytes : List ℕ) (h : Host) (c : Claim) (p : Parts) (to address : ℕ) → handedIn id bytes h c ≡ gives p
+    → standOf c ≡ held address
     → destined (p .dgn) ≡ One to → (to ≡ address → ⊥) → routedOf id bytes h c ≡ gives Commands.nothingToDo
 
--- A request: another DGN than EAxxh is nothing to do, 1EAxxh too; 17 comes before another destination; bytes 3 to 7 change nothing.
+-- A request: another DGN than EAxxh is nothing to do, 1EAxxh too; 17 comes before another destination; bytes 3 to 7
+-- change nothing.
 
 abbrev pub OtherDgn : Type 0
 OtherDgn =
-    (id : ℕ) (bytes : List ℕ) (h : Host) (c : Claim) (p : Parts) → handedIn id bytes h c ≡ gives p → (catalogueForm (p .dgn) ≡ requestDgn → ⊥)
+    (id : ℕ) (bytes : List ℕ) (h : Host) (c : Claim) (p : Parts) → handedIn id bytes h c ≡ gives p
+    → (catalogueForm (p .dgn) ≡ requestDgn → ⊥)
     → requestedOf id bytes h c ≡ gives Requests.nothingToDo
 
 abbrev pub RequestTooLarge : Type 0
 RequestTooLarge =
-    (id : ℕ) (bytes : List ℕ) (h : Host) (c : Claim) (p : Parts) → handedIn id bytes h c ≡ gives p → catalogueForm (p .dgn) ≡ requestDgn
+    (id : ℕ) (bytes : List ℕ) (h : Host) (c : Claim) (p : Parts) → handedIn id bytes h c ≡ gives p
+    → catalogueForm (p .dgn) ≡ requestDgn
     → greatestDgn < requestedDgn bytes → requestedOf id bytes h c ≡ refused 17
 
 abbrev pub LaterBytesIgnored : Type 0
 LaterBytesIgnored =
-    (id : ℕ) (bytes bytes′ : List ℕ) (h : Host) (c : Claim) → length bytes ≡ length bytes′ → take 3 bytes ≡ take 3 bytes′
+    (id : ℕ) (bytes bytes′ : List ℕ) (h : Host) (c : Claim) → length bytes ≡ length bytes′
+    → take 3 bytes ≡ take 3 bytes′
     → requestedOf id bytes h c ≡ requestedOf id bytes′ h c
 
 -- While claiming, the address claimed is ours for EE00h only; silent, only global is ours.
@@ -254,8 +285,8 @@ SilentOnlyGlobal =
     (asked : Asked) (es : List Entry) (c : Claim) → standOf c ≡ silent → (asked .destination ≡ everyone → ⊥)
     → replyOf asked es c ≡ gives Requests.nothingToDo
 
--- Positions and NAKs are given from a held address only, and a NAK to one node only, which asked for what no entry supports: it is directed to our
--- address, and comes from one.
+-- Positions and NAKs are given from a held address only, and a NAK to one node only, which asked for what no entry
+-- supports: it is directed to our address, and comes from one.
 
 abbrev pub PickedHeld : Type 0
 PickedHeld =
@@ -265,7 +296,8 @@ PickedHeld =
 abbrev pub SupportedHeld : Type 0
 SupportedHeld =
     (id : ℕ) (bytes : List ℕ) (h : Host) (c : Claim) (ps : List ℕ) → requestedOf id bytes h c ≡ gives (supported ps)
-    → (address : ℕ) × (standOf c ≡ held address) × (ps ≡ positionsWhere (supports (askedOf (partsOf id) bytes)) (hosted h))
+    → (address : ℕ) × (standOf c ≡ held address)
+    × (ps ≡ positionsWhere (supports (askedOf (partsOf id) bytes)) (hosted h))
 
 pub record NakSound (id : ℕ) (bytes : List ℕ) (h : Host) (c : Claim) (frame : Frame) : Type 0 where
   pub address : ℕ

@@ -17,8 +17,8 @@ mod requests;
 // A hosted list has at most 16 entries.
 pub const ENTRIES: usize = 16;
 
-// A device that a node answers for: the DGN that commands it, the DGN of its status, its instance, and whether a command to instance 0 is for it
-// too (zero-is-all).
+// A device that a node answers for: the DGN that commands it, the DGN of its status, its instance, and whether a
+// command to instance 0 is for it too (zero-is-all).
 pub struct Entry {
     pub command: u32,
     pub status: u32,

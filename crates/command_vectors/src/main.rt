@@ -1,5 +1,5 @@
-// A node with two chargers and two slides hears commands and requests, and sends replies; then damaged lists, states and frames. Prints what
-// `command` answers, held to `stdout`.
+// A node with two chargers and two slides hears commands and requests, and sends replies; then damaged lists, states
+// and frames. Prints what `command` answers, held to `stdout`.
 use claim::Claim;
 use claim::HELD_AFTER;
 use command::Acknowledging;

@@ -1,4 +1,5 @@
-// "Commands, requests, replies": `Host::start`, `route` and `request`, and the acknowledgment.
+// "Commands, requests, replies": `Host::start`, `route` and `request`, the acknowledgment, and `refusal`, the number of
+// a refusal.
 pub use command::Acknowledged;
 pub use command::Acknowledging;
 pub use command::Acknowledgment;

@@ -1,12 +1,11 @@
 -- `command::picking::pick` meets its contract. Assumes nothing.
-use mathlib.Core.Path.{_≡_, sym, ap, _∙_}
+use mathlib.Core.Path.{_≡_, ap, _∙_}
 use Prim.Native.Nat.{_≤_, _<_, _-_}
 use native.Mathlib.Omega.{arith}
 use borrow.Author.Needs.{needs}
 use lib.Seq.{getD-take, length-take-le, take-all}
 use lib.ListN.{length, take, getD}
 use Rattle.command.specs.declared.Positions.{Positions}
-use Rattle.command.specs.declared.Entry.{Entry}
 use Rattle.frame.specs.Words.{if_then_else_}
 use Rattle.places.proofs.Search.{length-field}
 use Rattle.command.specs.Private.{isWanted, added}
