@@ -12,6 +12,7 @@ use Rattle.demands.specs.Demands.{DemandOne, DemandTwo, DemandThree}
 use Rattle.demands.proofs.EveryCall.{every-call}
 use Rattle.demands.proofs.BusyBus as BusyBus
 use Rattle.demands.proofs.SplitAndJoin as SplitAndJoin
+use Rattle.demands.proofs.ClaimsHeard as ClaimsHeard
 
 pub demand-one : DemandOne
 demand-one =
@@ -54,6 +55,7 @@ demand-two =
       splitter-cuts = Message.splitter-cuts;
       split-and-join = SplitAndJoin.split-and-join;
       joined-by-rules = SplitAndJoin.joined-by-rules;
+      claim-is-heard = ClaimsHeard.claim-is-heard;
       written-taken-apart = Capture.written-taken-apart;
       taken-apart-written = Capture.taken-apart-written;
       blocks-do-not-matter = Feeding.blocks-do-not-matter;

@@ -11,6 +11,7 @@ use Rattle.capture.specs.Laws as Capture
 use Rattle.demands.specs.EveryCall.{EveryCall}
 use Rattle.demands.specs.BusyBus.{BusyBus, OpenOnBus, ToldOnBus, NoPlaceFree, PauseCount, SumsOfPauses, StartKept, RulesKept, EveryRunRuns, NoPlaceFreeAt, PauseCountAt}
 use Rattle.demands.specs.SplitAndJoin.{SplitAndJoin, JoinedByRules}
+use Rattle.demands.specs.ClaimsHeard.{ClaimIsHeard}
 
 -- 1. Every public call ends with an answer for every input. No call relies on an earlier check. Each refusal carries
 -- document 01's number and changes nothing lent or held, but 10 closes that sender's message.
@@ -58,6 +59,8 @@ pub record DemandTwo : Type 0 where
   pub splitter-cuts : Message.SplitterCuts
   pub split-and-join : SplitAndJoin
   pub joined-by-rules : JoinedByRules
+  -- claims: what one node sends, another's table takes for that claim
+  pub claim-is-heard : ClaimIsHeard
   -- captures
   pub written-taken-apart : Capture.WrittenTakenApart
   pub taken-apart-written : Capture.TakenApartWritten

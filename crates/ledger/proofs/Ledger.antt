@@ -47,6 +47,7 @@ fields-of-two =
       splitter-cuts = demand-two .splitter-cuts;
       split-and-join = demand-two .split-and-join;
       joined-by-rules = demand-two .joined-by-rules;
+      claim-is-heard = demand-two .claim-is-heard;
       written-taken-apart = demand-two .written-taken-apart;
       taken-apart-written = demand-two .taken-apart-written;
       blocks-do-not-matter = demand-two .blocks-do-not-matter;

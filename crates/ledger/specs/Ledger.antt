@@ -14,6 +14,7 @@ use Rattle.demands.specs.EveryCall.{EveryCall}
 use Rattle.demands.specs.EveryLaw.{EveryLaw}
 use Rattle.demands.specs.BusyBus.{BusyBus, OpenOnBus, ToldOnBus, NoPlaceFree, PauseCount, SumsOfPauses, StartKept, RulesKept, EveryRunRuns, NoPlaceFreeAt, PauseCountAt}
 use Rattle.demands.specs.SplitAndJoin.{SplitAndJoin, JoinedByRules}
+use Rattle.demands.specs.ClaimsHeard.{ClaimIsHeard}
 use Rattle.examples.specs.Examples.{dmRv, eightAnnounced, nineAnnounced, eightSplit, nineSplit, longestAnnounced, longerAnnounced, longestSplit, longerSplit, wrongCount, idleKept, idleClosed, ninthSender, longMessage, lastNumber, firstReserved, zeroAmperes, lowestCelsius, slideAcknowledged, table, AllAsPrinted}
 
 pub record FieldsOfOne : Type 2 where
@@ -52,6 +53,7 @@ pub record FieldsOfTwo : Type 0 where
   pub splitter-cuts : Message.SplitterCuts
   pub split-and-join : SplitAndJoin
   pub joined-by-rules : JoinedByRules
+  pub claim-is-heard : ClaimIsHeard
   pub written-taken-apart : Capture.WrittenTakenApart
   pub taken-apart-written : Capture.TakenApartWritten
   pub blocks-do-not-matter : Capture.BlocksDoNotMatter
