@@ -40,12 +40,7 @@ pub struct Step {
 fn refusal_of(why: frame::BadFrame) -> u32
     ensures { λ r. ⌜ r ≡ refusalOf why ⌝ }
 {
-    match why {
-        frame::BadFrame::IdentifierTooLarge => 3,
-        frame::BadFrame::NotEightBytes => 4,
-        frame::BadFrame::ReservedBitSet => 5,
-        frame::BadFrame::SourceNotAllowed => 6,
-    }
+    why.refusal() as u32
 }
 
 fn print_of(answer: Answer) -> Print

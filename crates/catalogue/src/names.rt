@@ -1,4 +1,5 @@
-// The rows of the catalogue by the names of their DGN and their field in the standard (made by tools/catalogue from docs/catalogue.tsv).
+// The rows of the catalogue by the names of their DGN and their field in the standard
+// (made by tools/catalogue from docs/catalogue.tsv).
 
 // 6.9.13 WATERHEATER_CONFIGURATION_COMMAND
 pub mod waterheater_configuration_command {

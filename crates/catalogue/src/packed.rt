@@ -1,4 +1,5 @@
-// The rows of the catalogue, a number each: DGN, first bit, width, unit, plain mark (made by tools/catalogue from docs/catalogue.tsv).
+// The rows of the catalogue, a number each: DGN, first bit, width, unit, plain mark
+// (made by tools/catalogue from docs/catalogue.tsv).
 pub const COUNT: usize = 375;
 
 pub const ROWS: [u64; COUNT] = [

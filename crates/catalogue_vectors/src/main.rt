@@ -1,5 +1,6 @@
-// Runs the catalogue: prints every row of the code, writes and reads back each row at its least, greatest and special codes, and shows worked
-// values of document 000 with where they stand. Then rows by value, a lent table, and rows by DGN and first bit, good and damaged.
+// Runs the catalogue: prints every row of the code, writes and reads back each row at its least, greatest and special
+// codes, and shows worked values of document 000 with where they stand. Then rows by value, a lent table, and rows by
+// DGN and first bit, good and damaged.
 use catalogue::Class;
 use catalogue::Looked;
 use catalogue::Reading;
