@@ -1,4 +1,5 @@
--- A row's field in a frame, read, read as a scaled value, and written (document 01, "Field catalogue"; refusals 3 to 6, then 11, then 12).
+-- A row's field in a frame, read, read as a scaled value, and written (document 01, "Field catalogue"; refusals 3 to 6,
+-- then 11, then 12).
 use mathlib.Core.Bool.{not}
 use mathlib.Core.List.{List}
 use Prim.Native.Nat.{ℕ}
@@ -19,7 +20,10 @@ use Rattle.catalogue.specs.declared.Value.{Value}
 -- a row's class and code, where the eight bytes are this number
 unfoldable pub fieldIn : Row → ℕ → Field
 fieldIn row number =
-    record { class = classIn row (fieldOf (row .first) (row .width) number); code = fieldOf (row .first) (row .width) number }
+    record {
+      class = classIn row (fieldOf (row .first) (row .width) number);
+      code = fieldOf (row .first) (row .width) number;
+    }
 
 -- a row, if it lies in a frame and its DGN is this one (an addressed DGN with 00h for its destination)
 unfoldable pub matching : Row → ℕ → Told Row
@@ -36,7 +40,9 @@ unfoldable pub readRowOf : Row → ℕ → List ℕ → Told Field
 readRowOf row id bytes = given openedFor row id (length bytes) then λ row. gives (fieldIn row (numberOf bytes))
 
 unfoldable pub scaledRowOf : Row → ℕ → List ℕ → Told Value
-scaledRowOf row id bytes = given openedFor row id (length bytes) then λ row. gives (valueOf row (fieldIn row (numberOf bytes)))
+scaledRowOf row id bytes =
+    given openedFor row id (length bytes) then λ row.
+    gives (valueOf row (fieldIn row (numberOf bytes)))
 
 -- the bytes with a row's code replaced
 unfoldable pub replaced : Row → ℕ → List ℕ → List ℕ
@@ -62,7 +68,9 @@ unfoldable pub readOf : ℕ → ℕ → List ℕ → Told Field
 readOf n id bytes = given rowFor n id (length bytes) then λ row. gives (fieldIn row (numberOf bytes))
 
 unfoldable pub scaledReadOf : ℕ → ℕ → List ℕ → Told Value
-scaledReadOf n id bytes = given rowFor n id (length bytes) then λ row. gives (valueOf row (fieldIn row (numberOf bytes)))
+scaledReadOf n id bytes =
+    given rowFor n id (length bytes) then λ row.
+    gives (valueOf row (fieldIn row (numberOf bytes)))
 
 unfoldable pub writtenOf : ℕ → ℕ → List ℕ → Value → Told (List ℕ)
 writtenOf n id bytes value =

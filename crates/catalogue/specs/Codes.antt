@@ -42,7 +42,8 @@ raisedCode row step offset (From n) = steppedCode row step (offset + n)
 raisedCode row step offset (Below n) = if offset ≤? n then refused 12 else steppedCode row step (offset - (n + 1))
 
 unfoldable pub scaledCode : Row → ℤ → Told ℕ
-scaledCode row value = raisedCode row (stepsOf (row .unit) (row .width) .step) (stepsOf (row .unit) (row .width) .offset) (signOf value)
+scaledCode row value =
+    raisedCode row (stepsOf (row .unit) (row .width) .step) (stepsOf (row .unit) (row .width) .offset) (signOf value)
 
 unfoldable pub codeOf : Row → Value → Told ℕ
 codeOf row (Scaled value) = scaledCode row value

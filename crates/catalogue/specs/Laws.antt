@@ -1,4 +1,5 @@
--- The laws of this crate, each a named statement. proofs/Laws.antt has a proof of each, under the same name written small.
+-- The laws of this crate, each a named statement. proofs/Laws.antt has a proof of each, under the same name written
+-- small.
 use mathlib.Core.Path.{_≡_}
 use mathlib.Core.Bool.{true, false}
 use mathlib.Core.List.{List}
@@ -78,7 +79,8 @@ abbrev pub ReadOnly : Type 0
 ReadOnly = (n id : ℕ) (bytes : List ℕ) (r s : Reading) → ReadField n id bytes r → ReadField n id bytes s → r ≡ s
 
 abbrev pub ReadScaledOnly : Type 0
-ReadScaledOnly = (n id : ℕ) (bytes : List ℕ) (r s : ScaledReading) → ReadScaled n id bytes r → ReadScaled n id bytes s → r ≡ s
+ReadScaledOnly =
+    (n id : ℕ) (bytes : List ℕ) (r s : ScaledReading) → ReadScaled n id bytes r → ReadScaled n id bytes s → r ≡ s
 
 abbrev pub WriteOnly : Type 0
 WriteOnly =
@@ -86,11 +88,13 @@ WriteOnly =
     → WriteField n id bytes value r after → WriteField n id bytes value s after′ → (r ≡ s) × (after ≡ after′)
 
 abbrev pub ReadRowOnly : Type 0
-ReadRowOnly = (row : Row) (id : ℕ) (bytes : List ℕ) (r s : Reading) → ReadRow row id bytes r → ReadRow row id bytes s → r ≡ s
+ReadRowOnly =
+    (row : Row) (id : ℕ) (bytes : List ℕ) (r s : Reading) → ReadRow row id bytes r → ReadRow row id bytes s → r ≡ s
 
 abbrev pub ReadRowScaledOnly : Type 0
 ReadRowScaledOnly =
-    (row : Row) (id : ℕ) (bytes : List ℕ) (r s : ScaledReading) → ReadRowScaled row id bytes r → ReadRowScaled row id bytes s
+    (row : Row) (id : ℕ) (bytes : List ℕ) (r s : ScaledReading) → ReadRowScaled row id bytes r
+    → ReadRowScaled row id bytes s
     → r ≡ s
 
 abbrev pub WriteRowOnly : Type 0
@@ -105,7 +109,8 @@ abbrev pub ReadingRefusalOnly : Type 0
 ReadingRefusalOnly = (answer : Reading) (r s : ℕ) → ReadingRefusal answer r → ReadingRefusal answer s → r ≡ s
 
 abbrev pub ScaledReadingRefusalOnly : Type 0
-ScaledReadingRefusalOnly = (answer : ScaledReading) (r s : ℕ) → ScaledReadingRefusal answer r → ScaledReadingRefusal answer s → r ≡ s
+ScaledReadingRefusalOnly =
+    (answer : ScaledReading) (r s : ℕ) → ScaledReadingRefusal answer r → ScaledReadingRefusal answer s → r ≡ s
 
 abbrev pub WritingRefusalOnly : Type 0
 WritingRefusalOnly = (answer : Writing) (r s : ℕ) → WritingRefusal answer r → WritingRefusal answer s → r ≡ s
@@ -125,10 +130,12 @@ RowRefusedKeeps =
 pub record RowLowestWins (row : Row) (id : ℕ) (bytes : List ℕ) (value : Value) : Type 0 where
   pub frame-first :
       (k : ℕ) → checkedOf id (length bytes) ≡ refused k
-      → (readRowOf row id bytes ≡ refused k) × (scaledRowOf row id bytes ≡ refused k) × (writtenRowOf row id bytes value ≡ refused k)
+      → (readRowOf row id bytes ≡ refused k) × (scaledRowOf row id bytes ≡ refused k)
+      × (writtenRowOf row id bytes value ≡ refused k)
   pub row-next :
       (parts : Parts) → checkedOf id (length bytes) ≡ gives parts → matching row (parts .dgn) ≡ refused 11
-      → (readRowOf row id bytes ≡ refused 11) × (scaledRowOf row id bytes ≡ refused 11) × (writtenRowOf row id bytes value ≡ refused 11)
+      → (readRowOf row id bytes ≡ refused 11) × (scaledRowOf row id bytes ≡ refused 11)
+      × (writtenRowOf row id bytes value ≡ refused 11)
   pub code-last :
       (r : Row) → openedFor row id (length bytes) ≡ gives r → codeOf r value ≡ refused 12
       → writtenRowOf row id bytes value ≡ refused 12
@@ -136,11 +143,15 @@ pub record RowLowestWins (row : Row) (id : ℕ) (bytes : List ℕ) (value : Valu
 pub record LowestWins (n id : ℕ) (bytes : List ℕ) (value : Value) : Type 0 where
   pub frame-first :
       (k : ℕ) → checkedOf id (length bytes) ≡ refused k
-      → (readOf n id bytes ≡ refused k) × (scaledReadOf n id bytes ≡ refused k) × (writtenOf n id bytes value ≡ refused k)
+      → (readOf n id bytes ≡ refused k) × (scaledReadOf n id bytes ≡ refused k)
+      × (writtenOf n id bytes value ≡ refused k)
   pub row-next :
       (parts : Parts) → checkedOf id (length bytes) ≡ gives parts → rowOfDgn n (parts .dgn) ≡ refused 11
-      → (readOf n id bytes ≡ refused 11) × (scaledReadOf n id bytes ≡ refused 11) × (writtenOf n id bytes value ≡ refused 11)
-  pub code-last : (row : Row) → rowFor n id (length bytes) ≡ gives row → codeOf row value ≡ refused 12 → writtenOf n id bytes value ≡ refused 12
+      → (readOf n id bytes ≡ refused 11) × (scaledReadOf n id bytes ≡ refused 11)
+      × (writtenOf n id bytes value ≡ refused 11)
+  pub code-last :
+      (row : Row) → rowFor n id (length bytes) ≡ gives row → codeOf row value ≡ refused 12
+      → writtenOf n id bytes value ≡ refused 12
 
 -- The computed test says that a row lies in a frame; one that does not is refused.
 
@@ -150,8 +161,9 @@ LiesInFrame = (row : Row) → (liesInFrame row ≡ true) ↔ InFrame (row .first
 abbrev pub OutsideRefused : Type 0
 OutsideRefused = (row : Row) (dgn : ℕ) → (InFrame (row .first) (row .width) → ⊥) → matching row dgn ≡ refused 11
 
--- The rule of a table, in any list of rows that keeps it: rows rise strictly by DGN and then first bit, each ends at or before bit 63, two rows of one
--- DGN share no bit, the span of a DGN has its rows and no others, and a row is found by its DGN and first bit.
+-- The rule of a table, in any list of rows that keeps it: rows rise strictly by DGN and then first bit, each ends at or
+-- before bit 63, two rows of one DGN share no bit, the span of a DGN has its rows and no others, and a row is found by
+-- its DGN and first bit.
 
 abbrev pub HasBit : Row → ℕ → Type 0
 HasBit row b = (row .first ≤ b) × (b < row .first + row .width)
@@ -159,7 +171,8 @@ HasBit row b = (row .first ≤ b) × (b < row .first + row .width)
 pub record Ruled (list : List Row) : Type 0 where
   pub rising :
       (i j : ℕ) → i < j → j < length list
-      → (nth list i .dgn < nth list j .dgn) ⊎ ((nth list i .dgn ≡ nth list j .dgn) × (nth list i .first < nth list j .first))
+      → (nth list i .dgn < nth list j .dgn)
+      ⊎ ((nth list i .dgn ≡ nth list j .dgn) × (nth list i .first < nth list j .first))
   pub ends : (i : ℕ) → i < length list → InFrame (nth list i .first) (nth list i .width)
   pub apart :
       (i j b : ℕ) → i < length list → j < length list → (i ≡ j → ⊥) → nth list i .dgn ≡ nth list j .dgn
@@ -185,7 +198,8 @@ pub record FoundWith (list : List Row) (dgn first : ℕ) (row : Row) : Type 0 wh
   pub first-is : row .first ≡ first
 
 abbrev pub RowFound : Type 0
-RowFound = (list : List Row) (dgn first : ℕ) (row : Row) → rowWith list dgn first ≡ gives row → FoundWith list dgn first row
+RowFound =
+    (list : List Row) (dgn first : ℕ) (row : Row) → rowWith list dgn first ≡ gives row → FoundWith list dgn first row
 
 abbrev pub SpanWithin : Type 0
 SpanWithin = (list : List Row) (dgn : ℕ) → spanIn list dgn .start + spanIn list dgn .count ≤ length list
@@ -196,11 +210,13 @@ abbrev pub RowInRuled : Type 0
 RowInRuled = (table : List ℕ) (n : ℕ) → KeepsRule (tableRows table) → tableRow table n ≡ rowIn (tableRows table) n
 
 abbrev pub RowsInRuled : Type 0
-RowsInRuled = (table : List ℕ) (dgn : ℕ) → KeepsRule (tableRows table) → tableSpan table dgn ≡ spanIn (tableRows table) dgn
+RowsInRuled =
+    (table : List ℕ) (dgn : ℕ) → KeepsRule (tableRows table) → tableSpan table dgn ≡ spanIn (tableRows table) dgn
 
 abbrev pub RowOfInRuled : Type 0
 RowOfInRuled =
-    (table : List ℕ) (dgn first : ℕ) → KeepsRule (tableRows table) → tableRowWith table dgn first ≡ rowWith (tableRows table) dgn first
+    (table : List ℕ) (dgn first : ℕ) → KeepsRule (tableRows table)
+    → tableRowWith table dgn first ≡ rowWith (tableRows table) dgn first
 
 abbrev pub RowsInWithin : Type 0
 RowsInWithin = (table : List ℕ) (dgn : ℕ) → tableSpan table dgn .start + tableSpan table dgn .count ≤ length table
@@ -225,7 +241,8 @@ abbrev pub ScaledAt : Type 0
 ScaledAt = (n id : ℕ) (bytes : List ℕ) → scaledReadOf n id bytes ≡ scaledRowOf (rowAt n) id bytes
 
 abbrev pub WrittenAt : Type 0
-WrittenAt = (n id : ℕ) (bytes : List ℕ) (value : Value) → writtenOf n id bytes value ≡ writtenRowOf (rowAt n) id bytes value
+WrittenAt =
+    (n id : ℕ) (bytes : List ℕ) (value : Value) → writtenOf n id bytes value ≡ writtenRowOf (rowAt n) id bytes value
 
 -- The same of the catalogue.
 
@@ -233,18 +250,23 @@ abbrev pub RowCount : Type 0
 RowCount = length rows ≡ rowCount
 
 abbrev pub Rising : Type 0
-Rising = (i j : ℕ) → i < j → j < rowCount → (rowAt i .dgn < rowAt j .dgn) ⊎ ((rowAt i .dgn ≡ rowAt j .dgn) × (rowAt i .first < rowAt j .first))
+Rising =
+    (i j : ℕ) → i < j → j < rowCount
+    → (rowAt i .dgn < rowAt j .dgn) ⊎ ((rowAt i .dgn ≡ rowAt j .dgn) × (rowAt i .first < rowAt j .first))
 
 abbrev pub Ends : Type 0
 Ends = (i : ℕ) → i < rowCount → InFrame (rowAt i .first) (rowAt i .width)
 
 abbrev pub Apart : Type 0
-Apart = (i j b : ℕ) → i < rowCount → j < rowCount → (i ≡ j → ⊥) → rowAt i .dgn ≡ rowAt j .dgn → HasBit (rowAt i) b → HasBit (rowAt j) b → ⊥
+Apart =
+    (i j b : ℕ) → i < rowCount → j < rowCount → (i ≡ j → ⊥) → rowAt i .dgn ≡ rowAt j .dgn
+    → HasBit (rowAt i) b → HasBit (rowAt j) b → ⊥
 
 -- The span of a DGN has its rows and no others.
 abbrev pub Exactly : Type 0
 Exactly =
-    (dgn n : ℕ) → n < rowCount → ((spanOf dgn .start ≤ n) × (n < spanOf dgn .start + spanOf dgn .count)) ↔ (rowAt n .dgn ≡ dgn)
+    (dgn n : ℕ) → n < rowCount
+    → ((spanOf dgn .start ≤ n) × (n < spanOf dgn .start + spanOf dgn .count)) ↔ (rowAt n .dgn ≡ dgn)
 
 abbrev pub Within : Type 0
 Within = (dgn : ℕ) → spanOf dgn .start + spanOf dgn .count ≤ rowCount
@@ -280,7 +302,8 @@ abbrev pub bitOf : ℕ → ℕ → ℕ
 bitOf b number = fieldOf b 1 number
 
 abbrev pub BitOfByte : Type 0
-BitOfByte = (bytes : List ℕ) (b k : ℕ) → AreBytes bytes → k < 8 → bitOf (8 * b + k) (numberOf bytes) ≡ bitOf k (getD bytes b 0)
+BitOfByte =
+    (bytes : List ℕ) (b k : ℕ) → AreBytes bytes → k < 8 → bitOf (8 * b + k) (numberOf bytes) ≡ bitOf k (getD bytes b 0)
 
 -- A code and its value give each other back.
 
@@ -291,13 +314,16 @@ abbrev pub CodeBack : Type 0
 CodeBack = (row : Row) (code : ℕ) → code < 2 ^ row .width → codeOf row (valueOf row (fieldAt row code)) ≡ gives code
 
 abbrev pub ValueBack : Type 0
-ValueBack = (row : Row) (value : Value) (code : ℕ) → codeOf row value ≡ gives code → (code < 2 ^ row .width) × (valueOf row (fieldAt row code) ≡ value)
+ValueBack =
+    (row : Row) (value : Value) (code : ℕ) → codeOf row value ≡ gives code
+    → (code < 2 ^ row .width) × (valueOf row (fieldAt row code) ≡ value)
 
 -- What was written is read back, with the code that stands for it.
 
 abbrev pub RowReadsBack : Type 0
 RowReadsBack =
-    (row : Row) (id : ℕ) (bytes new : List ℕ) (value : Value) → AreBytes bytes → writtenRowOf row id bytes value ≡ gives new
+    (row : Row) (id : ℕ) (bytes new : List ℕ) (value : Value) → AreBytes bytes
+    → writtenRowOf row id bytes value ≡ gives new
     → scaledRowOf row id new ≡ gives value
 
 abbrev pub RowReadsCode : Type 0
@@ -308,14 +334,17 @@ RowReadsCode =
 
 abbrev pub ReadsBack : Type 0
 ReadsBack =
-    (n id : ℕ) (bytes new : List ℕ) (value : Value) → AreBytes bytes → writtenOf n id bytes value ≡ gives new → scaledReadOf n id new ≡ gives value
+    (n id : ℕ) (bytes new : List ℕ) (value : Value) → AreBytes bytes → writtenOf n id bytes value ≡ gives new
+    → scaledReadOf n id new ≡ gives value
 
 abbrev pub ReadsCode : Type 0
 ReadsCode =
-    (n id : ℕ) (bytes : List ℕ) (value : Value) (row : Row) (code : ℕ) → AreBytes bytes → rowFor n id (length bytes) ≡ gives row → codeOf row value ≡ gives code
+    (n id : ℕ) (bytes : List ℕ) (value : Value) (row : Row) (code : ℕ) → AreBytes bytes
+    → rowFor n id (length bytes) ≡ gives row → codeOf row value ≡ gives code
     → readOf n id (replaced row code bytes) ≡ gives (fieldAt row code)
 
--- Every other row of the frame reads as it did, and every bit outside the row is as it was; the frame keeps eight bytes.
+-- Every other row of the frame reads as it did, and every bit outside the row is as it was; the frame keeps eight
+-- bytes.
 
 abbrev pub RowReadsOthers : Type 0
 RowReadsOthers =
@@ -337,16 +366,20 @@ RowEightBytes =
 
 abbrev pub ReadsOthers : Type 0
 ReadsOthers =
-    (n m id : ℕ) (bytes new : List ℕ) (value : Value) → AreBytes bytes → (m ≡ n → ⊥) → writtenOf n id bytes value ≡ gives new
+    (n m id : ℕ) (bytes new : List ℕ) (value : Value) → AreBytes bytes → (m ≡ n → ⊥)
+    → writtenOf n id bytes value ≡ gives new
     → (readOf m id new ≡ readOf m id bytes) × (scaledReadOf m id new ≡ scaledReadOf m id bytes)
 
 abbrev pub BitsKept : Type 0
 BitsKept =
-    (n id b : ℕ) (bytes new : List ℕ) (value : Value) → AreBytes bytes → (HasBit (rowAt n) b → ⊥) → writtenOf n id bytes value ≡ gives new
+    (n id b : ℕ) (bytes new : List ℕ) (value : Value) → AreBytes bytes → (HasBit (rowAt n) b → ⊥)
+    → writtenOf n id bytes value ≡ gives new
     → bitOf b (numberOf new) ≡ bitOf b (numberOf bytes)
 
 abbrev pub EightBytes : Type 0
-EightBytes = (n id : ℕ) (bytes new : List ℕ) (value : Value) → writtenOf n id bytes value ≡ gives new → (length new ≡ frameBytes) × AreBytes new
+EightBytes =
+    (n id : ℕ) (bytes new : List ℕ) (value : Value) → writtenOf n id bytes value ≡ gives new
+    → (length new ≡ frameBytes) × AreBytes new
 
 -- Document 01's examples (8), (9), (10).
 

@@ -1,4 +1,5 @@
--- A table of packed rows. A row is one number, in hexadecimal digits DGN (5), first bit (2), width (2), unit (1), plain mark (1).
+-- A table of packed rows. A row is one number, in hexadecimal digits DGN (5), first bit (2), width (2), unit (1), plain
+-- mark (1).
 use mathlib.Core.Bool.{not}
 use mathlib.Core.List.{List, map}
 use Prim.Native.Nat.{ℕ, zero, suc, _+_, _*_, _-_, _/_, _%_}
@@ -39,7 +40,8 @@ unitDigit Ampere = 4
 unitDigit Hertz = 5
 
 unfoldable pub pack : Row → ℕ
-pack r = r .dgn * 0x1000000 + r .first * 0x10000 + r .width * 256 + unitDigit (r .unit) * 16 + (if r .plain then 1 else 0)
+pack r =
+    r .dgn * 0x1000000 + r .first * 0x10000 + r .width * 256 + unitDigit (r .unit) * 16 + (if r .plain then 1 else 0)
 
 -- the catalogue, packed
 unfoldable pub packedRows : List ℕ
@@ -61,7 +63,8 @@ tableRow table n = given rowIn (tableRows table) n then λ row. lying row
 unfoldable pub tableRowWith : List ℕ → ℕ → ℕ → Told Row
 tableRowWith table dgn first = given rowWith (tableRows table) dgn first then λ row. lying row
 
--- Halving: where the rows with a DGN below the key end, in a list whose DGNs never fall; each turn halves the stretch from `low` to `high`.
+-- Halving: where the rows with a DGN below the key end, in a list whose DGNs never fall; each turn halves the stretch
+-- from `low` to `high`.
 abbrev pub middle : ℕ → ℕ → ℕ
 middle low high = low + (high - low) / 2
 

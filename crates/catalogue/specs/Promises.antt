@@ -1,4 +1,5 @@
--- What each public call of this crate promises: one proposition over all that it answers. The answers are read in document 01's terms.
+-- What each public call of this crate promises: one proposition over all that it answers. The answers are read in
+-- document 01's terms.
 use mathlib.Core.Path.{_≡_}
 use mathlib.Core.List.{List}
 use Prim.Native.Nat.{ℕ}

@@ -5,6 +5,17 @@ ghost use Rattle.frame.specs.Words.{_=?_};
 ghost use Rattle.catalogue.specs.Classes.{greatestCode, ofThree, classAt, classIn, belowGreatest};
 use crate::Class;
 use crate::Row;
+use crate::fields;
+
+// The greatest codes of the widths that have all three classes.
+const GREATEST_UINT8: u64 = 0xFF;
+
+const GREATEST_UINT16: u64 = 0xFFFF;
+
+const GREATEST_UINT32: u64 = 0xFFFFFFFF;
+
+// The least width at which all ones is no number.
+const LEAST_CLASSED: u8 = 2;
 
 pub fn class_in(row: Row, code: u64) -> Class
     ensures { λ r. ⌜ r ≡ classIn row code ⌝ }
@@ -30,16 +41,16 @@ pub fn below_greatest(class: Class) -> u64
 fn class_at(width: u8, code: u64) -> Class
     ensures { λ r. ⌜ r ≡ classAt width code ⌝ }
 {
-    if width == 8 {
-        return of_three(0xFF, code);
+    if width == fields::UINT8 {
+        return of_three(GREATEST_UINT8, code);
     }
-    if width == 16 {
-        return of_three(0xFFFF, code);
+    if width == fields::UINT16 {
+        return of_three(GREATEST_UINT16, code);
     }
-    if width == 32 {
-        return of_three(0xFFFFFFFF, code);
+    if width == fields::UINT32 {
+        return of_three(GREATEST_UINT32, code);
     }
-    if width < 2 {
+    if width < LEAST_CLASSED {
         return Class::Number;
     }
     if all_ones(width, code) {
@@ -67,11 +78,11 @@ fn of_three(greatest: u64, code: u64) -> Class
 fn all_ones(width: u8, code: u64) -> bool
     ensures { λ r. ⌜ r ≡ (code =? greatestCode width) ⌝ }
 {
-    if 64 < width {
+    if fields::FRAME_BITS < width {
         return false;
     }
-    if width == 64 {
-        return code == 0xFFFFFFFFFFFFFFFF;
+    if width == fields::FRAME_BITS {
+        return code == u64::MAX;
     }
     code == (1u64 << width) - 1
 }

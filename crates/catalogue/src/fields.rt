@@ -13,6 +13,13 @@ pub const FRAME_BITS: u8 = 64;
 
 const FRAME_BYTES: usize = 8;
 
+// The widths that have all three classes (000, Table 3.2.3b).
+pub const UINT8: u8 = 8;
+
+pub const UINT16: u8 = 16;
+
+pub const UINT32: u8 = 32;
+
 // How many values a byte has.
 const BYTE_VALUES: u64 = 256;
 

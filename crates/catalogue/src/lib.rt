@@ -7,6 +7,7 @@ ghost use Rattle.catalogue.specs.Promises.{Rows, RowAt, RowsOf, RowOf, P
 mod classes;
 pub mod dgns;
 mod fields;
+pub mod names;
 mod packed;
 mod scale;
 mod table;
@@ -173,7 +174,7 @@ pub fn row_of(dgn: u32, first: u8) -> Looked
 }
 
 // The catalogue as a table of packed rows, for a program that holds it and lends it: each call above makes it anew.
-pub fn packed_rows() -> [u64; 375]
+pub fn packed_rows() -> [u64; packed::COUNT]
     ensures { λ r. ⌜ PackedRows r ⌝ }
 {
     packed::ROWS

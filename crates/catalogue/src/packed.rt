@@ -1,7 +1,8 @@
-// The rows of the catalogue, a number each: DGN, first bit, width, unit, plain mark (made by tools/catalogue from docs/catalogue.tsv).
+// The rows of the catalogue, a number each: DGN, first bit, width, unit, plain mark
+// (made by tools/catalogue from docs/catalogue.tsv).
 pub const COUNT: usize = 375;
 
-pub const ROWS: [u64; 375] = [
+pub const ROWS: [u64; COUNT] = [
     0x1FD9C_00_08_0_0,
     0x1FD9C_08_10_0_1,
     0x1FD9C_18_10_0_0,

@@ -13,6 +13,16 @@ use crate::Value;
 use crate::classes;
 use crate::fields;
 
+// In 1/32 °C: a step of 1 °C at 8 bits, and how far the least value stands below 0 at 8 and 16 bits (000, 5.3).
+const CELSIUS_8_STEP: u64 = 32;
+
+const CELSIUS_8_OFFSET: u64 = 1280;
+
+const CELSIUS_16_OFFSET: u64 = 8736;
+
+// In 1/20 A: how far the least value stands below 0 at 16 bits.
+const AMPERE_OFFSET: u64 = 32000;
+
 // The code of a value, or refusal 12.
 pub enum Coded {
     Code(u64),
@@ -139,11 +149,11 @@ fn steps_of(unit: Unit, width: u8) -> Steps
 fn celsius_steps(width: u8) -> Steps
     ensures { λ r. ⌜ r ≡ celsiusSteps width ⌝ }
 {
-    if width == 8 {
-        return by_steps(32, 1280);
+    if width == fields::UINT8 {
+        return by_steps(CELSIUS_8_STEP, CELSIUS_8_OFFSET);
     }
-    if width == 16 {
-        return by_steps(1, 8736);
+    if width == fields::UINT16 {
+        return by_steps(1, CELSIUS_16_OFFSET);
     }
     by_steps(1, 0)
 }
@@ -151,8 +161,8 @@ fn celsius_steps(width: u8) -> Steps
 fn ampere_steps(width: u8) -> Steps
     ensures { λ r. ⌜ r ≡ ampereSteps width ⌝ }
 {
-    if width == 16 {
-        return by_steps(1, 32000);
+    if width == fields::UINT16 {
+        return by_steps(1, AMPERE_OFFSET);
     }
     by_steps(1, 0)
 }

@@ -1,4 +1,5 @@
-// Rows of a table of packed rows: a row is one number, in hexadecimal digits DGN (5), first bit (2), width (2), unit (1), plain mark (1).
+// Rows of a table of packed rows: a row is one number, in hexadecimal digits DGN (5), first bit (2), width (2), unit
+// (1), plain mark (1).
 ghost use mathlib.Core.Path.{_≡_};
 ghost use Prim.Native.Nat.{_<_};
 ghost use lib.ListN.{length};

@@ -1,5 +1,6 @@
-// Runs the catalogue: prints every row of the code, writes and reads back each row at its least, greatest and special codes, and shows worked
-// values of document 000 with where they stand.
+// Runs the catalogue: prints every row of the code, writes and reads back each row at its least, greatest and special
+// codes, and shows worked values of document 000 with where they stand. Then rows by value, a lent table, and rows by
+// DGN and first bit, good and damaged.
 use catalogue::Class;
 use catalogue::Looked;
 use catalogue::Reading;
@@ -9,6 +10,7 @@ use catalogue::Unit;
 use catalogue::Value;
 use catalogue::Writing;
 use catalogue::dgns;
+use catalogue::names;
 use libc::STDOUT_FILENO;
 
 fn main() {
@@ -19,6 +21,9 @@ fn main() {
     refusals();
     spans();
     print_frame();
+    rows_by_value();
+    lent_table();
+    by_first_bit();
 }
 
 fn text(bytes: &[u8]) {
@@ -163,12 +168,12 @@ fn code_back(n: usize, row: Row, code: u64) {
 }
 
 fn print_writing(writing: Writing) {
-    match writing {
-        Writing::Written => text(b""),
-        Writing::BadFrame(_) => text(b"3 to 6:"),
-        Writing::NoSuchRow => text(b"11:"),
-        Writing::NoCode => text(b"12:"),
+    let refusal = writing.refusal();
+    if refusal == 0 {
+        return;
     }
+    decimal(refusal as u64);
+    text(b":");
 }
 
 fn print_reading(n: usize, id: u32, bytes: [u8; 8]) {
@@ -207,32 +212,6 @@ fn id_of(dgn: u32) -> u32 {
     }
 }
 
-// The number of the row of a DGN that begins at a bit; the count of rows where there is none.
-fn find(dgn: u32, bit: u8) -> usize {
-    let count = catalogue::rows();
-    let mut n: usize = 0;
-    while n < count {
-        if begins(n, dgn, bit) {
-            return n;
-        }
-        n += 1;
-    }
-    count
-}
-
-fn begins(n: usize, dgn: u32, bit: u8) -> bool {
-    let looked = catalogue::row_at(n);
-    match looked {
-        Looked::NoSuchRow => false,
-        Looked::Is(row) => {
-            if row.dgn != dgn {
-                return false;
-            }
-            row.first == bit
-        }
-    }
-}
-
 // A worked value: where it stands in document 000, the row, its code and its scaled value.
 fn worked(source: &[u8], dgn: u32, bit: u8, code: u64) {
     text(source);
@@ -243,14 +222,21 @@ fn worked(source: &[u8], dgn: u32, bit: u8, code: u64) {
     text(b" code=");
     decimal(code);
     text(b" value=");
-    let bytes = frame::bytes_of(shifted(code, bit));
-    let reading = catalogue::read_scaled(find(dgn, bit), id_of(dgn), &bytes);
+    let looked = catalogue::row_of(dgn, bit);
+    match looked {
+        Looked::NoSuchRow => text(b"no-such-row"),
+        Looked::Is(row) => print_scaled(row, id_of(dgn), frame::bytes_of(shifted(code, bit))),
+    }
+    text(b"\n");
+}
+
+fn print_scaled(row: Row, id: u32, bytes: [u8; 8]) {
+    let reading = catalogue::read_row_scaled(row, id, &bytes);
     match reading {
         ScaledReading::Is(value) => print_value(value),
         ScaledReading::BadFrame(_) => text(b"bad-frame"),
         ScaledReading::NoSuchRow => text(b"no-such-row"),
     }
-    text(b"\n");
 }
 
 fn worked_values() {
@@ -455,11 +441,22 @@ fn written(dgn: u32, bit: u8, id: u32, value: Value) {
     text(b" value=");
     print_value(value);
     text(b": ");
-    let mut bytes = [0u8; 8];
-    let writing = catalogue::write(find(dgn, bit), id, &mut bytes, value);
-    print_writing(writing);
-    io::print_hex(STDOUT_FILENO, frame::number_of(bytes), 16);
+    let looked = catalogue::row_of(dgn, bit);
+    match looked {
+        Looked::NoSuchRow => {
+            decimal(looked.refusal() as u64);
+            text(b": no such row");
+        }
+        Looked::Is(row) => print_written(row, id, [0u8; 8], value),
+    }
     text(b"\n");
+}
+
+fn print_written(row: Row, id: u32, bytes: [u8; 8], value: Value) {
+    let mut after = bytes;
+    let writing = catalogue::write_row(row, id, &mut after, value);
+    print_writing(writing);
+    io::print_hex(STDOUT_FILENO, frame::number_of(after), 16);
 }
 
 fn refusals() {
@@ -549,4 +546,117 @@ fn print_field(n: usize, number: u64) {
             text(b"\n");
         }
     }
+}
+
+// A row by value: what reading gives, and the frame's bytes after 1 is written.
+fn row_by_value(name: &[u8], row: Row, id: u32) {
+    let bytes = [0x12u8, 0x34, 0x56, 0x78, 0x9A, 0xBC, 0xDE, 0xF0];
+    text(b"by value, ");
+    text(name);
+    text(b": ");
+    let reading = catalogue::read_row(row, id, &bytes);
+    match reading {
+        Reading::Is(field) => decimal(field.code),
+        Reading::BadFrame(_) => print_refusal(reading.refusal()),
+        Reading::NoSuchRow => print_refusal(reading.refusal()),
+    }
+    text(b" scaled ");
+    let scaled = catalogue::read_row_scaled(row, id, &bytes);
+    match scaled {
+        ScaledReading::Is(value) => print_value(value),
+        ScaledReading::BadFrame(_) => print_refusal(scaled.refusal()),
+        ScaledReading::NoSuchRow => print_refusal(scaled.refusal()),
+    }
+    text(b" written ");
+    print_written(row, id, bytes, Value::Scaled(1));
+    text(b"\n");
+}
+
+fn print_refusal(refusal: u8) {
+    text(b"refusal ");
+    decimal(refusal as u64);
+}
+
+// A row of CHARGER_STATUS_3 that document 000 does not have.
+fn made_row(first: u8, width: u8) -> Row {
+    Row {
+        dgn: dgns::CHARGER_STATUS_3,
+        first,
+        width,
+        unit: Unit::Other,
+        plain: true,
+    }
+}
+
+fn rows_by_value() {
+    let id = id_of(dgns::CHARGER_STATUS_3);
+    let reason = names::charger_status_3::DERATING_REASON;
+    row_by_value(b"by its name", reason, id);
+    row_by_value(b"another DGN", reason, id_of(dgns::TANK_STATUS));
+    row_by_value(b"30 bits of an identifier", reason, 0x20000000);
+    row_by_value(b"the last 32 bits", made_row(32, 32), id);
+    row_by_value(b"33 bits", made_row(0, 33), id);
+    row_by_value(b"no bit", made_row(0, 0), id);
+    row_by_value(b"past bit 63", made_row(60, 8), id);
+}
+
+fn print_looked(looked: Looked) {
+    match looked {
+        Looked::NoSuchRow => print_refusal(looked.refusal()),
+        Looked::Is(row) => {
+            io::print_hex(STDOUT_FILENO, row.dgn as u64, 5);
+            text(b" bit=");
+            decimal(row.first as u64);
+            text(b" width=");
+            decimal(row.width as u64);
+        }
+    }
+    text(b"\n");
+}
+
+// A table of another's rows: two of an addressed DGN, the second past bit 63, and one of another DGN.
+fn lent_table() {
+    let table = [0x0EF00_00_08_0_0u64, 0x0EF00_3C_08_0_0, 0x1FECA_10_08_0_1];
+    lent_row(&table, 0);
+    lent_row(&table, 1);
+    lent_row(&table, 2);
+    lent_row(&table, 3);
+    lent_span(&table, 0x0EF42);
+    lent_span(&table, 0x1FEC9);
+    lent_span(&table, 0x1FECA);
+    text(b"lent 0ef42 bit 0: ");
+    print_looked(catalogue::row_of_in(&table, 0x0EF42, 0));
+    text(b"lent 0ef42 bit 60: ");
+    print_looked(catalogue::row_of_in(&table, 0x0EF42, 60));
+    text(b"lent 1feca bit 16: ");
+    print_looked(catalogue::row_of_in(&table, 0x1FECA, 16));
+    text(b"lent 1feca bit 0: ");
+    print_looked(catalogue::row_of_in(&table, 0x1FECA, 0));
+}
+
+fn lent_row(table: &[u64], n: usize) {
+    text(b"lent row ");
+    decimal(n as u64);
+    text(b": ");
+    print_looked(catalogue::row_in(table, n));
+}
+
+fn lent_span(table: &[u64], dgn: u32) {
+    let found = catalogue::rows_in(table, dgn);
+    text(b"lent span dgn=");
+    io::print_hex(STDOUT_FILENO, dgn as u64, 5);
+    text(b" start=");
+    decimal(found.start as u64);
+    text(b" count=");
+    decimal(found.count as u64);
+    text(b"\n");
+}
+
+fn by_first_bit() {
+    text(b"found 1fdca bit 16: ");
+    print_looked(catalogue::row_of(dgns::CHARGER_STATUS_3, 16));
+    text(b"found 1fdca bit 17: ");
+    print_looked(catalogue::row_of(dgns::CHARGER_STATUS_3, 17));
+    text(b"found 1fdcb bit 16: ");
+    print_looked(catalogue::row_of(0x1FDCB, 16));
 }

@@ -1,4 +1,4 @@
-// "Field catalogue": rows, classes, fields read and written; `dgns` has the names of the DGNs.
+// "Field catalogue": rows, classes, fields read and written; `dgns` has the names of the DGNs, `names` the rows by name.
 pub use catalogue::Class;
 pub use catalogue::Field;
 pub use catalogue::Looked;
@@ -11,6 +11,7 @@ pub use catalogue::Value;
 pub use catalogue::Writing;
 pub use catalogue::classify;
 pub use catalogue::dgns;
+pub use catalogue::names;
 pub use catalogue::packed_rows;
 pub use catalogue::read;
 pub use catalogue::read_row;
