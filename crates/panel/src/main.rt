@@ -9,13 +9,14 @@ mod replies;
 mod show;
 mod state;
 
-use capture::Cutter;
-use capture::Cutting;
-use capture::Ending;
-use capture::Reading;
-use frame::Parts;
-use frame::Verdict;
 use libc::STDIN_FILENO;
+use rvc::captures::Cutter;
+use rvc::captures::Cutting;
+use rvc::captures::Ending;
+use rvc::captures::Reading;
+use rvc::identifiers::Parts;
+use rvc::identifiers::Verdict;
+use rvc::messages::limits::STORAGE_BYTES;
 use state::Panel;
 
 // The panel while it listens: the lines of its input so far, and whether more may come.
@@ -33,7 +34,7 @@ struct Turn {
 
 fn main() {
     let mut block = io::large_buffer();
-    let mut storage = [0u8; 14280];
+    let mut storage = [0u8; STORAGE_BYTES];
     let listener = Listener {
         cutter: Cutter::new(),
         panel: network::start(),
@@ -107,7 +108,7 @@ fn next_line(listener: Listener, block: &[u8], at: usize, storage: &mut [u8]) ->
             turned(cutter, panel, true, cut.next)
         }
         Cutting::TooLong => {
-            show::refused(19);
+            too_long();
             turned(cutter, panel, true, cut.next)
         }
         Cutting::BlockUsed => turned(cutter, panel, true, block.len()),
@@ -139,16 +140,22 @@ fn last_line(listener: Listener, storage: &mut [u8]) -> Panel {
             hear_line(panel, &carry[..count], storage)
         }
         Ending::TooLong => {
-            show::refused(19);
+            too_long();
             panel
         }
         Ending::Nothing => panel,
     }
 }
 
+// A line that is too long is malformed.
+fn too_long() {
+    let answer = Reading::Malformed;
+    show::refused(answer.refusal());
+}
+
 // A line: the pause before its frame, then the frame. A malformed line passes no time.
 fn hear_line(panel: Panel, text: &[u8], storage: &mut [u8]) -> Panel {
-    let line = capture::take_apart(text);
+    let line = rvc::captures::take_apart(text);
     let answer = line.answer;
     let bytes = line.bytes;
     match answer {
@@ -157,7 +164,7 @@ fn hear_line(panel: Panel, text: &[u8], storage: &mut [u8]) -> Panel {
             hear_frame(panel, line.id, bytes, storage)
         }
         Reading::Malformed => {
-            show::refused(19);
+            show::refused(answer.refusal());
             panel
         }
     }
@@ -165,12 +172,12 @@ fn hear_line(panel: Panel, text: &[u8], storage: &mut [u8]) -> Panel {
 
 // A frame that is refused by itself is refused once, whatever it is for.
 fn hear_frame(panel: Panel, id: u32, bytes: [u8; 8], storage: &mut [u8]) -> Panel {
-    let checked = frame::check(id, &bytes);
+    let checked = rvc::identifiers::check(id, &bytes);
     let verdict = checked.verdict;
     match verdict {
         Verdict::Sound(parts) => hear_sound(panel, parts, id, bytes, storage),
-        Verdict::Bad(why) => {
-            show::bad_frame(why);
+        Verdict::Bad(_) => {
+            show::refused(verdict.refusal());
             panel
         }
     }

@@ -3,11 +3,12 @@ use crate::replies;
 use crate::show;
 use crate::state;
 use crate::state::Panel;
-use claim::Claim;
-use claim::Hearing;
-use claim::Standing;
-use message::Answer;
-use message::Receiver;
+use rvc::claims::Claim;
+use rvc::claims::Hearing;
+use rvc::claims::Standing;
+use rvc::claims::Starting;
+use rvc::messages::Answer;
+use rvc::messages::Receiver;
 
 // The panel's NAME (3.3): no other node of the coach has it.
 const NAME: u64 = 0x8000_1234_5678_9ABC;
@@ -22,11 +23,11 @@ pub fn start() -> Panel {
     let bytes = started.bytes;
     let claim = started.claim;
     match answer {
-        claim::Starting::SendClaim => {
+        Starting::SendClaim => {
             show::send(started.id, bytes);
             show::show_standing(claim);
         }
-        claim::Starting::ListMalformed => show::refused(16),
+        Starting::ListMalformed => show::refused(answer.refusal()),
     }
     state::new(claim, replies::start())
 }
@@ -46,14 +47,9 @@ fn pause_claim(claim: Claim, gap: u16) -> Claim {
     let paused = claim.pause(gap);
     let answer = paused.answer;
     let after = paused.claim;
-    match answer {
-        claim::Pausing::Waited => {
-            if is_held(claim) != is_held(after) {
-                show::show_standing(after);
-            }
-        }
-        claim::Pausing::BrokenState => show::refused(2),
-        claim::Pausing::ListMalformed => show::refused(16),
+    show::refused(answer.refusal());
+    if is_held(claim) != is_held(after) {
+        show::show_standing(after);
     }
     after
 }
@@ -62,16 +58,10 @@ fn is_held(claim: Claim) -> bool {
     let standing = claim.stands();
     match standing {
         Standing::Held(_) => true,
-        Standing::Claiming(_) => false,
-        Standing::Silent => false,
-        Standing::BrokenState => {
-            show::refused(2);
-            false
-        }
-        Standing::ListMalformed => {
-            show::refused(16);
-            false
-        }
+        Standing::Claiming(_)
+        | Standing::Silent
+        | Standing::BrokenState
+        | Standing::ListMalformed => false,
     }
 }
 
@@ -79,10 +69,7 @@ fn is_held(claim: Claim) -> bool {
 fn pause_receiver(receiver: Receiver, gap: u16) -> Receiver {
     let paused = receiver.pause(gap);
     let answer = paused.answer;
-    match answer {
-        message::Pausing::Closed(_) => {}
-        message::Pausing::BrokenState => show::refused(2),
-    }
+    show::refused(answer.refusal());
     paused.receiver
 }
 
@@ -96,17 +83,12 @@ pub fn contest(claim: Claim, id: u32, bytes: [u8; 8]) -> Claim {
         Hearing::NothingToDo => {}
         Hearing::OwnName => show::say(b"own name heard\n"),
         Hearing::SendClaimAgain => show::send(heard.id, to_send),
-        Hearing::SendNextClaim => {
+        Hearing::SendNextClaim | Hearing::SendCannotClaim => {
             show::send(heard.id, to_send);
             show::show_standing(after);
         }
-        Hearing::SendCannotClaim => {
-            show::send(heard.id, to_send);
-            show::show_standing(after);
-        }
-        Hearing::BrokenState => show::refused(2),
-        Hearing::BadFrame(why) => show::bad_frame(why),
-        Hearing::ListMalformed => show::refused(16),
+        Hearing::BrokenState | Hearing::BadFrame(_) | Hearing::ListMalformed =>
+            show::refused(answer.refusal()),
     }
     after
 }
@@ -115,23 +97,14 @@ pub fn contest(claim: Claim, id: u32, bytes: [u8; 8]) -> Claim {
 pub fn join(receiver: Receiver, id: u32, bytes: [u8; 8], storage: &mut [u8]) -> Receiver {
     let heard = receiver.hear(storage, id, &bytes);
     let answer = heard.answer;
-    match answer {
-        Answer::StorageTooShort => show::refused(1),
-        Answer::BrokenState => show::refused(2),
-        Answer::BadFrame(why) => show::bad_frame(why),
-        Answer::MalformedAnnouncement => show::refused(7),
-        Answer::NoPlaceFree => show::refused(8),
-        Answer::NoOpenMessage => show::refused(9),
-        Answer::UnexpectedPacket => show::refused(10),
-        Answer::NothingToDo => {}
-        Answer::Opened => {}
-        Answer::Stored => {}
-        Answer::Finished {
-            place: _,
-            sender,
-            dgn,
-            length: _,
-        } => finished(sender, dgn, message::message(storage, answer)),
+    show::refused(answer.refusal());
+    if let Answer::Finished {
+        place: _,
+        sender,
+        dgn,
+        length: _,
+    } = answer {
+        finished(sender, dgn, rvc::messages::message(storage, answer));
     }
     heard.receiver
 }

@@ -1,20 +1,20 @@
 // What the panel answers for two tanks whose senders are wired to the panel itself: requests for their status, and commands.
 use crate::show;
 use crate::state;
-use catalogue::Value;
-use catalogue::Writing;
-use catalogue::dgns::TANK_CALIBRATION_COMMAND;
-use catalogue::dgns::TANK_STATUS;
-use claim::Claim;
-use claim::Standing;
-use command::Acknowledging;
-use command::Acknowledgment;
-use command::Entry;
-use command::Host;
-use command::Positions;
-use command::Requesting;
-use command::Routing;
-use frame::Formed;
+use rvc::claims::Claim;
+use rvc::claims::Standing;
+use rvc::commands::Acknowledging;
+use rvc::commands::Acknowledgment;
+use rvc::commands::Entry;
+use rvc::commands::Host;
+use rvc::commands::Positions;
+use rvc::commands::Requesting;
+use rvc::commands::Routing;
+use rvc::fields::Looked;
+use rvc::fields::Value;
+use rvc::fields::dgns::TANK_CALIBRATION_COMMAND;
+use rvc::fields::dgns::TANK_STATUS;
+use rvc::identifiers::Formed;
 
 // What the sender of a wired tank says, in quarters.
 struct Wired {
@@ -32,10 +32,7 @@ pub fn start() -> Host {
     entries[1] = gray;
     let started = Host::start(entries, 2);
     let answer = started.answer;
-    match answer {
-        command::Starting::Hosted => {}
-        command::Starting::ListMalformed => show::refused(16),
-    }
+    show::refused(answer.refusal());
     started.host
 }
 
@@ -54,16 +51,14 @@ pub fn answer_request(host: Host, claim: Claim, id: u32, bytes: [u8; 8]) {
     let answer = requested.answer;
     let to_send = requested.bytes;
     match answer {
-        Requesting::NothingToDo => {}
-        Requesting::SendClaim => show::send(requested.id, to_send),
+        Requesting::NothingToDo | Requesting::Unsupported => {}
+        Requesting::SendClaim | Requesting::SendNak => show::send(requested.id, to_send),
         Requesting::Supported => send_statuses(claim, requested.positions),
-        Requesting::SendNak => show::send(requested.id, to_send),
-        Requesting::Unsupported => {}
-        Requesting::BrokenState => show::refused(2),
-        Requesting::BadFrame(why) => show::bad_frame(why),
-        Requesting::ListMalformed => show::refused(16),
-        Requesting::DgnTooLarge => show::refused(17),
-        Requesting::NoAddressHeld => show::refused(18),
+        Requesting::BrokenState
+        | Requesting::BadFrame(_)
+        | Requesting::ListMalformed
+        | Requesting::DgnTooLarge
+        | Requesting::NoAddressHeld => show::refused(answer.refusal()),
     }
 }
 
@@ -80,10 +75,10 @@ pub fn answer_command(host: Host, claim: Claim, source: u8, id: u32, bytes: [u8;
                 send_nak(claim, source, bytes[0]);
             }
         }
-        Routing::BrokenState => show::refused(2),
-        Routing::BadFrame(why) => show::bad_frame(why),
-        Routing::ListMalformed => show::refused(16),
-        Routing::NoAddressHeld => show::refused(18),
+        Routing::BrokenState
+        | Routing::BadFrame(_)
+        | Routing::ListMalformed
+        | Routing::NoAddressHeld => { show::refused(answer.refusal()) }
     }
 }
 
@@ -95,28 +90,20 @@ fn send_nak(claim: Claim, requester: u8, instance: u8) {
         requester,
         dgn: TANK_CALIBRATION_COMMAND,
     };
-    let formed = command::acknowledge(claim, reply);
+    let formed = rvc::commands::acknowledge(claim, reply);
     let answer = formed.answer;
     let bytes = formed.bytes;
-    match answer {
-        Acknowledging::Send => show::send(formed.id, bytes),
-        Acknowledging::BrokenState => show::refused(2),
-        Acknowledging::RequesterNotAllowed => show::refused(6),
-        Acknowledging::ListMalformed => show::refused(16),
-        Acknowledging::DgnTooLarge => show::refused(17),
-        Acknowledging::NoAddressHeld => show::refused(18),
+    show::refused(answer.refusal());
+    if let Acknowledging::Send = answer {
+        show::send(formed.id, bytes);
     }
 }
 
-// Statuses are sent from a held address only.
+// Statuses are sent from a held address only; without one the request is refused already.
 fn send_statuses(claim: Claim, positions: Positions) {
     let standing = claim.stands();
-    match standing {
-        Standing::Held(address) => send_each(address, positions),
-        Standing::Claiming(_) => show::refused(18),
-        Standing::Silent => show::refused(18),
-        Standing::BrokenState => show::refused(2),
-        Standing::ListMalformed => show::refused(16),
+    if let Standing::Held(address) = standing {
+        send_each(address, positions);
     }
 }
 
@@ -135,10 +122,10 @@ fn send_each(address: u8, positions: Positions) {
 
 // The status of a wired tank, with priority 6 (6.28.2).
 fn send_status(address: u8, position: u8) {
-    let formed = frame::form(6, TANK_STATUS, address);
+    let formed = rvc::identifiers::form(6, TANK_STATUS, address);
     match formed {
         Formed::Identifier(id) => show::send(id, status(id, sender_says(position))),
-        Formed::NoCode => show::refused(12),
+        Formed::NoCode => show::refused(formed.refusal()),
     }
 }
 
@@ -161,23 +148,23 @@ fn status(id: u32, tank: Wired) -> [u8; 8] {
     let level = tank.level;
     let bytes = write(
         [0xFFu8; 8],
-        state::INSTANCE,
+        state::INSTANCE_BIT,
         id,
         Value::Scaled(tank.instance),
     );
-    let bytes = write(bytes, state::TANK_LEVEL, id, level);
-    write(bytes, state::TANK_RESOLUTION, id, Value::Scaled(4))
+    let bytes = write(bytes, state::RELATIVE_LEVEL_BIT, id, level);
+    write(bytes, state::RESOLUTION_BIT, id, Value::Scaled(4))
 }
 
-// A field of our status.
-fn write(bytes: [u8; 8], nth: u8, id: u32, value: Value) -> [u8; 8] {
+// The field of our status that begins at this bit.
+fn write(bytes: [u8; 8], first: u8, id: u32, value: Value) -> [u8; 8] {
+    let looked = rvc::fields::row_of(TANK_STATUS, first);
+    show::refused(looked.refusal());
+    let Looked::Is(row) = looked else {
+        return bytes;
+    };
     let mut bytes = bytes;
-    let answer = catalogue::write(state::row(TANK_STATUS, nth), id, &mut bytes, value);
-    match answer {
-        Writing::Written => {}
-        Writing::BadFrame(why) => show::bad_frame(why),
-        Writing::NoSuchRow => show::refused(11),
-        Writing::NoCode => show::refused(12),
-    }
+    let answer = rvc::fields::write_row(row, id, &mut bytes, value);
+    show::refused(answer.refusal());
     bytes
 }

@@ -4,10 +4,9 @@ use crate::state::Missing;
 use crate::state::Panel;
 use crate::state::Shown;
 use crate::state::Tank;
-use claim::Claim;
-use claim::Standing;
-use frame::BadFrame;
 use libc::STDOUT_FILENO;
+use rvc::claims::Claim;
+use rvc::claims::Standing;
 
 // The whole panel.
 pub fn show_panel(panel: Panel) {
@@ -30,8 +29,7 @@ pub fn show_standing(claim: Claim) {
         Standing::Held(address) => show_address(address, b" held\n"),
         Standing::Claiming(address) => show_address(address, b" claimed\n"),
         Standing::Silent => say(b"no address\n"),
-        Standing::BrokenState => refused(2),
-        Standing::ListMalformed => refused(16),
+        Standing::BrokenState | Standing::ListMalformed => refused(standing.refusal()),
     }
 }
 
@@ -87,7 +85,7 @@ pub fn show_product(sender: u8, text: &[u8]) {
 
 // A frame that the panel would send, as a line of a recording.
 pub fn send(id: u32, bytes: [u8; 8]) {
-    let line = capture::write(0, id, bytes);
+    let line = rvc::captures::write(0, id, bytes);
     let text = line.bytes;
     let count = line.count;
     say(b"send ");
@@ -95,24 +93,14 @@ pub fn send(id: u32, bytes: [u8; 8]) {
     say(b"\n");
 }
 
-pub fn refused(number: u32) {
+// The number of a refusal; 0 is none, and says nothing.
+pub fn refused(number: u8) {
+    if number == 0 {
+        return;
+    }
     say(b"refused ");
     decimal(number as u64);
     say(b"\n");
-}
-
-pub fn bad_frame(why: BadFrame) {
-    refused(refusal_of(why));
-}
-
-// The number of a frame that is refused by itself.
-pub fn refusal_of(why: BadFrame) -> u32 {
-    match why {
-        BadFrame::IdentifierTooLarge => 3,
-        BadFrame::NotEightBytes => 4,
-        BadFrame::ReservedBitSet => 5,
-        BadFrame::SourceNotAllowed => 6,
-    }
 }
 
 // A whole number.

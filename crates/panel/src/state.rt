@@ -1,28 +1,29 @@
 // What the panel keeps, and how a tank's or a charger's status changes it.
 use crate::show;
-use catalogue::Reading;
-use catalogue::ScaledReading;
-use catalogue::Value;
-use catalogue::dgns::CHARGER_STATUS;
-use catalogue::dgns::TANK_STATUS;
-use claim::Claim;
-use command::Host;
-use message::Receiver;
+use rvc::claims::Claim;
+use rvc::commands::Host;
+use rvc::fields::Looked;
+use rvc::fields::Reading;
+use rvc::fields::ScaledReading;
+use rvc::fields::Value;
+use rvc::fields::dgns::CHARGER_STATUS;
+use rvc::fields::dgns::TANK_STATUS;
+use rvc::messages::Receiver;
 
-// TANK_STATUS (6.28.2), its rows in the catalogue's order.
-pub const TANK_LEVEL: u8 = 1;
+// A field is found by its DGN and its first bit, as docs/CATALOGUE.md lists them. TANK_STATUS (6.28.2) has these.
+pub const RELATIVE_LEVEL_BIT: u8 = 8;
 
-pub const TANK_RESOLUTION: u8 = 2;
+pub const RESOLUTION_BIT: u8 = 16;
 
 // CHARGER_STATUS (6.20.8).
-const CHARGER_VOLTAGE: u8 = 1;
+const CHARGE_VOLTAGE_BIT: u8 = 8;
 
-const CHARGER_CURRENT: u8 = 2;
+const CHARGE_CURRENT_BIT: u8 = 24;
 
-const CHARGER_STATE: u8 = 4;
+const OPERATING_STATE_BIT: u8 = 48;
 
-// Both have the instance first.
-pub const INSTANCE: u8 = 0;
+// Both begin with the instance.
+pub const INSTANCE_BIT: u8 = 0;
 
 // Why a field shows no number.
 pub enum Missing {
@@ -30,7 +31,7 @@ pub enum Missing {
     OutOfRange,
     Reserved,
     // the field could not be read: the refusal's number
-    Refused(u32),
+    Refused(u8),
 }
 
 // What a field shows: a number of its steps, or why it has none.
@@ -134,50 +135,46 @@ pub fn hear_charger(chargers: [Charger; 2], dgn: u32, id: u32, bytes: [u8; 8]) -
 fn read_tank(id: u32, bytes: [u8; 8]) -> Tank {
     Tank {
         heard: true,
-        level: read(TANK_STATUS, TANK_LEVEL, id, bytes),
-        resolution: read(TANK_STATUS, TANK_RESOLUTION, id, bytes),
+        level: read(TANK_STATUS, RELATIVE_LEVEL_BIT, id, bytes),
+        resolution: read(TANK_STATUS, RESOLUTION_BIT, id, bytes),
     }
 }
 
 fn read_charger(id: u32, bytes: [u8; 8]) -> Charger {
     Charger {
         heard: true,
-        voltage: read(CHARGER_STATUS, CHARGER_VOLTAGE, id, bytes),
-        current: read(CHARGER_STATUS, CHARGER_CURRENT, id, bytes),
-        state: read(CHARGER_STATUS, CHARGER_STATE, id, bytes),
+        voltage: read(CHARGER_STATUS, CHARGE_VOLTAGE_BIT, id, bytes),
+        current: read(CHARGER_STATUS, CHARGE_CURRENT_BIT, id, bytes),
+        state: read(CHARGER_STATUS, OPERATING_STATE_BIT, id, bytes),
     }
-}
-
-// The catalogue's number of a DGN's row, the first being 0.
-pub fn row(dgn: u32, nth: u8) -> usize {
-    let span = catalogue::rows_of(dgn);
-    span.start + nth as usize
 }
 
 // The instance that a status names; FFh, which is none, where it cannot be read.
 fn instance_of(dgn: u32, id: u32, bytes: [u8; 8]) -> u64 {
-    let reading = catalogue::read(row(dgn, INSTANCE), id, &bytes);
-    match reading {
-        Reading::Is(field) => field.code,
-        Reading::BadFrame(why) => {
-            show::bad_frame(why);
-            0xFF
-        }
-        Reading::NoSuchRow => {
-            show::refused(11);
-            0xFF
-        }
-    }
+    let looked = rvc::fields::row_of(dgn, INSTANCE_BIT);
+    show::refused(looked.refusal());
+    let Looked::Is(row) = looked else {
+        return 0xFF;
+    };
+    let reading = rvc::fields::read_row(row, id, &bytes);
+    show::refused(reading.refusal());
+    let Reading::Is(field) = reading else {
+        return 0xFF;
+    };
+    field.code
 }
 
-// A field of a frame.
-fn read(dgn: u32, nth: u8, id: u32, bytes: [u8; 8]) -> Shown {
-    let reading = catalogue::read_scaled(row(dgn, nth), id, &bytes);
-    match reading {
-        ScaledReading::Is(value) => shown_of(value),
-        ScaledReading::BadFrame(why) => Shown::Not(Missing::Refused(show::refusal_of(why))),
-        ScaledReading::NoSuchRow => Shown::Not(Missing::Refused(11)),
-    }
+// The field of a frame that begins at this bit.
+fn read(dgn: u32, first: u8, id: u32, bytes: [u8; 8]) -> Shown {
+    let looked = rvc::fields::row_of(dgn, first);
+    let Looked::Is(row) = looked else {
+        return Shown::Not(Missing::Refused(looked.refusal()));
+    };
+    let reading = rvc::fields::read_row_scaled(row, id, &bytes);
+    let ScaledReading::Is(value) = reading else {
+        return Shown::Not(Missing::Refused(reading.refusal()));
+    };
+    shown_of(value)
 }
 
 fn shown_of(value: Value) -> Shown {
@@ -237,7 +234,7 @@ fn same(old: Shown, new: Shown) -> bool {
 }
 
 // A number for each reason; a field's refusals are 3 to 6 and 11.
-fn reason(missing: Missing) -> u32 {
+fn reason(missing: Missing) -> u8 {
     match missing {
         Missing::NoData => 0,
         Missing::OutOfRange => 1,

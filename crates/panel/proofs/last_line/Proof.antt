@@ -37,8 +37,8 @@ hear-line-requires c κs = search needs
 enum-told : tie.Need-enum-told
 enum-told c = search needs
 
-refused-requires : tie.Need-refused-requires
-refused-requires c κs = search needs
+too-long-requires : tie.Need-too-long-requires
+too-long-requires c κs = search needs
 
 enum-told-2 : tie.Need-enum-told-2
 enum-told-2 c = search needs
@@ -65,7 +65,7 @@ last-line-spec =
     slice-aggregate-hear-line
     hear-line-requires
     enum-told
-    refused-requires
+    too-long-requires
     enum-told-2
     same-length
     returns

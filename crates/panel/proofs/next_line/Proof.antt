@@ -80,8 +80,8 @@ turned-requires-2 c κs = search needs
 enum-told : tie.Need-enum-told
 enum-told c = search needs
 
-refused-requires : tie.Need-refused-requires
-refused-requires c κs = search needs
+too-long-requires : tie.Need-too-long-requires
+too-long-requires c κs = search needs
 
 turned-requires-3 : tie.Need-turned-requires-3
 turned-requires-3 c κs = search needs
@@ -148,7 +148,7 @@ next-line-spec =
     hear-line-requires-2
     turned-requires-2
     enum-told
-    refused-requires
+    too-long-requires
     turned-requires-3
     enum-told-2
     turned-requires-4
