@@ -13,6 +13,7 @@ mod text;
 
 use libc::STDIN_FILENO;
 use libc::STDOUT_FILENO;
+use message::limits::STORAGE_BYTES;
 use reader::Going;
 use reader::Reader;
 
@@ -34,10 +35,10 @@ fn main() {
 }
 
 // The receiver's storage.
-fn storage() -> [u8; 14280]
+fn storage() -> [u8; STORAGE_BYTES]
     ensures { λ r. ⌜ length r ≡ 14280 ⌝ }
 {
-    [0; 14280]
+    [0; STORAGE_BYTES]
 }
 
 // Room for what a run prints.

@@ -2,7 +2,7 @@
 ghost use mathlib.Core.Path.{_≡_};
 ghost use Prim.Native.Nat.{_+_, _≤_, _<_};
 ghost use lib.ListN.{length};
-ghost use Rattle.frame.specs.Words.{gives};
+ghost use Rattle.frame.specs.Words.{gives, numberIn};
 ghost use Rattle.frame.specs.Bytes.{numberOf};
 ghost use Rattle.frame.specs.Identifier.{sourceOf, dgnOf};
 ghost use Rattle.message.specs.Receiver.{room};
@@ -14,6 +14,7 @@ ghost use Rattle.capture.specs.Stream.{mostLines};
 ghost use Rattle.busread.specs.Text.{Wrote};
 ghost use Rattle.busread.specs.Report.{headText, printOf, fieldsText, rowsOf, answerText, counted};
 ghost use Rattle.busread.specs.Step.{lineRoom, kept, Counting, Took, Passed};
+ghost use Rattle.busread.specs.declared.step.Print.the-variants.{Refused};
 use crate::report;
 use crate::report::Counts;
 use capture::Line;
@@ -35,17 +36,24 @@ pub struct Step {
     pub next: usize,
 }
 
+// A refusal prints its number.
+fn refused(answer: Answer) -> Print
+    ensures { λ r. ⌜ r ≡ Refused (numberIn (toldAnswer answer)) ⌝ }
+{
+    Print::Refused(answer.refusal() as u32)
+}
+
 fn print_of(answer: Answer) -> Print
     ensures { λ r. ⌜ r ≡ printOf (toldAnswer answer) ⌝ }
 {
     match answer {
-        Answer::StorageTooShort => Print::Refused(1),
-        Answer::BrokenState => Print::Refused(2),
-        Answer::BadFrame(why) => Print::Refused(why.refusal() as u32),
-        Answer::MalformedAnnouncement => Print::Refused(7),
-        Answer::NoPlaceFree => Print::Refused(8),
-        Answer::NoOpenMessage => Print::Refused(9),
-        Answer::UnexpectedPacket => Print::Refused(10),
+        Answer::StorageTooShort => refused(answer),
+        Answer::BrokenState => refused(answer),
+        Answer::BadFrame(_) => refused(answer),
+        Answer::MalformedAnnouncement => refused(answer),
+        Answer::NoPlaceFree => refused(answer),
+        Answer::NoOpenMessage => refused(answer),
+        Answer::UnexpectedPacket => refused(answer),
         Answer::NothingToDo => Print::Fields,
         Answer::Opened => Print::Nothing,
         Answer::Stored => Print::Nothing,
