@@ -1,22 +1,20 @@
 -- A table of packed rows, and the catalogue as one.
 -- Assumes nothing.
 use mathlib.Core.Path.{_≡_, refl, sym, ap, _∙_}
-use mathlib.Core.Bool.{Bool, true, false}
-use mathlib.Core.List.{List, [], _∷_, map}
-use Prim.Native.Nat.{ℕ, _+_, _-_, _≤_, _<_}
+use mathlib.Core.Bool.{true, false}
+use mathlib.Core.List.{List, _∷_}
+use Prim.Native.Nat.{ℕ, _+_, _≤_, _<_}
 use native.Mathlib.Numerals.{add-one}
 use native.Mathlib.Omega.{arith}
-use borrow.Author.Tests.{lt-ltb, le-ltb, ltb-true, ltb-false, eqb-true}
+use borrow.Author.Tests.{lt-ltb, le-ltb, ltb-true}
 use lib.ListN.{length, drop, getD, length-map, List·getD-map, List·getD-eq-default, drop-of-length-le}
 use lib.Seq.{drop-cons}
-use Rattle.frame.specs.Words.{if_then_else_, given_then_, _and_, _<?_, _=?_, Told, refused, gives}
-use Rattle.frame.proofs.Words.{by-test, before-refusal, gives-same}
+use Rattle.frame.specs.Words.{given_then_, _and_, _<?_, _=?_, Told, refused, gives}
+use Rattle.frame.proofs.Words.{by-test}
 use Rattle.catalogue.specs.Rows.{rows}
 use Rattle.catalogue.specs.Table.{noRow, nth, rowIn, rowWith, liesInFrame, KeepsRule, rowOf, spanIn, spanOf}
-use Rattle.catalogue.specs.Packed.{unitOf, unpacked, pack, packedRows, tableRows, lying, tableRow, tableRowWith, halved, tableSpan}
+use Rattle.catalogue.specs.Packed.{unitOf, unpacked, pack, packedRows, tableRows, lying, tableRow, tableRowWith, tableSpan}
 use Rattle.catalogue.specs.declared.Row.{Row}
-use Rattle.catalogue.specs.declared.Span.{Span}
-use Rattle.catalogue.specs.declared.Unit.the-variants.{Other, Percent, Celsius, Volt, Ampere, Hertz}
 use Rattle.catalogue.proofs.Rule.{whole, lies-at, found-with}
 use Rattle.catalogue.proofs.Halving.{halved-below, halved-having, halved-within, halved-rises}
 

@@ -1,7 +1,6 @@
 -- `catalogue::nth` meets its contract. Assumes nothing.
 use mathlib.Core.Path.{_≡_, ap, _∙_}
 use mathlib.Core.List.{List}
-use Prim.Native.Nat.{ℕ}
 use Rattle.catalogue.specs.Table.{nth, rowAt}
 use Rattle.catalogue.specs.Packed.{tableRows, packedRows}
 use Rattle.catalogue.specs.declared.Row.{Row}

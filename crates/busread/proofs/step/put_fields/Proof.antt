@@ -4,7 +4,7 @@ use Prim.Native.Nat.{_≤_, _-_, _*_, _+_, _/_, _%_}
 use native.Mathlib.Nat.{div-one}
 use lib.ListN.{take}
 use lib.Seq.{length-take-le}
-use Rattle.frame.specs.Identifier.{sourceOf, dgnOf, catalogueForm}
+use Rattle.frame.specs.Identifier.{sourceOf, dgnOf}
 use Rattle.busread.specs.Text.{Wrote}
 use Rattle.busread.specs.Report.{headText, fieldsText}
 use Rattle.busread.proofs.Writing.{behind, nothing}

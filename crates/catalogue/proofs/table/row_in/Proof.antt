@@ -1,5 +1,5 @@
 -- `catalogue::table::row_in` meets its contract. Assumes nothing.
-use mathlib.Core.Path.{sym, ap, _∙_}
+use mathlib.Core.Path.{ap, _∙_}
 use native.Mathlib.Omega.{arith}
 use Rattle.catalogue.specs.Packed.{lying}
 use Rattle.catalogue.proofs.Packing.{row-past, row-there}
