@@ -4,6 +4,7 @@ ghost use mathlib.Core.Path.{_≡_};
 ghost use Prim.Native.Nat.{_<_};
 ghost use lib.ListN.{length};
 
+mod names;
 mod network;
 mod replies;
 mod show;
@@ -185,7 +186,11 @@ fn hear_frame(panel: Panel, id: u32, bytes: [u8; 8], storage: &mut [u8]) -> Pane
 
 // Each part of the panel hears every sound frame, and leaves those that are not meant for it. What a frame can change is what its part returns.
 fn hear_sound(panel: Panel, parts: Parts, id: u32, bytes: [u8; 8], storage: &mut [u8]) -> Panel {
-    let claim = network::contest(panel.claim, id, bytes);
+    let before = panel.claim;
+    let claim = network::contest(before, id, bytes);
+    let nodes = panel.nodes;
+    let nodes = names::hear_claim(nodes, id, bytes);
+    let nodes = network::hear_own_claim(nodes, before, claim);
     let receiver = network::join(panel.receiver, id, bytes, storage);
     let host = panel.host;
     replies::answer_request(host, claim, id, bytes);
@@ -194,6 +199,7 @@ fn hear_sound(panel: Panel, parts: Parts, id: u32, bytes: [u8; 8], storage: &mut
     let chargers = panel.chargers;
     Panel {
         claim,
+        nodes,
         host,
         receiver,
         tanks: state::hear_tank(tanks, parts.dgn, id, bytes),

@@ -1,4 +1,5 @@
 // The panel as a node of the network: its address, and the long messages that it joins.
+use crate::names;
 use crate::replies;
 use crate::show;
 use crate::state;
@@ -9,6 +10,8 @@ use rvc::claims::Standing;
 use rvc::claims::Starting;
 use rvc::messages::Answer;
 use rvc::messages::Receiver;
+use rvc::node_table::Node;
+use rvc::node_table::RECORDS;
 
 // The panel's NAME (3.3): no other node of the coach has it.
 const NAME: u64 = 0x8000_1234_5678_9ABC;
@@ -29,7 +32,8 @@ pub fn start() -> Panel {
         }
         Starting::ListMalformed => show::refused(answer.refusal()),
     }
-    state::new(claim, replies::start())
+    let nodes = names::hear_claim(rvc::node_table::empty(), started.id, bytes);
+    state::new(claim, nodes, replies::start())
 }
 
 // Time passes for the claim and for the open messages.
@@ -91,6 +95,28 @@ pub fn contest(claim: Claim, id: u32, bytes: [u8; 8]) -> Claim {
             show::refused(answer.refusal()),
     }
     after
+}
+
+// The node table hears what we claim anew, as every other node does.
+pub fn hear_own_claim(nodes: [Node; RECORDS], before: Claim, after: Claim) -> [Node; RECORDS] {
+    if address_of(before) == address_of(after) {
+        return nodes;
+    }
+    let ours = after.our_claim();
+    let answer = ours.answer;
+    let bytes = ours.bytes;
+    show::refused(answer.refusal());
+    names::hear_claim(nodes, ours.id, bytes)
+}
+
+// The address that we have or claim; 254, which nobody has, where there is none.
+fn address_of(claim: Claim) -> u8 {
+    let standing = claim.stands();
+    match standing {
+        Standing::Held(address) => address,
+        Standing::Claiming(address) => address,
+        Standing::Silent | Standing::BrokenState | Standing::ListMalformed => 254,
+    }
 }
 
 // A frame of a long message; the storage is lent to the receiver.

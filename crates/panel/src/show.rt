@@ -1,4 +1,5 @@
 // What the panel prints: a line for each thing that changes, for each refusal, and for each frame that it would send.
+use crate::names;
 use crate::state::Charger;
 use crate::state::Missing;
 use crate::state::Panel;
@@ -13,6 +14,8 @@ pub fn show_panel(panel: Panel) {
     say(b"panel\n");
     let claim = panel.claim;
     show_standing(claim);
+    let nodes = panel.nodes;
+    names::show_nodes(nodes);
     let tanks = panel.tanks;
     show_tank(0, tanks[0]);
     show_tank(1, tanks[1]);
@@ -37,6 +40,23 @@ fn show_address(address: u8, standing: &[u8]) {
     say(b"address ");
     hex(address);
     say(standing);
+}
+
+// A node, by its address and its NAME.
+pub fn show_name(address: u8, name: u64) {
+    let bytes = rvc::identifiers::bytes_of(name);
+    say(b"node ");
+    hex(address);
+    say(b": NAME ");
+    hex(bytes[7]);
+    hex(bytes[6]);
+    hex(bytes[5]);
+    hex(bytes[4]);
+    hex(bytes[3]);
+    hex(bytes[2]);
+    hex(bytes[1]);
+    hex(bytes[0]);
+    say(b"\n");
 }
 
 pub fn show_tank(instance: u64, tank: Tank) {

@@ -9,6 +9,8 @@ use rvc::fields::Value;
 use rvc::fields::dgns::CHARGER_STATUS;
 use rvc::fields::dgns::TANK_STATUS;
 use rvc::messages::Receiver;
+use rvc::node_table::Node;
+use rvc::node_table::RECORDS;
 
 // A field is found by its DGN and its first bit, as docs/CATALOGUE.md lists them. TANK_STATUS (6.28.2) has these.
 pub const RELATIVE_LEVEL_BIT: u8 = 8;
@@ -58,6 +60,7 @@ pub struct Charger {
 // Tanks 0 to 3 (fresh, black, gray, LPG), and chargers 1 and 2.
 pub struct Panel {
     pub claim: Claim,
+    pub nodes: [Node; RECORDS],
     pub host: Host,
     pub receiver: Receiver,
     pub tanks: [Tank; 4],
@@ -65,7 +68,7 @@ pub struct Panel {
 }
 
 // A panel that has heard no tank and no charger.
-pub fn new(claim: Claim, host: Host) -> Panel {
+pub fn new(claim: Claim, nodes: [Node; RECORDS], host: Host) -> Panel {
     let nothing = Shown::Not(Missing::NoData);
     let tank = Tank {
         heard: false,
@@ -80,6 +83,7 @@ pub fn new(claim: Claim, host: Host) -> Panel {
     };
     Panel {
         claim,
+        nodes,
         host,
         receiver: Receiver::new(),
         tanks: [tank; 4],
