@@ -45,7 +45,8 @@ pub enum Shown {
     Not(Missing),
 }
 
-// A tank is filled to `level` parts of `resolution`. Its silence is the milliseconds since it was heard, counted until they make it stale.
+// A tank is filled to `level` parts of `resolution`. Its silence is the milliseconds since it was heard, counted until
+// they make it stale.
 pub struct Tank {
     pub heard: bool,
     pub silence: u32,
