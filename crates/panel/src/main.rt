@@ -1,5 +1,6 @@
-// A tank and charger panel: it claims an address, answers requests, and shows what the tanks and chargers of a coach said last. It hears a recorded
-// exchange on standard input, a line for each frame; a frame that it would send is printed behind the word `send`.
+// A tank and charger panel: it claims an address, answers requests, shows who has which address and what the tanks and
+// chargers of a coach said last, and says when that is stale. It hears a recorded exchange on standard input, a line
+// for each frame; a frame that it would send is printed behind the word `send`.
 ghost use mathlib.Core.Path.{_≡_};
 ghost use Prim.Native.Nat.{_<_};
 ghost use lib.ListN.{length};
@@ -184,7 +185,8 @@ fn hear_frame(panel: Panel, id: u32, bytes: [u8; 8], storage: &mut [u8]) -> Pane
     }
 }
 
-// Each part of the panel hears every sound frame, and leaves those that are not meant for it. What a frame can change is what its part returns.
+// Each part of the panel hears every sound frame, and leaves those that are not meant for it. What a frame can change
+// is what its part returns.
 fn hear_sound(panel: Panel, parts: Parts, id: u32, bytes: [u8; 8], storage: &mut [u8]) -> Panel {
     let before = panel.claim;
     let claim = network::contest(before, id, bytes);

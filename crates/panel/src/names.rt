@@ -1,4 +1,5 @@
-// Who has which address: the panel's node table. The library is lent it as a slice, by `hear` and `look_up` and nowhere else.
+// Who has which address: the panel's node table. `hear` and `look_up` lend it to the library as a slice, and nothing
+// else does: such a function is proved by hand.
 use crate::show;
 use rvc::node_table::Heard;
 use rvc::node_table::LookedUp;

@@ -36,13 +36,19 @@ pub fn start() -> Panel {
     state::new(claim, nodes, replies::start())
 }
 
-// Time passes for the claim and for the open messages.
+// Time passes for the claim, for the open messages, and for what the panel shows.
 pub fn pause(panel: Panel, gap: u16) -> Panel {
     let claim = pause_claim(panel.claim, gap);
     let receiver = pause_receiver(panel.receiver, gap);
+    let tanks = panel.tanks;
+    let chargers = panel.chargers;
+    let tanks = state::pause_tanks(tanks, gap);
+    let chargers = state::pause_chargers(chargers, gap);
     let mut panel = panel;
     panel.claim = claim;
     panel.receiver = receiver;
+    panel.tanks = tanks;
+    panel.chargers = chargers;
     panel
 }
 

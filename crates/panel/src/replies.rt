@@ -1,4 +1,5 @@
-// What the panel answers for two tanks whose senders are wired to the panel itself: requests for their status, and commands.
+// What the panel answers for two tanks whose senders are wired to the panel itself: requests for their status, and
+// commands.
 use crate::show;
 use crate::state;
 use rvc::claims::Claim;
@@ -62,8 +63,8 @@ pub fn answer_request(host: Host, claim: Claim, id: u32, bytes: [u8; 8]) {
     }
 }
 
-// A calibration of a wired tank: the panel cannot do it, and says so (6.28.3). No tank is marked zero-is-all, so that a command is for one tank at
-// most, the instance in byte 0.
+// A calibration of a wired tank: the panel cannot do it, and says so (6.28.3). No tank is marked zero-is-all, so that a
+// command is for one tank at most, the instance in byte 0.
 pub fn answer_command(host: Host, claim: Claim, source: u8, id: u32, bytes: [u8; 8]) {
     let routed = host.route(claim, id, &bytes);
     let answer = routed.answer;

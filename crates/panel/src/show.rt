@@ -1,5 +1,6 @@
 // What the panel prints: a line for each thing that changes, for each refusal, and for each frame that it would send.
 use crate::names;
+use crate::state;
 use crate::state::Charger;
 use crate::state::Missing;
 use crate::state::Panel;
@@ -72,7 +73,7 @@ pub fn show_tank(instance: u64, tank: Tank) {
     show_count(level);
     say(b" of ");
     show_count(resolution);
-    say(b"\n");
+    end_value(tank.silence);
 }
 
 pub fn show_charger(instance: u64, charger: Charger) {
@@ -91,6 +92,14 @@ pub fn show_charger(instance: u64, charger: Charger) {
     show_twentieths(current, b" A");
     say(b", state ");
     show_count(state);
+    end_value(charger.silence);
+}
+
+// The end of a value's line, which says so where the value is stale.
+fn end_value(silence: u32) {
+    if state::is_stale(silence) {
+        say(b", stale");
+    }
     say(b"\n");
 }
 

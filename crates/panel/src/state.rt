@@ -27,6 +27,9 @@ const OPERATING_STATE_BIT: u8 = 48;
 // Both begin with the instance.
 pub const INSTANCE_BIT: u8 = 0;
 
+// A value is stale once it was not heard for so many milliseconds.
+const STALE_AFTER: u32 = 5000;
+
 // Why a field shows no number.
 pub enum Missing {
     NoData,
@@ -42,16 +45,19 @@ pub enum Shown {
     Not(Missing),
 }
 
-// A tank is filled to `level` parts of `resolution`.
+// A tank is filled to `level` parts of `resolution`. Its silence is the milliseconds since it was heard, counted until
+// they make it stale.
 pub struct Tank {
     pub heard: bool,
+    pub silence: u32,
     pub level: Shown,
     pub resolution: Shown,
 }
 
-// Voltage and current are in twentieths of a volt and of an ampere.
+// Voltage and current are in twentieths of a volt and of an ampere. Its silence is counted as a tank's.
 pub struct Charger {
     pub heard: bool,
+    pub silence: u32,
     pub voltage: Shown,
     pub current: Shown,
     pub state: Shown,
@@ -72,11 +78,13 @@ pub fn new(claim: Claim, nodes: [Node; RECORDS], host: Host) -> Panel {
     let nothing = Shown::Not(Missing::NoData);
     let tank = Tank {
         heard: false,
+        silence: 0,
         level: nothing,
         resolution: nothing,
     };
     let charger = Charger {
         heard: false,
+        silence: 0,
         voltage: nothing,
         current: nothing,
         state: nothing,
@@ -91,7 +99,7 @@ pub fn new(claim: Claim, nodes: [Node; RECORDS], host: Host) -> Panel {
     }
 }
 
-// A tank's status: it changes the tank that it names, and is shown if it changes anything.
+// A tank's status: it is kept for the tank that it names, and shown if it changes anything.
 pub fn hear_tank(tanks: [Tank; 4], dgn: u32, id: u32, bytes: [u8; 8]) -> [Tank; 4] {
     if dgn != TANK_STATUS {
         return tanks;
@@ -103,10 +111,9 @@ pub fn hear_tank(tanks: [Tank; 4], dgn: u32, id: u32, bytes: [u8; 8]) -> [Tank; 
     let position = instance as usize;
     let old = tanks[position];
     let new = read_tank(id, bytes);
-    if same_tank(old, new) {
-        return tanks;
+    if !same_tank(old, new) {
+        show::show_tank(instance, new);
     }
-    show::show_tank(instance, new);
     let mut tanks = tanks;
     tanks[position] = new;
     tanks
@@ -127,18 +134,72 @@ pub fn hear_charger(chargers: [Charger; 2], dgn: u32, id: u32, bytes: [u8; 8]) -
     let position = instance as usize - 1;
     let old = chargers[position];
     let new = read_charger(id, bytes);
-    if same_charger(old, new) {
-        return chargers;
+    if !same_charger(old, new) {
+        show::show_charger(instance, new);
     }
-    show::show_charger(instance, new);
     let mut chargers = chargers;
     chargers[position] = new;
     chargers
 }
 
+// Time passes for the tanks, and one that it makes stale is shown.
+pub fn pause_tanks(tanks: [Tank; 4], gap: u16) -> [Tank; 4] {
+    [
+        pause_tank(0, tanks[0], gap),
+        pause_tank(1, tanks[1], gap),
+        pause_tank(2, tanks[2], gap),
+        pause_tank(3, tanks[3], gap),
+    ]
+}
+
+fn pause_tank(instance: u64, tank: Tank, gap: u16) -> Tank {
+    if !tank.heard {
+        return tank;
+    }
+    let mut paused = tank;
+    paused.silence = waited(tank.silence, gap);
+    if is_stale(tank.silence) != is_stale(paused.silence) {
+        show::show_tank(instance, paused);
+    }
+    paused
+}
+
+// Time passes for the chargers, likewise.
+pub fn pause_chargers(chargers: [Charger; 2], gap: u16) -> [Charger; 2] {
+    [
+        pause_charger(1, chargers[0], gap),
+        pause_charger(2, chargers[1], gap),
+    ]
+}
+
+fn pause_charger(instance: u64, charger: Charger, gap: u16) -> Charger {
+    if !charger.heard {
+        return charger;
+    }
+    let mut paused = charger;
+    paused.silence = waited(charger.silence, gap);
+    if is_stale(charger.silence) != is_stale(paused.silence) {
+        show::show_charger(instance, paused);
+    }
+    paused
+}
+
+// A silence after a pause: what is stale stays so, and is not counted on.
+fn waited(silence: u32, gap: u16) -> u32 {
+    if STALE_AFTER <= silence {
+        return silence;
+    }
+    silence + gap as u32
+}
+
+pub fn is_stale(silence: u32) -> bool {
+    STALE_AFTER <= silence
+}
+
 fn read_tank(id: u32, bytes: [u8; 8]) -> Tank {
     Tank {
         heard: true,
+        silence: 0,
         level: read(TANK_STATUS, RELATIVE_LEVEL_BIT, id, bytes),
         resolution: read(TANK_STATUS, RESOLUTION_BIT, id, bytes),
     }
@@ -147,6 +208,7 @@ fn read_tank(id: u32, bytes: [u8; 8]) -> Tank {
 fn read_charger(id: u32, bytes: [u8; 8]) -> Charger {
     Charger {
         heard: true,
+        silence: 0,
         voltage: read(CHARGER_STATUS, CHARGE_VOLTAGE_BIT, id, bytes),
         current: read(CHARGER_STATUS, CHARGE_CURRENT_BIT, id, bytes),
         state: read(CHARGER_STATUS, OPERATING_STATE_BIT, id, bytes),
@@ -190,13 +252,16 @@ fn shown_of(value: Value) -> Shown {
     }
 }
 
-// Whether a status shows what the panel shows already.
+// Whether a status shows what the panel shows already; a stale value that is heard again is shown anew.
 fn same_tank(old: Tank, new: Tank) -> bool {
     let old_level = old.level;
     let new_level = new.level;
     let old_resolution = old.resolution;
     let new_resolution = new.resolution;
     if !old.heard {
+        return false;
+    }
+    if is_stale(old.silence) {
         return false;
     }
     if !same(old_level, new_level) {
@@ -213,6 +278,9 @@ fn same_charger(old: Charger, new: Charger) -> bool {
     let old_state = old.state;
     let new_state = new.state;
     if !old.heard {
+        return false;
+    }
+    if is_stale(old.silence) {
         return false;
     }
     if !same(old_voltage, new_voltage) {
