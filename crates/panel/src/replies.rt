@@ -1,7 +1,6 @@
 // What the panel answers for two tanks whose senders are wired to the panel itself: requests for their status, and
 // commands.
 use crate::show;
-use crate::state;
 use rvc::claims::Claim;
 use rvc::claims::Standing;
 use rvc::commands::Acknowledging;
@@ -11,10 +10,11 @@ use rvc::commands::Host;
 use rvc::commands::Positions;
 use rvc::commands::Requesting;
 use rvc::commands::Routing;
-use rvc::fields::Looked;
+use rvc::fields::Row;
 use rvc::fields::Value;
 use rvc::fields::dgns::TANK_CALIBRATION_COMMAND;
 use rvc::fields::dgns::TANK_STATUS;
+use rvc::fields::names::tank_status;
 use rvc::identifiers::Formed;
 
 // What the sender of a wired tank says, in quarters.
@@ -149,21 +149,16 @@ fn status(id: u32, tank: Wired) -> [u8; 8] {
     let level = tank.level;
     let bytes = write(
         [0xFFu8; 8],
-        state::INSTANCE_BIT,
+        tank_status::INSTANCE,
         id,
         Value::Scaled(tank.instance),
     );
-    let bytes = write(bytes, state::RELATIVE_LEVEL_BIT, id, level);
-    write(bytes, state::RESOLUTION_BIT, id, Value::Scaled(4))
+    let bytes = write(bytes, tank_status::RELATIVE_LEVEL, id, level);
+    write(bytes, tank_status::RESOLUTION, id, Value::Scaled(4))
 }
 
-// The field of our status that begins at this bit.
-fn write(bytes: [u8; 8], first: u8, id: u32, value: Value) -> [u8; 8] {
-    let looked = rvc::fields::row_of(TANK_STATUS, first);
-    show::refused(looked.refusal());
-    let Looked::Is(row) = looked else {
-        return bytes;
-    };
+// A row's field of our status.
+fn write(bytes: [u8; 8], row: Row, id: u32, value: Value) -> [u8; 8] {
     let mut bytes = bytes;
     let answer = rvc::fields::write_row(row, id, &mut bytes, value);
     show::refused(answer.refusal());

@@ -2,30 +2,17 @@
 use crate::show;
 use rvc::claims::Claim;
 use rvc::commands::Host;
-use rvc::fields::Looked;
 use rvc::fields::Reading;
+use rvc::fields::Row;
 use rvc::fields::ScaledReading;
 use rvc::fields::Value;
 use rvc::fields::dgns::CHARGER_STATUS;
 use rvc::fields::dgns::TANK_STATUS;
+use rvc::fields::names::charger_status;
+use rvc::fields::names::tank_status;
 use rvc::messages::Receiver;
 use rvc::node_table::Node;
 use rvc::node_table::RECORDS;
-
-// A field is found by its DGN and its first bit, as docs/CATALOGUE.md lists them. TANK_STATUS (6.28.2) has these.
-pub const RELATIVE_LEVEL_BIT: u8 = 8;
-
-pub const RESOLUTION_BIT: u8 = 16;
-
-// CHARGER_STATUS (6.20.8).
-const CHARGE_VOLTAGE_BIT: u8 = 8;
-
-const CHARGE_CURRENT_BIT: u8 = 24;
-
-const OPERATING_STATE_BIT: u8 = 48;
-
-// Both begin with the instance.
-pub const INSTANCE_BIT: u8 = 0;
 
 // A value is stale once it was not heard for so many milliseconds.
 const STALE_AFTER: u32 = 5000;
@@ -104,7 +91,7 @@ pub fn hear_tank(tanks: [Tank; 4], dgn: u32, id: u32, bytes: [u8; 8]) -> [Tank; 
     if dgn != TANK_STATUS {
         return tanks;
     }
-    let instance = instance_of(TANK_STATUS, id, bytes);
+    let instance = instance_of(tank_status::INSTANCE, id, bytes);
     if 3 < instance {
         return tanks;
     }
@@ -124,7 +111,7 @@ pub fn hear_charger(chargers: [Charger; 2], dgn: u32, id: u32, bytes: [u8; 8]) -
     if dgn != CHARGER_STATUS {
         return chargers;
     }
-    let instance = instance_of(CHARGER_STATUS, id, bytes);
+    let instance = instance_of(charger_status::INSTANCE, id, bytes);
     if instance == 0 {
         return chargers;
     }
@@ -200,8 +187,8 @@ fn read_tank(id: u32, bytes: [u8; 8]) -> Tank {
     Tank {
         heard: true,
         silence: 0,
-        level: read(TANK_STATUS, RELATIVE_LEVEL_BIT, id, bytes),
-        resolution: read(TANK_STATUS, RESOLUTION_BIT, id, bytes),
+        level: read(tank_status::RELATIVE_LEVEL, id, bytes),
+        resolution: read(tank_status::RESOLUTION, id, bytes),
     }
 }
 
@@ -209,19 +196,14 @@ fn read_charger(id: u32, bytes: [u8; 8]) -> Charger {
     Charger {
         heard: true,
         silence: 0,
-        voltage: read(CHARGER_STATUS, CHARGE_VOLTAGE_BIT, id, bytes),
-        current: read(CHARGER_STATUS, CHARGE_CURRENT_BIT, id, bytes),
-        state: read(CHARGER_STATUS, OPERATING_STATE_BIT, id, bytes),
+        voltage: read(charger_status::CHARGE_VOLTAGE, id, bytes),
+        current: read(charger_status::CHARGE_CURRENT, id, bytes),
+        state: read(charger_status::OPERATING_STATE, id, bytes),
     }
 }
 
 // The instance that a status names; FFh, which is none, where it cannot be read.
-fn instance_of(dgn: u32, id: u32, bytes: [u8; 8]) -> u64 {
-    let looked = rvc::fields::row_of(dgn, INSTANCE_BIT);
-    show::refused(looked.refusal());
-    let Looked::Is(row) = looked else {
-        return 0xFF;
-    };
+fn instance_of(row: Row, id: u32, bytes: [u8; 8]) -> u64 {
     let reading = rvc::fields::read_row(row, id, &bytes);
     show::refused(reading.refusal());
     let Reading::Is(field) = reading else {
@@ -230,12 +212,8 @@ fn instance_of(dgn: u32, id: u32, bytes: [u8; 8]) -> u64 {
     field.code
 }
 
-// The field of a frame that begins at this bit.
-fn read(dgn: u32, first: u8, id: u32, bytes: [u8; 8]) -> Shown {
-    let looked = rvc::fields::row_of(dgn, first);
-    let Looked::Is(row) = looked else {
-        return Shown::Not(Missing::Refused(looked.refusal()));
-    };
+// A row's field of a frame.
+fn read(row: Row, id: u32, bytes: [u8; 8]) -> Shown {
     let reading = rvc::fields::read_row_scaled(row, id, &bytes);
     let ScaledReading::Is(value) = reading else {
         return Shown::Not(Missing::Refused(reading.refusal()));
