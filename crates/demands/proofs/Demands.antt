@@ -2,6 +2,8 @@
 -- Assumes nothing.
 use Rattle.frame.proofs.Laws as Frame
 use Rattle.message.proofs.Laws as Message
+use Rattle.fast.proofs.Laws as Fast
+use Rattle.fast.proofs.Joined as FastJoined
 use Rattle.catalogue.proofs.Laws as Catalogue
 use Rattle.claim.proofs.Laws as Claim
 use Rattle.nodes.proofs.Laws as Nodes
@@ -12,6 +14,8 @@ use Rattle.demands.specs.Demands.{DemandOne, DemandTwo, DemandThree}
 use Rattle.demands.proofs.EveryCall.{every-call}
 use Rattle.demands.proofs.BusyBus as BusyBus
 use Rattle.demands.proofs.SplitAndJoin as SplitAndJoin
+use Rattle.demands.proofs.FastBus as FastBus
+use Rattle.demands.proofs.FastSplitAndJoin as FastSplitAndJoin
 use Rattle.demands.proofs.ClaimsHeard as ClaimsHeard
 
 pub demand-one : DemandOne
@@ -22,6 +26,10 @@ demand-one =
       hear = Message.refused-keeps;
       ten-closes = Message.ten-closes;
       pause = Message.pause-refused-keeps;
+      fast-start = Fast.start-refused-keeps;
+      fast-hear = Fast.refused-keeps;
+      fast-ten-closes = Fast.ten-closes;
+      fast-pause = Fast.pause-refused-keeps;
       write = Catalogue.refused-keeps;
       claim-start = Claim.start-refused-keeps;
       claim-hear = Claim.hear-refused-keeps;
@@ -55,6 +63,9 @@ demand-two =
       splitter-cuts = Message.splitter-cuts;
       split-and-join = SplitAndJoin.split-and-join;
       joined-by-rules = SplitAndJoin.joined-by-rules;
+      fast-splitter-cuts = Fast.splitter-cuts;
+      fast-split-and-join = FastSplitAndJoin.split-and-join;
+      fast-joined-by-rules = FastJoined.joined-by-rules;
       claim-is-heard = ClaimsHeard.claim-is-heard;
       written-taken-apart = Capture.written-taken-apart;
       taken-apart-written = Capture.taken-apart-written;
@@ -75,4 +86,15 @@ demand-three =
       every-run-runs = BusyBus.every-run-runs;
       no-place-free-at = BusyBus.no-place-free-at;
       pause-count-at = BusyBus.pause-count-at;
+      fast-busy-bus = FastBus.busy-bus;
+      fast-open-on-bus = FastBus.open-on-bus;
+      fast-told-on-bus = FastBus.told-on-bus;
+      fast-no-place-free = FastBus.no-place-free;
+      fast-pause-count = FastBus.pause-count;
+      fast-sums-of-pauses = FastBus.sums-of-pauses;
+      fast-start-kept = FastBus.start-kept;
+      fast-rules-kept = FastBus.rules-kept;
+      fast-every-run-runs = FastBus.every-run-runs;
+      fast-no-place-free-at = FastBus.no-place-free-at;
+      fast-pause-count-at = FastBus.pause-count-at;
     }

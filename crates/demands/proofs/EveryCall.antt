@@ -32,6 +32,17 @@ use Rattle.message.proofs.Pausing.refusal.Met as message-pausing-refusal
 use Rattle.message.proofs.Announcing.refusal.Met as message-announcing-refusal
 use Rattle.message.proofs.Cutting.refusal.Met as message-cutting-refusal
 use Rattle.message.proofs.Unsplittable.refusal.Met as message-unsplittable-refusal
+use Rattle.fast.specs.Promises as fast-promises
+use Rattle.fast.proofs.Laws as Fast
+use Rattle.fast.proofs.Receiver.start.Met as fast-start
+use Rattle.fast.proofs.Starting.refusal.Met as fast-starting-refusal
+use Rattle.fast.proofs.Receiver.hear.Met as fast-hear
+use Rattle.fast.proofs.Answer.refusal.Met as fast-answer-refusal
+use Rattle.fast.proofs.Receiver.pause.Met as fast-pause
+use Rattle.fast.proofs.Pausing.refusal.Met as fast-pausing-refusal
+use Rattle.fast.proofs.message.Met as fast-message
+use Rattle.fast.proofs.frame_of.Met as fast-frame-of
+use Rattle.fast.proofs.Cutting.refusal.Met as fast-cutting-refusal
 use Rattle.catalogue.specs.Promises as catalogue-promises
 use Rattle.catalogue.proofs.Laws as Catalogue
 use Rattle.catalogue.proofs.rows.Met as catalogue-rows
@@ -304,6 +315,81 @@ every-call M =
         promises = λ 𝓤 H A mem run κs a ghost r. refl;
         one-answer = λ κs a r s w v h k. (Message.unsplittable-refusal-only (a .0) r s h k, refl);
         only = Message.unsplittable-refusal-only;
+      };
+      fast-start = record {
+        meets = fast-start.met;
+        asks-nothing = free;
+        Promise = λ κs a r e. fast-promises.Start (now (a .0)) r;
+        promises = λ 𝓤 H A mem run κs a ghost r. refl;
+        one-answer = λ κs a r s w v h k. (Fast.start-only (now (a .0)) r s h k, refl);
+        only = Fast.start-only;
+      };
+      fast-starting-refusal = record {
+        meets = fast-starting-refusal.met;
+        asks-nothing = free;
+        Promise = λ κs a r e. fast-promises.StartingRefusal (a .0) r;
+        promises = λ 𝓤 H A mem run κs a ghost r. refl;
+        one-answer = λ κs a r s w v h k. (Fast.starting-refusal-only (a .0) r s h k, refl);
+        only = Fast.starting-refusal-only;
+      };
+      fast-hear = record {
+        meets = fast-hear.met;
+        asks-nothing = free;
+        Promise = λ κs a r e.
+            fast-promises.Hear (a .1 .1 .0) (now (a .1 .1 .1 .0)) (a .0) (now (a .1 .0)) r (now (e .1 .0));
+        promises = λ 𝓤 H A mem run κs a ghost r. refl;
+        one-answer = λ κs a r s w v h k.
+            lent (λ x. (tt, (x, (tt, (tt, tt)))))
+            (Fast.hear-only (a .1 .1 .0) (now (a .1 .1 .1 .0)) (a .0) (now (a .1 .0)) r s (w .1 .0) (v .1 .0) h k);
+        only = Fast.hear-only;
+      };
+      fast-answer-refusal = record {
+        meets = fast-answer-refusal.met;
+        asks-nothing = free;
+        Promise = λ κs a r e. fast-promises.AnswerRefusal (a .0) r;
+        promises = λ 𝓤 H A mem run κs a ghost r. refl;
+        one-answer = λ κs a r s w v h k. (Fast.answer-refusal-only (a .0) r s h k, refl);
+        only = Fast.answer-refusal-only;
+      };
+      fast-pause = record {
+        meets = fast-pause.met;
+        asks-nothing = free;
+        Promise = λ κs a r e. fast-promises.Pause (a .1 .0) (a .0) r;
+        promises = λ 𝓤 H A mem run κs a ghost r. refl;
+        one-answer = λ κs a r s w v h k. (Fast.pause-only (a .1 .0) (a .0) r s h k, refl);
+        only = Fast.pause-only;
+      };
+      fast-pausing-refusal = record {
+        meets = fast-pausing-refusal.met;
+        asks-nothing = free;
+        Promise = λ κs a r e. fast-promises.PausingRefusal (a .0) r;
+        promises = λ 𝓤 H A mem run κs a ghost r. refl;
+        one-answer = λ κs a r s w v h k. (Fast.pausing-refusal-only (a .0) r s h k, refl);
+        only = Fast.pausing-refusal-only;
+      };
+      fast-message = record {
+        meets = fast-message.met;
+        asks-nothing = free;
+        Promise = λ κs a r e. fast-promises.Message (now (a .0)) (a .1 .0) (now r);
+        promises = λ 𝓤 H A mem run κs a ghost r. refl;
+        one-answer = λ κs a r s w v h k. (Fast.message-only (now (a .0)) (a .1 .0) (now r) (now s) h k, refl);
+        only = Fast.message-only;
+      };
+      fast-frame-of = record {
+        meets = fast-frame-of.met;
+        asks-nothing = free;
+        Promise = λ κs a r e. fast-promises.FrameOf (now (a .0)) (a .1 .0) (a .1 .1 .0) r;
+        promises = λ 𝓤 H A mem run κs a ghost r. refl;
+        one-answer = λ κs a r s w v h k. (Fast.frame-of-only (now (a .0)) (a .1 .0) (a .1 .1 .0) r s h k, refl);
+        only = Fast.frame-of-only;
+      };
+      fast-cutting-refusal = record {
+        meets = fast-cutting-refusal.met;
+        asks-nothing = free;
+        Promise = λ κs a r e. fast-promises.CuttingRefusal (a .0) r;
+        promises = λ 𝓤 H A mem run κs a ghost r. refl;
+        one-answer = λ κs a r s w v h k. (Fast.cutting-refusal-only (a .0) r s h k, refl);
+        only = Fast.cutting-refusal-only;
       };
       catalogue-rows = record {
         meets = catalogue-rows.met;

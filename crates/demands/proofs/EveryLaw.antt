@@ -17,6 +17,10 @@ use Rattle.places.proofs.NineKeys as PlacesNineKeys
 use Rattle.places.proofs.Tiny as PlacesTiny
 use Rattle.places.proofs.TinyReceiver as PlacesTinyReceiver
 use Rattle.message.proofs.Laws as Message
+use Rattle.fast.proofs.Laws as Fast
+use Rattle.fast.proofs.Example as FastExample
+use Rattle.fast.proofs.KeepsPlaces as FastKeepsPlaces
+use Rattle.fast.proofs.Joined as FastJoined
 use Rattle.catalogue.proofs.Laws as Catalogue
 use Rattle.claim.proofs.Laws as Claim
 use Rattle.claim.proofs.Machine as ClaimMachine
@@ -29,7 +33,7 @@ use Rattle.command.proofs.PositionLaws as CommandPositionLaws
 use Rattle.command.proofs.ReplyLaws as CommandReplyLaws
 use Rattle.capture.proofs.Feeding as CaptureFeeding
 use Rattle.capture.proofs.Laws as Capture
-use Rattle.demands.specs.EveryLaw.{EveryLaw, FrameLaws, SearchLaws, LayoutLaws, StepLaws, FormatLaws, CallLaws, PlacesLaws, MessageLaws, CatalogueLaws, ClaimLaws, NodesLaws, CommandLaws, CaptureLaws}
+use Rattle.demands.specs.EveryLaw.{EveryLaw, FrameLaws, SearchLaws, LayoutLaws, StepLaws, FormatLaws, CallLaws, PlacesLaws, MessageLaws, FastLaws, CatalogueLaws, ClaimLaws, NodesLaws, CommandLaws, CaptureLaws}
 
 frame-laws : FrameLaws
 frame-laws =
@@ -186,6 +190,44 @@ message-laws =
       splitter-announces = Message.splitter-announces;
       splitter-cuts = Message.splitter-cuts;
       lowest-wins = Message.lowest-wins;
+    }
+
+fast-laws : FastLaws
+fast-laws =
+    record {
+      starting-number-same = Fast.starting-number-same;
+      told-answer-same = Fast.told-answer-same;
+      told-pausing-same = Fast.told-pausing-same;
+      cutting-number-same = Fast.cutting-number-same;
+      start-only = Fast.start-only;
+      hear-only = Fast.hear-only;
+      pause-only = Fast.pause-only;
+      message-only = Fast.message-only;
+      frame-of-only = Fast.frame-of-only;
+      starting-refusal-only = Fast.starting-refusal-only;
+      answer-refusal-only = Fast.answer-refusal-only;
+      pausing-refusal-only = Fast.pausing-refusal-only;
+      cutting-refusal-only = Fast.cutting-refusal-only;
+      pair-same = Fast.pair-same;
+      first-byte-read = Fast.first-byte-read;
+      frames-needed = Fast.frames-needed;
+      named-when = Fast.named-when;
+      start-names = Fast.start-names;
+      start-refused-keeps = Fast.start-refused-keeps;
+      refused-keeps = Fast.refused-keeps;
+      ten-closes = Fast.ten-closes;
+      pause-refused-keeps = Fast.pause-refused-keeps;
+      lowest-wins = Fast.lowest-wins;
+      writes-frame-zero = Fast.writes-frame-zero;
+      writes-the-frame = Fast.writes-the-frame;
+      writes-its-own = Fast.writes-its-own;
+      not-beyond = Fast.not-beyond;
+      splitter-cuts = Fast.splitter-cuts;
+      statistics-joined = FastExample.statistics-joined;
+      statistics-split = FastExample.statistics-split;
+      fast-keeps-places = FastKeepsPlaces.fast-keeps-places;
+      fast-pauses-add = FastKeepsPlaces.fast-pauses-add;
+      joined-by-rules = FastJoined.joined-by-rules;
     }
 
 catalogue-laws : CatalogueLaws
@@ -435,6 +477,7 @@ every-law =
       frame = frame-laws;
       places = places-laws;
       message = message-laws;
+      fast = fast-laws;
       catalogue = catalogue-laws;
       claim = claim-laws;
       nodes = nodes-laws;

@@ -1,6 +1,8 @@
 pub mod LongReceiver
 pub mod BusyBus
 pub mod SplitAndJoin
+pub mod FastBus
+pub mod FastSplitAndJoin
 pub mod ClaimsHeard
 pub mod EveryCall
 pub mod EveryLaw

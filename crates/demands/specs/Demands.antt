@@ -3,6 +3,8 @@ use mathlib.Core.List.{List}
 use Prim.Native.Nat.{ℕ}
 use Rattle.frame.specs.Laws as Frame
 use Rattle.message.specs.Laws as Message
+use Rattle.fast.specs.Laws as Fast
+use Rattle.fast.specs.Sending as FastSending
 use Rattle.catalogue.specs.Laws as Catalogue
 use Rattle.claim.specs.Laws as Claim
 use Rattle.nodes.specs.Laws as Nodes
@@ -11,6 +13,8 @@ use Rattle.capture.specs.Laws as Capture
 use Rattle.demands.specs.EveryCall.{EveryCall}
 use Rattle.demands.specs.BusyBus.{BusyBus, OpenOnBus, ToldOnBus, NoPlaceFree, PauseCount, SumsOfPauses, StartKept, RulesKept, EveryRunRuns, NoPlaceFreeAt, PauseCountAt}
 use Rattle.demands.specs.SplitAndJoin.{SplitAndJoin, JoinedByRules}
+use Rattle.demands.specs.FastBus as FastBus
+use Rattle.demands.specs.FastSplitAndJoin as FastSplitAndJoin
 use Rattle.demands.specs.ClaimsHeard.{ClaimIsHeard}
 
 -- 1. Every public call ends with an answer for every input. No call relies on an earlier check. Each refusal carries
@@ -22,6 +26,10 @@ pub record DemandOne : Type 2 where
   pub hear : Message.RefusedKeeps
   pub ten-closes : Message.TenCloses
   pub pause : Message.PauseRefusedKeeps
+  pub fast-start : Fast.StartRefusedKeeps
+  pub fast-hear : Fast.RefusedKeeps
+  pub fast-ten-closes : Fast.TenCloses
+  pub fast-pause : Fast.PauseRefusedKeeps
   pub write : Catalogue.RefusedKeeps
   pub claim-start : Claim.StartRefusedKeeps
   pub claim-hear : Claim.HearRefusedKeeps
@@ -59,6 +67,10 @@ pub record DemandTwo : Type 0 where
   pub splitter-cuts : Message.SplitterCuts
   pub split-and-join : SplitAndJoin
   pub joined-by-rules : JoinedByRules
+  -- fast packets: every message of 1 to 223 bytes, in every sequence, is split, and is joined again in any run of calls
+  pub fast-splitter-cuts : Fast.SplitterCuts
+  pub fast-split-and-join : FastSplitAndJoin.SplitAndJoin
+  pub fast-joined-by-rules : FastSending.JoinedByRules
   -- claims: what one node sends, another's table takes for that claim
   pub claim-is-heard : ClaimIsHeard
   -- captures
@@ -84,3 +96,15 @@ pub record DemandThree : Type 0 where
   -- at any state that keeps its rules, wherever it comes from
   pub no-place-free-at : NoPlaceFreeAt
   pub pause-count-at : PauseCountAt
+  -- all of this of fast packets too, with "pair" for "sender", for whatever DGNs are named at the start
+  pub fast-busy-bus : FastBus.BusyBus
+  pub fast-open-on-bus : FastBus.OpenOnBus
+  pub fast-told-on-bus : FastBus.ToldOnBus
+  pub fast-no-place-free : FastBus.NoPlaceFree
+  pub fast-pause-count : FastBus.PauseCount
+  pub fast-sums-of-pauses : FastBus.SumsOfPauses
+  pub fast-start-kept : FastBus.StartKept
+  pub fast-rules-kept : FastBus.RulesKept
+  pub fast-every-run-runs : FastBus.EveryRunRuns
+  pub fast-no-place-free-at : FastBus.NoPlaceFreeAt
+  pub fast-pause-count-at : FastBus.PauseCountAt

@@ -43,6 +43,16 @@ use Rattle.message.proofs.Pausing.refusal as message-pausing-refusal
 use Rattle.message.proofs.Announcing.refusal as message-announcing-refusal
 use Rattle.message.proofs.Cutting.refusal as message-cutting-refusal
 use Rattle.message.proofs.Unsplittable.refusal as message-unsplittable-refusal
+use Rattle.fast.specs.Laws as Fast
+use Rattle.fast.proofs.Receiver.start as fast-start
+use Rattle.fast.proofs.Starting.refusal as fast-starting-refusal
+use Rattle.fast.proofs.Receiver.hear as fast-hear
+use Rattle.fast.proofs.Answer.refusal as fast-answer-refusal
+use Rattle.fast.proofs.Receiver.pause as fast-pause
+use Rattle.fast.proofs.Pausing.refusal as fast-pausing-refusal
+use Rattle.fast.proofs.message as fast-message
+use Rattle.fast.proofs.frame_of as fast-frame-of
+use Rattle.fast.proofs.Cutting.refusal as fast-cutting-refusal
 use Rattle.catalogue.specs.Laws as Catalogue
 use Rattle.catalogue.proofs.rows as catalogue-rows
 use Rattle.catalogue.proofs.row_at as catalogue-row-at
@@ -202,6 +212,26 @@ module _ (M : Type 1) where
     pub message-unsplittable-refusal :
         Answers message-unsplittable-refusal.ended message-unsplittable-refusal.Symbol.routine message-unsplittable-refusal.spec
         Message.UnsplittableRefusalOnly
+    -- Fast packets
+    pub fast-start : Answers fast-start.ended fast-start.Symbol.routine fast-start.spec Fast.StartOnly
+    pub fast-starting-refusal :
+        Answers fast-starting-refusal.ended fast-starting-refusal.Symbol.routine fast-starting-refusal.spec
+        Fast.StartingRefusalOnly
+    pub fast-hear : Answers fast-hear.ended fast-hear.Symbol.routine fast-hear.spec Fast.HearOnly
+    pub fast-answer-refusal :
+        Answers fast-answer-refusal.ended fast-answer-refusal.Symbol.routine fast-answer-refusal.spec
+        Fast.AnswerRefusalOnly
+    pub fast-pause : Answers fast-pause.ended fast-pause.Symbol.routine fast-pause.spec Fast.PauseOnly
+    pub fast-pausing-refusal :
+        Answers fast-pausing-refusal.ended fast-pausing-refusal.Symbol.routine fast-pausing-refusal.spec
+        Fast.PausingRefusalOnly
+    pub fast-message :
+        AnswersBy fast-message.ended fast-message.Symbol.routine fast-message.spec (λ κs r s. now r ≡ now s)
+        Fast.MessageOnly
+    pub fast-frame-of : Answers fast-frame-of.ended fast-frame-of.Symbol.routine fast-frame-of.spec Fast.FrameOfOnly
+    pub fast-cutting-refusal :
+        Answers fast-cutting-refusal.ended fast-cutting-refusal.Symbol.routine fast-cutting-refusal.spec
+        Fast.CuttingRefusalOnly
     -- Field catalogue
     pub catalogue-rows :
         Answers catalogue-rows.ended catalogue-rows.Symbol.routine catalogue-rows.spec Catalogue.RowsOnly

@@ -13,6 +13,10 @@ use Rattle.places.specs.Calls as PlacesCalls
 use Rattle.places.specs.Tiny as PlacesTiny
 use Rattle.places.specs.TinyReceiver as PlacesTinyReceiver
 use Rattle.message.specs.Laws as Message
+use Rattle.fast.specs.Laws as Fast
+use Rattle.fast.specs.Example as FastExample
+use Rattle.fast.specs.Calls as FastCalls
+use Rattle.fast.specs.Sending as FastSending
 use Rattle.catalogue.specs.Laws as Catalogue
 use Rattle.claim.specs.Laws as Claims
 use Rattle.nodes.specs.Laws as Nodes
@@ -172,6 +176,41 @@ pub record MessageLaws : Type 0 where
   pub splitter-cuts : Message.SplitterCuts
   pub lowest-wins :
       (id : ℕ) (bytes : List ℕ) (places : List Place) (storage : List ℕ) → Message.LowestWins id bytes places storage
+
+pub record FastLaws : Type 1 where
+  pub starting-number-same : Fast.StartingNumberSame
+  pub told-answer-same : Fast.ToldAnswerSame
+  pub told-pausing-same : Fast.ToldPausingSame
+  pub cutting-number-same : Fast.CuttingNumberSame
+  pub start-only : Fast.StartOnly
+  pub hear-only : Fast.HearOnly
+  pub pause-only : Fast.PauseOnly
+  pub message-only : Fast.MessageOnly
+  pub frame-of-only : Fast.FrameOfOnly
+  pub starting-refusal-only : Fast.StartingRefusalOnly
+  pub answer-refusal-only : Fast.AnswerRefusalOnly
+  pub pausing-refusal-only : Fast.PausingRefusalOnly
+  pub cutting-refusal-only : Fast.CuttingRefusalOnly
+  pub pair-same : Fast.PairSame
+  pub first-byte-read : Fast.FirstByteRead
+  pub frames-needed : Fast.FramesNeeded
+  pub named-when : Fast.NamedWhen
+  pub start-names : Fast.StartNames
+  pub start-refused-keeps : Fast.StartRefusedKeeps
+  pub refused-keeps : Fast.RefusedKeeps
+  pub ten-closes : Fast.TenCloses
+  pub pause-refused-keeps : Fast.PauseRefusedKeeps
+  pub lowest-wins : Fast.LowestWins
+  pub writes-frame-zero : Fast.WritesFrameZero
+  pub writes-the-frame : Fast.WritesTheFrame
+  pub writes-its-own : Fast.WritesItsOwn
+  pub not-beyond : Fast.NotBeyond
+  pub splitter-cuts : Fast.SplitterCuts
+  pub statistics-joined : FastExample.StatisticsJoined
+  pub statistics-split : FastExample.StatisticsSplit
+  pub fast-keeps-places : FastCalls.FastKeepsPlaces
+  pub fast-pauses-add : FastCalls.FastPausesAdd
+  pub joined-by-rules : FastSending.JoinedByRules
 
 pub record CatalogueLaws : Type 0 where
   pub told-looked-same : Catalogue.ToldLookedSame
@@ -404,6 +443,7 @@ pub record EveryLaw : Type 1 where
   pub frame : FrameLaws
   pub places : PlacesLaws
   pub message : MessageLaws
+  pub fast : FastLaws
   pub catalogue : CatalogueLaws
   pub claim : ClaimLaws
   pub nodes : NodesLaws

@@ -1,5 +1,7 @@
 pub mod BusyBus
 pub mod SplitAndJoin
+pub mod FastBus
+pub mod FastSplitAndJoin
 pub mod ClaimsHeard
 pub mod EveryCall
 pub mod EveryLaw

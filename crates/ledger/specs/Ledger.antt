@@ -5,6 +5,8 @@ use mathlib.Core.Path.{_≡_}
 use mathlib.Core.List.{[], _∷_}
 use Rattle.frame.specs.Laws as Frame
 use Rattle.message.specs.Laws as Message
+use Rattle.fast.specs.Laws as Fast
+use Rattle.fast.specs.Sending as FastSending
 use Rattle.catalogue.specs.Laws as Catalogue
 use Rattle.claim.specs.Laws as Claim
 use Rattle.nodes.specs.Laws as Nodes
@@ -14,6 +16,8 @@ use Rattle.demands.specs.EveryCall.{EveryCall}
 use Rattle.demands.specs.EveryLaw.{EveryLaw}
 use Rattle.demands.specs.BusyBus.{BusyBus, OpenOnBus, ToldOnBus, NoPlaceFree, PauseCount, SumsOfPauses, StartKept, RulesKept, EveryRunRuns, NoPlaceFreeAt, PauseCountAt}
 use Rattle.demands.specs.SplitAndJoin.{SplitAndJoin, JoinedByRules}
+use Rattle.demands.specs.FastBus as FastBus
+use Rattle.demands.specs.FastSplitAndJoin as FastSplitAndJoin
 use Rattle.demands.specs.ClaimsHeard.{ClaimIsHeard}
 use Rattle.examples.specs.Examples.{dmRv, eightAnnounced, nineAnnounced, eightSplit, nineSplit, longestAnnounced, longerAnnounced, longestSplit, longerSplit, wrongCount, idleKept, idleClosed, ninthSender, longMessage, lastNumber, firstReserved, zeroAmperes, lowestCelsius, slideAcknowledged, table, AllAsPrinted}
 
@@ -23,6 +27,10 @@ pub record FieldsOfOne : Type 2 where
   pub hear : Message.RefusedKeeps
   pub ten-closes : Message.TenCloses
   pub pause : Message.PauseRefusedKeeps
+  pub fast-start : Fast.StartRefusedKeeps
+  pub fast-hear : Fast.RefusedKeeps
+  pub fast-ten-closes : Fast.TenCloses
+  pub fast-pause : Fast.PauseRefusedKeeps
   pub write : Catalogue.RefusedKeeps
   pub claim-start : Claim.StartRefusedKeeps
   pub claim-hear : Claim.HearRefusedKeeps
@@ -53,6 +61,9 @@ pub record FieldsOfTwo : Type 0 where
   pub splitter-cuts : Message.SplitterCuts
   pub split-and-join : SplitAndJoin
   pub joined-by-rules : JoinedByRules
+  pub fast-splitter-cuts : Fast.SplitterCuts
+  pub fast-split-and-join : FastSplitAndJoin.SplitAndJoin
+  pub fast-joined-by-rules : FastSending.JoinedByRules
   pub claim-is-heard : ClaimIsHeard
   pub written-taken-apart : Capture.WrittenTakenApart
   pub taken-apart-written : Capture.TakenApartWritten
@@ -70,6 +81,17 @@ pub record FieldsOfThree : Type 0 where
   pub every-run-runs : EveryRunRuns
   pub no-place-free-at : NoPlaceFreeAt
   pub pause-count-at : PauseCountAt
+  pub fast-busy-bus : FastBus.BusyBus
+  pub fast-open-on-bus : FastBus.OpenOnBus
+  pub fast-told-on-bus : FastBus.ToldOnBus
+  pub fast-no-place-free : FastBus.NoPlaceFree
+  pub fast-pause-count : FastBus.PauseCount
+  pub fast-sums-of-pauses : FastBus.SumsOfPauses
+  pub fast-start-kept : FastBus.StartKept
+  pub fast-rules-kept : FastBus.RulesKept
+  pub fast-every-run-runs : FastBus.EveryRunRuns
+  pub fast-no-place-free-at : FastBus.NoPlaceFreeAt
+  pub fast-pause-count-at : FastBus.PauseCountAt
 
 abbrev pub LinesOfTable : Type 0
 LinesOfTable =

@@ -6,6 +6,9 @@ pub mod identifiers;
 // "Long messages, one sender" and "Eight senders at once": the receiver with `Receiver::new`, `hear` and `pause`, the finished message, and the splitter.
 pub mod messages;
 
+// Request #101, fast packets: the receiver with `Receiver::start`, `hear` and `pause`, the finished message, and the splitter.
+pub mod fast_packets;
+
 // "Field catalogue": rows, classes, fields read and written; `dgns` has the names of the DGNs.
 pub mod fields;
 

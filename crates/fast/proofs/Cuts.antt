@@ -1,0 +1,119 @@
+-- The bytes of a frame, copied over a filling of FFh, and the splitter's refusals.
+-- Assumes nothing.
+use mathlib.Core.Path.{_≡_, refl, sym, ap, _∙_}
+use mathlib.Core.Bool.{Bool, true, false}
+use mathlib.Core.List.{List, [], _∷_, _++_, append-nil}
+use Prim.Native.Nat.{ℕ, zero, suc, _+_, _-_, _*_, _≤_, _<_, min}
+use native.Mathlib.Nat.{le-refl, sub-self, le-of-suc-le-suc, not-suc-le-zero}
+use native.Mathlib.Omega.{arith}
+use borrow.Author.Tests.{leb-true, leb-false, ltb-false}
+use denote.Enum.Declared.{tagOf}
+use types.Run.{OneOf, miss}
+use lib.ListN.{length, take, drop, replicate, length-drop}
+use lib.Seq.{paste, take-all, take-append-le, take-append-add}
+use Rattle.frame.specs.Words.{if_then_else_, _≤?_, _<?_, gives}
+use Rattle.frame.specs.Frame.{frameBytes}
+use Rattle.frame.specs.Standard.{unused}
+use Rattle.frame.proofs.Words.{by-test}
+use Rattle.fast.specs.FastPacket.{firstByteOf, greatestSequence, firstBytes, laterBytes, longest, offsetOf, lastFrame, neededFirst, needed}
+use Rattle.fast.specs.Splitter.{refusalIn, firstBytesOf, laterBytesOf, frameBytesOf, frameOf}
+use Rattle.fast.specs.Promises.{cuttingNumber, FrameOf}
+use Rattle.fast.specs.declared.Cutting.{Cutting}
+use Rattle.fast.specs.declared.Cutting.the-variants.{Bytes, SequenceTooLarge, LengthNotSplit, NoSuchFrame}
+use Rattle.fast.proofs.Cutting.{the-type}
+
+-- parts of a filling
+drop-filling : (n k f : ℕ) → drop n (replicate k f) ≡ replicate (k - n) f
+drop-filling zero k f = let e : k ≡ k - 0 = omega arith in ap (λ (m : ℕ). replicate m f) e
+drop-filling (suc n) zero f = let e : 0 ≡ 0 - suc n = omega arith in ap (λ (m : ℕ). replicate m f) e
+drop-filling (suc n) (suc k) f =
+    let e : k - n ≡ suc k - suc n = omega arith in
+    drop-filling n k f ∙ ap (λ (m : ℕ). replicate m f) e
+
+take-filling : (n k f : ℕ) → n ≤ k → take n (replicate k f) ≡ replicate n f
+take-filling zero k f h = refl
+take-filling (suc n) zero f h = absurd (not-suc-le-zero h)
+take-filling (suc n) (suc k) f h = ap (λ (l : List ℕ). f ∷ l) (take-filling n k f (le-of-suc-le-suc h))
+
+-- the first k bytes of a list, filled up
+filled : (k f n : ℕ) (l : List ℕ) → n ≡ min k (length l)
+    → take k (l ++ replicate k f) ≡ take n l ++ drop n (replicate k f)
+filled k f n l e =
+    by-test (k ≤? length l)
+    (λ t.
+    let h : k ≤ length l = leb-true _ _ t in
+    let y : n ≡ k = omega arith in
+    rw (take-append-le k l (replicate k f) h, y, drop-filling k k f, sub-self k) (sym (append-nil (take k l))))
+    (λ t.
+    let h : length l < k = leb-false _ _ t in
+    let y : n ≡ length l = omega arith in
+    let j : k ≡ length l + (k - length l) = omega arith in
+    ap (λ (m : ℕ). take m (l ++ replicate k f)) j
+    ∙ take-append-add l (replicate k f) (k - length l)
+    ∙ rw (y, take-all (length l) l (le-refl _), drop-filling (length l) k f)
+    (ap (λ (r : List ℕ). l ++ r) (take-filling (k - length l) k f (omega arith))))
+
+-- what was copied over the filling is frame 0
+pub first-copied : (message : List ℕ) (sequence : ℕ)
+    → paste (32 * sequence ∷ length message ∷ replicate firstBytes unused) 2 (drop 0 message)
+    (neededFirst (length message))
+    ≡ firstBytesOf message sequence
+unfolding firstBytesOf
+first-copied message sequence =
+    let n = neededFirst (length message) in
+    let d = 32 * sequence ∷ length message ∷ replicate firstBytes unused in
+    let e : 2 + n ≡ suc (suc n) = omega arith in
+    let z : firstByteOf sequence 0 ≡ 32 * sequence = omega arith in
+    ap (λ (m : ℕ). take 2 d ++ take n message ++ drop m d) e
+    ∙ rw z (ap (λ (r : List ℕ). 32 * sequence ∷ length message ∷ r) (sym (filled firstBytes unused n message refl)))
+
+-- and so is any other frame
+pub later-copied : (message : List ℕ) (sequence number : ℕ)
+    → paste (firstByteOf sequence number ∷ replicate laterBytes unused) 1 (drop (offsetOf number) message)
+    (needed (length message) number)
+    ≡ laterBytesOf message sequence number
+unfolding laterBytesOf
+later-copied message sequence number =
+    let l = drop (offsetOf number) message in
+    let n = needed (length message) number in
+    let d = firstByteOf sequence number ∷ replicate laterBytes unused in
+    let e : 1 + n ≡ suc n = omega arith in
+    let k = ap (λ (m : ℕ). min laterBytes m) (sym (length-drop (offsetOf number) message)) in
+    ap (λ (m : ℕ). take 1 d ++ take n l ++ drop m d) e
+    ∙ ap (λ (r : List ℕ). firstByteOf sequence number ∷ r) (sym (filled laterBytes unused n l k))
+
+-- why a message has no such frame; where it has one, its size, its sequence and its number keep their limits
+
+pub record Splittable (size sequence number : ℕ) : Type 0 where
+  pub low : sequence ≤ greatestSequence
+  pub short : size ≤ longest
+  pub within : number ≤ lastFrame size
+
+past-test : (b : Bool) (n m : ℕ) → (if b then suc n else m) ≡ 0 → (b ≡ false) × (m ≡ 0)
+past-test true n m e = absurd (omega arith)
+past-test false n m e = (refl, e)
+
+pub splittable : (size sequence number : ℕ) → refusalIn size sequence number ≡ 0 → Splittable size sequence number
+unfolding refusalIn
+splittable size sequence number e =
+    let r₁ = past-test (greatestSequence <? sequence) 11 _ e in
+    let r₂ = past-test (size <? 1) 12 _ (r₁ .1) in
+    let r₃ = past-test (longest <? size) 12 _ (r₂ .1) in
+    let r₄ = past-test (lastFrame size <? number) 14 _ (r₃ .1) in
+    record { low = ltb-false _ _ (r₁ .0); short = ltb-false _ _ (r₃ .0); within = ltb-false _ _ (r₄ .0) }
+
+module _ (message : List ℕ) (sequence number : ℕ) where
+  pub frame-given : refusalIn (length message) sequence number ≡ 0
+      → frameOf message sequence number ≡ gives (frameBytesOf message sequence number)
+  unfolding frameOf
+  frame-given e = rw e
+
+  -- the answers beside the bytes, each with zeros
+  pub cut-refused : (a : Cutting) → OneOf (1 ∷ 2 ∷ 3 ∷ []) (tagOf the-type a)
+      → cuttingNumber a ≡ refusalIn (length message) sequence number
+      → FrameOf message sequence number (record { answer = a; bytes = replicate frameBytes 0 })
+  unfolding frameOf
+  cut-refused Bytes h e = absurd (miss (1 ∷ 2 ∷ 3 ∷ []) 0 tt h)
+  cut-refused SequenceTooLarge h e = rw (← e) (record { number = refl; bytes = refl })
+  cut-refused LengthNotSplit h e = rw (← e) (record { number = refl; bytes = refl })
+  cut-refused NoSuchFrame h e = rw (← e) (record { number = refl; bytes = refl })

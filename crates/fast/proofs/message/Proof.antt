@@ -1,0 +1,85 @@
+-- `fast::message` meets its contract. Assumes nothing.
+use mathlib.Core.List.{List, [], _∷_}
+use mathlib.Core.Path.{_≡_, refl, sym, _∙_}
+use Prim.Native.Nat.{ℕ}
+use borrow.Author.Tests.{le-ltb}
+use borrow.Author.Needs.{needs}
+use Rattle.fast.specs.declared.Answer.the-variants.{StorageTooShort, BrokenState, BadFrame, MalformedLength, NoPlaceFree, NoOpenMessage, UnexpectedFrame, NothingToDo, Opened, Stored, Finished}
+use Rattle.fast.specs.declared.Answer.{Answer}
+use Rattle.fast.specs.Promises.{toldAnswer, messageIn}
+use denote.Enum.Declared.{tagOf}
+use types.Run.{OneOf, miss}
+use Rattle.frame.proofs.Tests.{tests}
+use Rattle.fast.proofs.Answer.{the-type}
+use Rattle.fast.proofs.message.Statement.{statement}
+use Rattle.fast.proofs.message.Tie as tie
+
+-- the other answers tell of no finished message
+unfinished : (s : List ℕ) (a : Answer)
+    → OneOf (0 ∷ 1 ∷ 2 ∷ 3 ∷ 4 ∷ 5 ∷ 6 ∷ 7 ∷ 8 ∷ 9 ∷ []) (tagOf the-type a) → messageIn s (toldAnswer a) ≡ []
+unfinished s StorageTooShort h = refl
+unfinished s BrokenState h = refl
+unfinished s (BadFrame why) h = refl
+unfinished s MalformedLength h = refl
+unfinished s NoPlaceFree h = refl
+unfinished s NoOpenMessage h = refl
+unfinished s UnexpectedFrame h = refl
+unfinished s NothingToDo h = refl
+unfinished s Opened h = refl
+unfinished s Stored h = refl
+unfinished s (Finished place sender dgn size) h = absurd (miss (0 ∷ 1 ∷ 2 ∷ 3 ∷ 4 ∷ 5 ∷ 6 ∷ 7 ∷ 8 ∷ 9 ∷ []) 10 tt h)
+
+sub-result : tie.Need-sub-result
+sub-result c = search needs
+
+part-result-start : tie.Need-part-result-start
+part-result-start c = search needs
+
+part-result-end : tie.Need-part-result-end
+part-result-end c = search needs
+
+returns : tie.Need-returns
+returns c = record { bytes = search tests }
+
+enum-known-answer : tie.Need-enum-known-answer
+enum-known-answer c = search needs
+
+part-requires : tie.Need-part-requires
+part-requires c κs = search needs
+
+sub-result-2 : tie.Need-sub-result-2
+sub-result-2 c = search needs
+
+part-result-start-2 : tie.Need-part-result-start-2
+part-result-start-2 c = search needs
+
+part-result-end-2 : tie.Need-part-result-end-2
+part-result-end-2 c = search needs
+
+returns-2 : tie.Need-returns-2
+returns-2 c =
+    let b = c .before .before .before .before in
+    record { bytes = c .part .ensures ∙ sym (rw (le-ltb _ _ (b .if1 .left), c .before .before .answer .given .1)) }
+
+returns-3 : tie.Need-returns-3
+returns-3 c =
+    let b = c .before .before in
+    let a = b .before .before .args in
+    let u = unfinished (a .storage .now) (a .answer) (c .before .match .keys2) in
+    record { bytes = sym (rw (le-ltb _ _ (b .if1 .left)) u) }
+
+pub message-spec : {M : Type 1} → statement M
+message-spec =
+    tie.close
+    (tie.spec
+    sub-result
+    part-result-start
+    part-result-end
+    returns
+    enum-known-answer
+    part-requires
+    sub-result-2
+    part-result-start-2
+    part-result-end-2
+    returns-2
+    returns-3)

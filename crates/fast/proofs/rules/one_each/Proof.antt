@@ -1,0 +1,67 @@
+-- `fast::rules::one_each` meets its contract. Assumes nothing.
+use mathlib.Core.Path.{_≡_, refl, sym, _∙_}
+use Prim.Native.Nat.{_≤_, _<_, _-_}
+use native.Mathlib.Omega.{arith}
+use borrow.Author.Tests.{not-true, not-false}
+use borrow.Author.Needs.{needs}
+use lib.ListN.{length, drop}
+use Rattle.fast.specs.Receiver.{freePlace, layout}
+use Rattle.places.specs.Layout.{oneEach}
+use Rattle.places.proofs.Search.{length-field}
+use Rattle.places.proofs.View.{one-each-pass, one-each-stop, one-each-end}
+use Rattle.fast.proofs.rules.one_each.Statement.{statement}
+use Rattle.fast.proofs.rules.one_each.Tie as tie
+
+abbrev Inv-loop : tie.InvT-loop
+Inv-loop r i₀ i =
+    (i ≤ 8) × (length (r .places) ≡ 8) × (oneEach layout (r .places) ≡ oneEach layout (drop i (r .places)))
+
+abbrev μ-loop : tie.MeasureT-loop
+μ-loop r i₀ i = 8 - i
+
+loop-holds : tie.Need-loop-holds Inv-loop μ-loop
+loop-holds c = (search needs, search length-field, refl)
+
+is-alone-requires : tie.Need-is-alone-requires Inv-loop μ-loop
+is-alone-requires c κs = search needs
+
+returns : tie.Need-returns Inv-loop μ-loop
+returns c =
+    let l = c .before .before .before .loop in
+    let ps = c .before .before .before .before .args .r .places in
+    let h : l .i < length ps = omega arith in
+    let e = sym (c .before .is-alone .ensures) ∙ not-true _ (c .if1 .taken) in
+    sym (l .inv .2 ∙ one-each-stop layout ps (l .i) freePlace h e)
+
+add-i : tie.Need-add-i Inv-loop μ-loop
+add-i c = search needs
+
+loop-less : tie.Need-loop-less Inv-loop μ-loop
+loop-less c = search needs
+
+loop-again : tie.Need-loop-again Inv-loop μ-loop
+loop-again c =
+    let l = c .before .before .before .loop in
+    let ps = c .before .before .before .before .args .r .places in
+    let h : l .i < length ps = omega arith in
+    let e = sym (c .before .is-alone .ensures) ∙ not-false _ (c .if1 .left) in
+    (search needs, l .inv .1, l .inv .2 ∙ one-each-pass layout ps (l .i) freePlace h e)
+
+returns-2 : tie.Need-returns-2 Inv-loop μ-loop
+returns-2 c =
+    let l = c .before .loop in
+    sym (l .inv .2 ∙ one-each-end layout (c .before .before .args .r .places) (l .i) (omega arith))
+
+pub one-each-spec : {M : Type 1} → statement M
+one-each-spec =
+    tie.close
+    (tie.spec
+    Inv-loop
+    μ-loop
+    loop-holds
+    is-alone-requires
+    returns
+    add-i
+    loop-less
+    loop-again
+    returns-2)

@@ -1,0 +1,35 @@
+-- The DGNs that a caller names at the start: those whose messages are carried as fast packets (request #101).
+use mathlib.Core.Bool.{Bool, true, not}
+use mathlib.Core.List.{List, [], _∷_, _++_}
+use Prim.Native.Nat.{ℕ, _-_}
+use lib.ListN.{length, replicate}
+use Rattle.frame.specs.Words.{_≤?_, _=?_, _and_, bits}
+use Rattle.frame.specs.Identifier.{greatestDgn}
+use Rattle.frame.specs.Standard.{announcementDgn, packetDgn}
+use Rattle.places.specs.Layout.{any, every}
+
+abbrev pub mostNamed : ℕ
+mostNamed = 16
+
+-- Some DGNs are carried otherwise: ECFFh and EBFFh are long messages' own, and where the upper nine bits are EAh or EEh
+-- the frame is a request or an address claim. EC and EB to one destination, and all of 1EA00h and above, may be named.
+unfoldable pub mayBeNamed : ℕ → Bool
+mayBeNamed dgn =
+    (dgn ≤? greatestDgn) and not (dgn =? announcementDgn) and not (dgn =? packetDgn)
+    and not (bits 16 8 dgn =? 0xEA) and not (bits 16 8 dgn =? 0xEE)
+
+-- all 17 bits count, a destination included
+abbrev pub isNamed : ℕ → List ℕ → Bool
+isNamed dgn names = any (λ name. name =? dgn) names
+
+unfoldable pub noneTwice : List ℕ → Bool
+noneTwice [] = true
+noneTwice (dgn ∷ names) = not (isNamed dgn names) and noneTwice names
+
+-- up to 16 of them, and none at all is a list too; any other list is refused with 16
+unfoldable pub isWellFormed : List ℕ → Bool
+isWellFormed names = (length names ≤? mostNamed) and every mayBeNamed names and noneTwice names
+
+-- the list as a state keeps it: filled up with zeros
+unfoldable pub padded : List ℕ → List ℕ
+padded names = names ++ replicate (mostNamed - length names) 0

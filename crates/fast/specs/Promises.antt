@@ -1,0 +1,130 @@
+-- What each public call of this crate promises: one proposition over answer, state and every lent byte. The answers are
+-- read in document 01's terms.
+use mathlib.Core.Path.{_≡_}
+use mathlib.Core.List.{List, []}
+use Prim.Native.Nat.{ℕ, _*_}
+use lib.ListN.{length, take, drop, replicate}
+use Rattle.frame.specs.Words.{if_then_else_, _<?_, _≤?_, _or_, Told, refused, gives, numberIn}
+use Rattle.frame.specs.Frame.{frameBytes}
+use Rattle.frame.specs.Promises.{refusalOf}
+use Rattle.places.specs.Places.{placeCount}
+use Rattle.fast.specs.FastPacket.{longest}
+use Rattle.fast.specs.Names.{mostNamed, isWellFormed, padded}
+use Rattle.fast.specs.Receiver.{room, freePlace, Outcome, nothingToDo, opened, stored, finished, After, heard, pausedState, pausedAnswer}
+use Rattle.fast.specs.Splitter.{frameOf}
+use Rattle.fast.specs.declared.Receiver.{Receiver}
+use Rattle.fast.specs.declared.Starting.{Starting}
+use Rattle.fast.specs.declared.Starting.the-variants as Starting
+use Rattle.fast.specs.declared.Started.{Started}
+use Rattle.fast.specs.declared.Answer.{Answer}
+use Rattle.fast.specs.declared.Answer.the-variants.{StorageTooShort, BrokenState, BadFrame, MalformedLength, NoPlaceFree, NoOpenMessage, UnexpectedFrame, NothingToDo, Opened, Stored, Finished}
+use Rattle.fast.specs.declared.Heard.{Heard}
+use Rattle.fast.specs.declared.Pausing.{Pausing}
+use Rattle.fast.specs.declared.Pausing.the-variants as Pausing
+use Rattle.fast.specs.declared.Paused.{Paused}
+use Rattle.fast.specs.declared.Cutting.{Cutting}
+use Rattle.fast.specs.declared.Cutting.the-variants as Cutting
+use Rattle.fast.specs.declared.Cut.{Cut}
+
+-- Receiver::start
+
+-- 0 where the DGNs are named
+abbrev pub startingNumber : Starting → ℕ
+startingNumber Starting.Named = 0
+startingNumber Starting.ListMalformed = 16
+
+pub record StartingRefusal (answer : Starting) (r : ℕ) : Type 0 where
+  pub number : r ≡ startingNumber answer
+
+-- a receiver with eight free places, for these DGNs
+abbrev pub naming : List ℕ → Receiver
+naming names = record { dgns = padded names; named = length names; places = replicate placeCount freePlace }
+
+-- one that names none, beside a refused start
+abbrev pub namingNone : Receiver
+namingNone = record { dgns = replicate mostNamed 0; named = 0; places = replicate placeCount freePlace }
+
+pub record Start (names : List ℕ) (r : Started) : Type 0 where
+  pub answer : startingNumber (r .answer) ≡ (if isWellFormed names then 0 else 16)
+  pub state : r .receiver ≡ (if isWellFormed names then naming names else namingNone)
+
+-- Receiver::hear
+
+abbrev pub toldAnswer : Answer → Told Outcome
+toldAnswer StorageTooShort = refused 1
+toldAnswer BrokenState = refused 2
+toldAnswer (BadFrame why) = refused (refusalOf why)
+toldAnswer MalformedLength = refused 7
+toldAnswer NoPlaceFree = refused 8
+toldAnswer NoOpenMessage = refused 9
+toldAnswer UnexpectedFrame = refused 10
+toldAnswer NothingToDo = gives nothingToDo
+toldAnswer Opened = gives opened
+toldAnswer Stored = gives stored
+toldAnswer (Finished place sender dgn size) = gives (finished place sender dgn size)
+
+-- state, storage and answer are those
+pub record LeftBy (after : After) (r : Heard) (storage : List ℕ) : Type 0 where
+  pub state : r .receiver ≡ after .receiver
+  pub storage-bytes : storage ≡ after .storage
+  pub answer : toldAnswer (r .answer) ≡ after .answer
+
+pub record AnswerRefusal (answer : Answer) (r : ℕ) : Type 0 where
+  pub number : r ≡ numberIn (toldAnswer answer)
+
+abbrev pub Hear : ℕ → List ℕ → Receiver → List ℕ → Heard → List ℕ → Type 0
+Hear id bytes state storage r exit = LeftBy (heard id bytes state storage) r exit
+
+-- Receiver::pause
+
+abbrev pub toldPausing : Pausing → Told ℕ
+toldPausing (Pausing.Closed n) = gives n
+toldPausing Pausing.BrokenState = refused 2
+
+pub record Pause (ms : ℕ) (state : Receiver) (r : Paused) : Type 0 where
+  pub after : r .receiver ≡ pausedState ms state
+  pub answer : toldPausing (r .answer) ≡ pausedAnswer ms state
+
+pub record PausingRefusal (answer : Pausing) (r : ℕ) : Type 0 where
+  pub number : r ≡ numberIn (toldPausing answer)
+
+-- message: the finished message is that part of the storage, and empty where no message was finished, or no such answer
+-- is ever given
+
+abbrev pub partOf : List ℕ → ℕ → ℕ → List ℕ
+partOf storage place size =
+    if (placeCount ≤? place) or (longest <? size) then [] else take size (drop (longest * place) storage)
+
+abbrev pub messageIn : List ℕ → Told Outcome → List ℕ
+messageIn storage (refused n) = []
+messageIn storage (gives nothingToDo) = []
+messageIn storage (gives opened) = []
+messageIn storage (gives stored) = []
+messageIn storage (gives (finished place sender dgn size)) = partOf storage place size
+
+pub record Message (storage : List ℕ) (answer : Answer) (r : List ℕ) : Type 0 where
+  pub bytes : r ≡ (if length storage <? room then [] else messageIn storage (toldAnswer answer))
+
+-- frame_of
+
+-- 0 where the bytes are given
+abbrev pub cuttingNumber : Cutting → ℕ
+cuttingNumber Cutting.Bytes = 0
+cuttingNumber Cutting.SequenceTooLarge = 12
+cuttingNumber Cutting.LengthNotSplit = 13
+cuttingNumber Cutting.NoSuchFrame = 15
+
+pub record CuttingRefusal (answer : Cutting) (r : ℕ) : Type 0 where
+  pub number : r ≡ cuttingNumber answer
+
+-- the eight bytes that a definition tells: zeros beside a refusal
+abbrev pub bytesIn : Told (List ℕ) → List ℕ
+bytesIn (gives bytes) = bytes
+bytesIn (refused n) = replicate frameBytes 0
+
+pub record CutBy (told : Told (List ℕ)) (r : Cut) : Type 0 where
+  pub number : cuttingNumber (r .answer) ≡ numberIn told
+  pub bytes : r .bytes ≡ bytesIn told
+
+abbrev pub FrameOf : List ℕ → ℕ → ℕ → Cut → Type 0
+FrameOf message sequence number r = CutBy (frameOf message sequence number) r

@@ -1,0 +1,256 @@
+// Fast packets (NMEA 2000's format, as AEBus batteries send it): the receiver of eight pairs of sender and DGN over
+// lent storage, and the splitter. It has its places and its storage to itself, beside those of long messages.
+ghost use Rattle.fast.specs.Promises.{Start, Hear, Pause, Message, FrameOf, StartingRefusal, AnswerRefusal, PausingRefusal, CuttingRefusal};
+
+mod eight_places;
+pub mod limits;
+mod meaning;
+mod names;
+mod one_place;
+mod rules;
+mod split;
+mod storage;
+
+use frame::BadFrame;
+use limits::DGNS;
+use limits::STORAGE_BYTES;
+
+// An open message's place: its pair of sender and DGN, its sequence number and length, the frame expected next, and the
+// pauses since its last frame, in milliseconds. A free place is all zeros.
+pub struct Place {
+    pub sender: u8,
+    pub dgn: u32,
+    pub sequence: u8,
+    pub length: u8,
+    pub expected: u8,
+    pub idle: u16,
+}
+
+// The receiver's state: the DGNs that are carried this way, `named` of them and then zeros, and the places. Place p
+// owns bytes 223 p to 223 p + 222 of the storage.
+pub struct Receiver {
+    pub dgns: [u32; DGNS],
+    pub named: usize,
+    pub places: [Place; 8],
+}
+
+// The DGNs are named; or refusal 16.
+pub enum Starting {
+    Named,
+    ListMalformed,
+}
+
+// The new receiver; one that names no DGN where the start is refused.
+pub struct Started {
+    pub receiver: Receiver,
+    pub answer: Starting,
+}
+
+// What a frame did: the refusals 1 to 10 by name, or the four ways in which it was heard.
+pub enum Answer {
+    StorageTooShort,
+    BrokenState,
+    BadFrame(BadFrame),
+    MalformedLength,
+    NoPlaceFree,
+    NoOpenMessage,
+    UnexpectedFrame,
+    NothingToDo,
+    Opened,
+    Stored,
+    Finished {
+        place: usize,
+        sender: u8,
+        dgn: u32,
+        length: u8,
+    },
+}
+
+pub struct Heard {
+    pub receiver: Receiver,
+    pub answer: Answer,
+}
+
+// How many messages a pause closed, or refusal 2.
+pub enum Pausing {
+    Closed(u8),
+    BrokenState,
+}
+
+pub struct Paused {
+    pub receiver: Receiver,
+    pub answer: Pausing,
+}
+
+// A frame of a message, or refusal 12, 13 or 15.
+pub enum Cutting {
+    Bytes,
+    SequenceTooLarge,
+    LengthNotSplit,
+    NoSuchFrame,
+}
+
+// A frame's eight bytes; zeros where it is refused.
+pub struct Cut {
+    pub answer: Cutting,
+    pub bytes: [u8; 8],
+}
+
+impl Starting {
+    // The number of the refusal; 0 where the DGNs are named.
+    pub fn refusal(self) -> u8
+        ensures { λ r. ⌜ StartingRefusal self r ⌝ }
+    {
+        let answer = self;
+        match answer {
+            Starting::Named => 0,
+            Starting::ListMalformed => 16,
+        }
+    }
+}
+
+impl Answer {
+    // The number of the refusal; 0 where the frame was heard.
+    pub fn refusal(self) -> u8
+        ensures { λ r. ⌜ AnswerRefusal self r ⌝ }
+    {
+        let answer = self;
+        match answer {
+            Answer::StorageTooShort => 1,
+            Answer::BrokenState => 2,
+            Answer::BadFrame(why) => why.refusal(),
+            Answer::MalformedLength => 7,
+            Answer::NoPlaceFree => 8,
+            Answer::NoOpenMessage => 9,
+            Answer::UnexpectedFrame => 10,
+            Answer::NothingToDo => 0,
+            Answer::Opened => 0,
+            Answer::Stored => 0,
+            Answer::Finished {
+                place: _,
+                sender: _,
+                dgn: _,
+                length: _,
+            } => 0,
+        }
+    }
+}
+
+impl Pausing {
+    // The number of the refusal; 0 where the pause has passed.
+    pub fn refusal(self) -> u8
+        ensures { λ r. ⌜ PausingRefusal self r ⌝ }
+    {
+        let answer = self;
+        match answer {
+            Pausing::Closed(_) => 0,
+            Pausing::BrokenState => 2,
+        }
+    }
+}
+
+impl Cutting {
+    // The number of the refusal; 0 where the frame is given.
+    pub fn refusal(self) -> u8
+        ensures { λ r. ⌜ CuttingRefusal self r ⌝ }
+    {
+        let answer = self;
+        match answer {
+            Cutting::Bytes => 0,
+            Cutting::SequenceTooLarge => 12,
+            Cutting::LengthNotSplit => 13,
+            Cutting::NoSuchFrame => 15,
+        }
+    }
+}
+
+impl Receiver {
+    // A receiver with eight free places, for the DGNs of the list; 16 for a list of more than 16, with a repeat, or
+    // with a DGN that is not carried this way: above 1FFFFh, ECFFh, EBFFh, and any whose upper nine bits are EAh or
+    // EEh.
+    pub fn start(dgns: &[u32]) -> Started
+        ensures { λ r. ⌜ Start (now (dgns .entry)) r ⌝ }
+    {
+        if !names::well_formed(dgns) {
+            return Started {
+                receiver: Receiver {
+                    dgns: [0u32; DGNS],
+                    named: 0,
+                    places: [one_place::free(); 8],
+                },
+                answer: Starting::ListMalformed,
+            };
+        }
+        Started {
+            receiver: Receiver {
+                dgns: names::filled(dgns),
+                named: dgns.len(),
+                places: [one_place::free(); 8],
+            },
+            answer: Starting::Named,
+        }
+    }
+
+    // A frame of the bus: 1 to 10, or what it did. A refusal keeps state and storage, but 10 closes the message of the
+    // frame's pair.
+    pub fn hear(self, storage: &mut [u8], id: u32, bytes: &[u8]) -> Heard
+        ensures { λ r. ⌜ Hear id (now (bytes .entry)) self (now (storage .entry)) r (now (storage .exit)) ⌝ }
+    {
+        if storage.len() < STORAGE_BYTES {
+            return eight_places::keeps(self, Answer::StorageTooShort);
+        }
+        if !rules::keep_rules(self) {
+            return eight_places::keeps(self, Answer::BrokenState);
+        }
+        eight_places::hear(self, storage, id, bytes)
+    }
+
+    // A pause on the bus, in milliseconds: how many messages it closed; or 2, and the state is kept.
+    pub fn pause(self, ms: u16) -> Paused
+        ensures { λ r. ⌜ Pause ms self r ⌝ }
+    {
+        if !rules::keep_rules(self) {
+            return Paused {
+                receiver: self,
+                answer: Pausing::BrokenState,
+            };
+        }
+        eight_places::pause(self, ms)
+    }
+}
+
+// The finished message that `answer` tells of: that part of the storage, to be read before the next frame is heard.
+// Empty for any other answer.
+pub fn message(storage: &[u8], answer: Answer) -> &[u8]
+    ensures { λ r. ⌜ Message (now (storage .entry)) answer (now r) ⌝ }
+{
+    if storage.len() < STORAGE_BYTES {
+        return &storage[0..0];
+    }
+    match answer {
+        Answer::Finished {
+            place,
+            sender: _,
+            dgn: _,
+            length,
+        } => storage::part(storage, place, length),
+        _ => &storage[0..0],
+    }
+}
+
+// Any one frame of a message, by its number from 0: 12 for a sequence number above 7, 13 for a message that has not 1
+// to 223 bytes, 15 for a number past its last frame.
+pub fn frame_of(message: &[u8], sequence: u8, number: u32) -> Cut
+    ensures { λ r. ⌜ FrameOf (now (message .entry)) sequence number r ⌝ }
+{
+    match split::splittable(message.len(), sequence, number) {
+        Cutting::Bytes => Cut {
+            answer: Cutting::Bytes,
+            bytes: split::frame_bytes(message, sequence, number as u8),
+        },
+        answer => Cut {
+            answer,
+            bytes: [0u8; 8],
+        },
+    }
+}
