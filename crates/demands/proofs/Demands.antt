@@ -3,6 +3,7 @@
 use Rattle.frame.proofs.Laws as Frame
 use Rattle.message.proofs.Laws as Message
 use Rattle.fast.proofs.Laws as Fast
+use Rattle.fast.proofs.KeepsPlaces as FastKeepsPlaces
 use Rattle.fast.proofs.Joined as FastJoined
 use Rattle.catalogue.proofs.Laws as Catalogue
 use Rattle.claim.proofs.Laws as Claim
@@ -92,6 +93,7 @@ demand-three =
       fast-no-place-free = FastBus.no-place-free;
       fast-pause-count = FastBus.pause-count;
       fast-sums-of-pauses = FastBus.sums-of-pauses;
+      fast-every-list-starts = FastKeepsPlaces.every-list-starts;
       fast-start-kept = FastBus.start-kept;
       fast-rules-kept = FastBus.rules-kept;
       fast-every-run-runs = FastBus.every-run-runs;

@@ -225,6 +225,7 @@ fast-laws =
       splitter-cuts = Fast.splitter-cuts;
       statistics-joined = FastExample.statistics-joined;
       statistics-split = FastExample.statistics-split;
+      every-list-starts = FastKeepsPlaces.every-list-starts;
       fast-keeps-places = FastKeepsPlaces.fast-keeps-places;
       fast-pauses-add = FastKeepsPlaces.fast-pauses-add;
       joined-by-rules = FastJoined.joined-by-rules;

@@ -208,6 +208,7 @@ pub record FastLaws : Type 1 where
   pub splitter-cuts : Fast.SplitterCuts
   pub statistics-joined : FastExample.StatisticsJoined
   pub statistics-split : FastExample.StatisticsSplit
+  pub every-list-starts : FastCalls.EveryListStarts
   pub fast-keeps-places : FastCalls.FastKeepsPlaces
   pub fast-pauses-add : FastCalls.FastPausesAdd
   pub joined-by-rules : FastSending.JoinedByRules

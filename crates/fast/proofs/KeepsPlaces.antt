@@ -36,7 +36,7 @@ use Rattle.fast.specs.OnePair.{Open, Part, Tells, begunBy, joined, expec
 use Rattle.fast.specs.Receiver as Eight
 use Rattle.fast.specs.Receiver.{room, freePlace, isFree, openMessage, layout, isOpenBy, namesOf, isZero, placeKeepsRules, keepsRules, Outcome, After, leaves, holding, placing, placeFor, newPlace, firstKept, entersAt, keptAt, expecting, advanced, frameAt, byMeaning, heard, idled, pausedState, pausedAnswer}
 use Rattle.fast.specs.Promises.{toldAnswer, naming, partOf, messageIn}
-use Rattle.fast.specs.Calls.{Held, Starts, Keeps, tells, Hears, Pauses, openIn, FastKeepsPlaces, FastPausesAdd}
+use Rattle.fast.specs.Calls.{Held, Starts, Keeps, tells, Hears, Pauses, openIn, EveryListStarts, FastKeepsPlaces, FastPausesAdd}
 use Rattle.fast.specs.declared.Place.{Place}
 use Rattle.fast.specs.declared.Receiver.{Receiver}
 use Rattle.fast.specs.declared.Answer.{Answer}
@@ -765,6 +765,10 @@ module _ (names : List ℕ) (s : Held) (h : Starts names s) where
   starts-free =
       ap (λ (r : Receiver). view layout (r .places) (s .storage)) starts-naming
       ∙ blank-view layout placeCount (s .storage)
+
+pub every-list-starts : EveryListStarts
+every-list-starts names storage e h =
+    (naming names, record { start = record { answer = rw e; state = rw e }; enough = h })
 
 -- The calls of the receiver keep to the places of fast packets.
 pub fast-keeps-places : FastKeepsPlaces

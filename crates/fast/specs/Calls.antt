@@ -12,6 +12,7 @@ use Rattle.places.specs.Places.{Place as Seat, Out, full, said, placeCount}
 use Rattle.places.specs.Layout.{view}
 use Rattle.places.specs.Calls.{Calls, KeepsPlaces}
 use Rattle.places.specs.Statements.{Pausing as Adding}
+use Rattle.fast.specs.Names.{isWellFormed}
 use Rattle.fast.specs.OnePair.{Open, Tells, nothingToDo, opened, stored, finished, fastPackets}
 use Rattle.fast.specs.Receiver as Receiver
 use Rattle.fast.specs.Receiver.{Outcome, room, layout, namesOf, keepsRules}
@@ -71,6 +72,13 @@ openIn s = view layout (s .receiver .places) (s .storage)
 abbrev pub fastCalls : (names : List ℕ) → Calls (fastPackets names)
 fastCalls names =
     record { State = Held; Starts = Starts names; Kept = Keeps names; Hears = Hears; Pauses = Pauses; seen = openIn }
+
+-- Every list of DGNs that a start takes has such a start, over any storage that is enough: what is said of runs is not
+-- said of nothing.
+abbrev pub EveryListStarts : Type 0
+EveryListStarts =
+    (names storage : List ℕ) → isWellFormed names ≡ true → room ≤ length storage
+    → (r : Receivers.Receiver) × Starts names (record { receiver = r; storage = storage })
 
 -- The calls keep to the places of fast packets, whatever DGNs are named, and the pauses of fast packets add up. With
 -- these the crate `demands` has every statement of crates/places/specs/Calls.antt.

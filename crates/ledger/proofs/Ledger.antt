@@ -80,6 +80,7 @@ fields-of-three =
       fast-no-place-free = demand-three .fast-no-place-free;
       fast-pause-count = demand-three .fast-pause-count;
       fast-sums-of-pauses = demand-three .fast-sums-of-pauses;
+      fast-every-list-starts = demand-three .fast-every-list-starts;
       fast-start-kept = demand-three .fast-start-kept;
       fast-rules-kept = demand-three .fast-rules-kept;
       fast-every-run-runs = demand-three .fast-every-run-runs;

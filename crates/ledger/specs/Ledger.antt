@@ -6,6 +6,7 @@ use mathlib.Core.List.{[], _∷_}
 use Rattle.frame.specs.Laws as Frame
 use Rattle.message.specs.Laws as Message
 use Rattle.fast.specs.Laws as Fast
+use Rattle.fast.specs.Calls as FastCalls
 use Rattle.fast.specs.Sending as FastSending
 use Rattle.catalogue.specs.Laws as Catalogue
 use Rattle.claim.specs.Laws as Claim
@@ -87,6 +88,7 @@ pub record FieldsOfThree : Type 0 where
   pub fast-no-place-free : FastBus.NoPlaceFree
   pub fast-pause-count : FastBus.PauseCount
   pub fast-sums-of-pauses : FastBus.SumsOfPauses
+  pub fast-every-list-starts : FastCalls.EveryListStarts
   pub fast-start-kept : FastBus.StartKept
   pub fast-rules-kept : FastBus.RulesKept
   pub fast-every-run-runs : FastBus.EveryRunRuns
