@@ -1,4 +1,5 @@
--- The laws of this program, each a named statement. proofs/Laws.antt has a proof of each, under the same name written small.
+-- The laws of this program (RULES 11.8 to 11.18), each a named statement. proofs/Laws.antt has a proof of each, under
+-- the same name written small.
 use mathlib.Core.Path.{_≡_}
 use mathlib.Core.List.{List, [], _∷_, _++_}
 use Prim.Native.Nat.{ℕ, _-_, _^_, _≤_, _<_}
@@ -20,8 +21,9 @@ DecimalBack = (n : ℕ) → n < 2 ^ 32 → numberRead 10 (decimal n) ≡ gives n
 abbrev pub NoLeadingZeros : Type 0
 NoLeadingZeros = (n : ℕ) → n < 2 ^ 32 → 1 < decimalWidth n → 10 ^ (decimalWidth n - 1) ≤ n
 
--- What the program prints after its first line, told by nothing but what its runs and its end promise: from a cutter, what is kept, the place of the
--- reading and the blocks to come, the text. Each run goes on where the one before it stopped, and the next block is taken up at its start.
+-- What the program prints after its first line, told by nothing but what its runs and its end promise: from a cutter,
+-- what is kept, the place of the reading and the blocks to come, the text. Each run goes on where the one before it
+-- stopped, and the next block is taken up at its start.
 pub data Prints : Cutter → Kept → Place → List (List ℕ) → List ℕ → Type 0 where
   a-run : {c c′ : Cutter} {k k′ : Kept} {block words rest : List ℕ} {at at′ : ℕ} {blocks : List (List ℕ)}
       → Ran block at c k words at′ c′ k′ On → Prints c′ k′ (inside block at′) blocks rest

@@ -1,3 +1,4 @@
+-- RULES 11.8 to 11.20, the report of a capture.
 pub mod Text
 pub mod Report
 pub mod Step

@@ -1,4 +1,5 @@
--- The lines of a block taken one after the other, and the end of the capture: what the reader promises.
+-- The lines of a block taken one after the other, and the end of the capture: what the reader promises (RULES 11.8 to
+-- 11.18).
 use mathlib.Core.Path.{_≡_}
 use mathlib.Core.List.{List, [], _++_}
 use Prim.Native.Nat.{ℕ, _≤_, _<_}
@@ -37,7 +38,8 @@ pub record Ready (reader : Reader) : Type 0 where
   pub lines : reader .cutter .lines ≡ reader .counts .frames
   pub counting : Counting (reader .counts)
 
--- From a position in a block, a cutter and what is kept: the text of the lines that a run takes, where it leaves all three, and whether it goes on.
+-- From a position in a block, a cutter and what is kept: the text of the lines that a run takes, where it leaves all
+-- three, and whether it goes on.
 pub data Ran (block : List ℕ) (at : ℕ) (c : Cutter) (k : Kept) : List ℕ → ℕ → Cutter → Kept → Going → Type 0 where
   begun : Ran block at c k [] at c k On
   a-line : {words : List ℕ} {at′ : ℕ} {c′ : Cutter} {k′ : Kept} (r : Cut) (piece : Piece)

@@ -1,5 +1,5 @@
--- The report that busread prints of a capture (document 01, "The capture reader"): a first line, what each line of the capture prints, and a closing
--- line. Everything is text, as the list of its bytes.
+-- The report that busread prints of a capture (RULES 11.8 to 11.18): a first line, what each line of the capture
+-- prints, and a closing line. Everything is text, as the list of its bytes.
 use mathlib.Core.List.{List, [], _∷_, _++_}
 use Prim.Native.Nat.{ℕ, _+_}
 use Prim.Native.String.{String}
@@ -75,8 +75,8 @@ closingText counts =
     keyed "frames=" (decimal (counts .frames)) ++ keyed " refused=" (decimal (counts .refused)) ++
     keyed " messages=" (decimal (counts .messages)) ++ newline
 
--- What an answer of the receiver prints: the number of a refusal, the message that was finished, the fields of a frame that is none of a long
--- message, or nothing.
+-- What an answer of the receiver prints: the number of a refusal, the message that was finished, the fields of a frame
+-- that is none of a long message, or nothing.
 abbrev pub printOf : Told Outcome → Print
 printOf (refused n) = Refused n
 printOf (gives nothingToDo) = Fields

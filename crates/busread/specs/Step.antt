@@ -1,4 +1,4 @@
--- One line of a capture taken: what a step promises.
+-- One line of a capture taken: what a step promises (RULES 11.9 to 11.16).
 use mathlib.Core.Path.{_≡_}
 use mathlib.Core.List.{List}
 use Prim.Native.Nat.{ℕ, _+_, _≤_}

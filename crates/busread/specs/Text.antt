@@ -1,4 +1,5 @@
--- Text as busread writes it: the ASCII codes of a word, numbers in decimal without leading zeros, and text put into lent bytes.
+-- Text as busread writes it (RULES 11.17): the ASCII codes of a word, numbers in decimal without leading zeros, and
+-- text put into lent bytes.
 use mathlib.Core.Path.{_≡_}
 use mathlib.Core.List.{List, [], _∷_, _++_}
 use Prim.Native.Nat.{ℕ, _+_, _≤_}
@@ -30,7 +31,8 @@ decimalWidth n =
 unfoldable pub decimal : ℕ → List ℕ
 decimal n = digits 10 (decimalWidth n) n
 
--- a text put at a place of lent bytes: what stood before that place stays, the text stands behind it, and `end` is the place behind the text
+-- a text put at a place of lent bytes: what stood before that place stays, the text stands behind it, and `end` is the
+-- place behind the text
 pub record Wrote (before : List ℕ) (at : ℕ) (words : List ℕ) (after : List ℕ) (end : ℕ) : Type 0 where
   pub next : end ≡ at + length words
   pub written : take end after ≡ take at before ++ words

@@ -1,4 +1,5 @@
-// Reads a capture of the bus from standard input and prints its report to standard output, in blocks and with constant memory.
+// Reads a capture of the bus from standard input and prints its report to standard output, in blocks and with constant
+// memory (RULES 11.8 to 11.20).
 ghost use mathlib.Core.Path.{_≡_};
 ghost use Prim.Native.Nat.{_≤_};
 ghost use lib.ListN.{length};

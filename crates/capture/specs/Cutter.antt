@@ -1,4 +1,5 @@
--- The cutter, which cuts a stream into lines block by block: what it keeps of a line whose end has not come, and what it answers.
+-- The cutter, which cuts a stream into lines block by block (RULES 11.7): what it keeps of a line whose end has not
+-- come, and what it answers.
 use mathlib.Core.Bool.{Bool}
 use mathlib.Core.List.{List}
 use Prim.Native.Nat.{ℕ, _+_, _-_}
@@ -46,7 +47,8 @@ lineAt size from to =
 abbrev pub hasNewline : List ℕ → Bool
 hasNewline rest = length (lineIn rest) <? length rest
 
--- What `next` answers of the rest of a block that begins at position `at`, how it leaves the cutter, and where it goes on.
+-- What `next` answers of the rest of a block that begins at position `at`, how it leaves the cutter, and where it goes
+-- on.
 
 unfoldable pub cuttingOf : Cutter → ℕ → List ℕ → Cutting
 cuttingOf c at rest =

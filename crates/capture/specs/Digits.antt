@@ -1,5 +1,5 @@
--- Numbers as digits, the most significant first, in bases up to sixteen (document 01, "The capture reader": decimal, and hex in capitals).
--- A text is the list of its bytes' ASCII codes.
+-- Numbers as digits, the most significant first, in bases up to sixteen (RULES 11.1 and 11.2: decimal, and hexadecimal
+-- in capitals). A text is the list of its bytes' ASCII codes.
 use mathlib.Core.Bool.{Bool, true}
 use mathlib.Core.List.{List, [], _∷_, _++_}
 use Prim.Native.Nat.{ℕ, zero, suc, _+_, _*_, _-_, _/_, _%_}

@@ -1,5 +1,5 @@
--- A stream fed to the cutter block by block, told by nothing but the promises of its calls: each call is handed the cutter and the position that the one
--- before it gave back, and the next block is taken up at its start.
+-- A stream fed to the cutter block by block (RULES 11.7), told by nothing but the promises of its calls: each call is
+-- handed the cutter and the position that the one before it gave back, and the next block is taken up at its start.
 use mathlib.Core.Path.{_≡_}
 use mathlib.Core.List.{List, [], _∷_, _++_}
 use Prim.Native.Nat.{ℕ, _-_}

@@ -1,4 +1,5 @@
--- The laws of this crate, each a named statement. proofs/Laws.antt and proofs/Feeding.antt have a proof of each, under the same name written small.
+-- The laws of this crate (RULES 11.1 to 11.7), each a named statement. proofs/Laws.antt and proofs/Feeding.antt have a
+-- proof of each, under the same name written small.
 use mathlib.Core.Path.{_≡_}
 use mathlib.Core.List.{List, [], _∷_, _++_}
 use mathlib.Core.Logic.{_↔_}
@@ -22,7 +23,7 @@ use Rattle.capture.specs.declared.Cutting.the-variants as Cutting
 use Rattle.capture.specs.declared.Ending.{Ending}
 use Rattle.capture.specs.declared.Ending.the-variants as Ending
 
--- An answer read in document 01's terms loses nothing.
+-- An answer read as number and values loses nothing (RULES 2.10).
 abbrev pub ToldReadingSame : Type 0
 ToldReadingSame = (f : Frame) (r s : Reading) → toldReading r f ≡ toldReading s f → r ≡ s
 
@@ -46,7 +47,7 @@ LastOnly = (c : Cutter) (r s : Ending) → Last c r → Last c s → r ≡ s
 abbrev pub ReadingRefusalOnly : Type 0
 ReadingRefusalOnly = (answer : Reading) (r s : ℕ) → ReadingRefusal answer r → ReadingRefusal answer s → r ≡ s
 
--- A refusal returns its number and nothing else: zeros stand beside it.
+-- A refusal gives nothing (RULES 2.4 and 2.6): zeros stand beside it.
 abbrev pub MalformedKeeps : Type 0
 MalformedKeeps = (line : List ℕ) (r : Line) → TakeApart line r → r .answer ≡ Reading.Malformed → frameIn r ≡ noFrame
 
@@ -64,7 +65,8 @@ DigitsBack =
 abbrev pub NoLeadingZeros : Type 0
 NoLeadingZeros = (gap : ℕ) → gap ≤ greatestGap → (gap < 10 ^ gapWidth gap) × (1 < gapWidth gap → 10 ^ (gapWidth gap - 1) ≤ gap)
 
--- A line is read as a frame exactly when it is the one spelling of that frame, and is refused with 19 exactly when it is that of none.
+-- A line is read as a frame exactly when it is the one spelling of that frame, and is refused with 19 exactly when it
+-- is that of none.
 
 abbrev pub SoundExactly : Type 0
 SoundExactly = (line : List ℕ) (f : Frame) → (lineRead line ≡ gives f) ↔ IsLineOf f line
@@ -108,7 +110,7 @@ TakenApartWritten =
     (line : List ℕ) (r : Line) (t : Text) → TakeApart line r → r .answer ≡ Reading.Sound → Write (r .gap) (r .id) (r .bytes) t
     → textOf t ≡ line
 
--- Zero bytes are zero lines, and a final newline is optional: it starts no line.
+-- Zero bytes are zero lines; the last line may lack its newline, which starts no line (RULES 11.6).
 
 abbrev pub NoBytesNoLines : Type 0
 NoBytesNoLines = linesOf [] ≡ []

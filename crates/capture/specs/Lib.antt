@@ -1,3 +1,4 @@
+-- RULES 11.1 to 11.7, the lines of a capture.
 pub mod Digits
 pub mod Line
 pub mod Stream

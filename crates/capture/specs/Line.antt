@@ -1,6 +1,7 @@
--- A line of a capture (document 01, "The capture reader"): `gap=50 id=1CEBFF54 data=0141434D452A5831`, the keys in this order, the gap decimal
--- without leading zeros and at most 65,535, the identifier 8 hex digits and the data 16, in capitals. How a frame is written is the definition; every
--- other line is malformed (19). An identifier of 2^29 or more is well spelled: it meets refusal 3, not 19.
+-- A line of a capture (RULES 11.1 to 11.5): `gap=50 id=1CEBFF54 data=0141434D452A5831`, the keys in this order, the gap
+-- decimal without leading zeros and at most 65,535, the identifier 8 hex digits and the data 16, in capitals. How a
+-- frame is written is the definition; every other line is malformed (19). An identifier of 2^29 or more is well
+-- spelled: it meets refusal 3, not 19.
 use mathlib.Core.Path.{_≡_}
 use mathlib.Core.Bool.{Bool, true, false, not}
 use mathlib.Core.List.{List, [], _∷_, _++_}
@@ -70,7 +71,8 @@ pub record IsLineOf (f : Frame) (line : List ℕ) : Type 0 where
   pub frame : IsFrame f
   pub spelling : line ≡ lineOf f
 
--- A line read. The keys, identifier and data have 38 bytes, so the rest of its length is the gap's; a line has 39 to 43 bytes.
+-- A line read. The keys, identifier and data have 38 bytes, so the rest of its length is the gap's; a line has 39 to 43
+-- bytes.
 
 abbrev pub aroundGap : ℕ
 aroundGap = 38

@@ -1,4 +1,4 @@
--- What the private functions of this crate promise, where it is no definition of the others.
+-- What the private functions of this crate promise, where it is no definition of the others (for RULES 11.7).
 use mathlib.Core.List.{List}
 use Prim.Native.Nat.{ℕ}
 use lib.ListN.{replicate}

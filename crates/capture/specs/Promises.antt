@@ -1,4 +1,5 @@
--- What each public call of this crate promises: one proposition over all that it answers. The answers are read in document 01's terms.
+-- What each public call of this crate promises (RULES 11.7 and 13.7): one proposition over all that it answers. The
+-- answers are read as numbers and values (RULES 2.10).
 use mathlib.Core.Path.{_≡_}
 use mathlib.Core.List.{List, _++_}
 use Prim.Native.Nat.{ℕ, _-_}
@@ -15,7 +16,7 @@ use Rattle.capture.specs.declared.Cutter.{Cutter}
 use Rattle.capture.specs.declared.Cut.{Cut}
 use Rattle.capture.specs.declared.Ending.{Ending}
 
--- take_apart: the answer in document 01's terms, and what stands beside it
+-- take_apart: the answer as number and values, and what stands beside it
 
 abbrev pub frameIn : Line → Frame
 frameIn r = record { gap = r .gap; id = r .id; bytes = r .bytes }

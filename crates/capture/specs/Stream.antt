@@ -1,5 +1,6 @@
--- A stream of bytes as lines (document 01, "The capture reader"): a newline ends a line, and so does the end of the stream where a line has begun; a
--- line is at most 80 bytes before its newline; at most 1,000,000 lines are read.
+-- A stream of bytes as lines (RULES 11.4, 11.6 and 11.8): a newline ends a line, and so does the end of the stream
+-- where a line has begun; a line may have 80 bytes, its newline not counted; lines after the first 1,000,000 are not
+-- read.
 use mathlib.Core.List.{List, [], _∷_, _++_, map}
 use Prim.Native.Nat.{ℕ}
 use lib.ListN.{length, take}

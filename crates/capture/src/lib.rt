@@ -1,4 +1,5 @@
-// Captures of the bus as text, one frame a line: a line taken apart, the one line of a frame written, and a stream cut into lines.
+// Captures of the bus as text, one frame a line (RULES 11.1 to 11.7): a line taken apart, the one line of a frame
+// written, and a stream cut into lines.
 mod blocks;
 mod spelling;
 mod writing;

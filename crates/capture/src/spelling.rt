@@ -117,8 +117,8 @@ pub fn eight_bytes(part: &[u8]) -> Eight
     Eight { sound: true, bytes }
 }
 
-// The digit that a byte spells; 16 where it is none. Without a branch on the digit: a letter's code lies 64 up, and its low four bits 9 below its
-// value. The value is right where its own code is the byte.
+// The digit that a byte spells; 16 where it is none. Without a branch on the digit: a letter's code lies 64 up, and its
+// low four bits 9 below its value. The value is right where its own code is the byte.
 fn value_of(code: u8) -> u32
     ensures { λ r. ⌜ r ≡ valueOf code ⌝ }
 {

@@ -1,5 +1,5 @@
--- A row's field in a frame, read, read as a scaled value, and written (document 01, "Field catalogue"; refusals 3 to 6,
--- then 11, then 12).
+-- A row's field in a frame, read, read as a scaled value, and written (RULES 7.7 to 7.12): refusals 3 to 6, then 11,
+-- then 12.
 use mathlib.Core.Bool.{not}
 use mathlib.Core.List.{List}
 use Prim.Native.Nat.{ℕ}

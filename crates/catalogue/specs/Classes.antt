@@ -1,6 +1,6 @@
--- Classes of codes (document 01, "Classes"; 000, Table 3.2.3b): at widths 8, 16 and 32 the greatest code is no-data,
--- one less out-of-range, two less reserved. At other widths from 2 up, all ones is no-data. All else is a number, and
--- so is all in a plain row.
+-- Classes of codes (RULES 7.1 to 7.4; 000, Table 3.2.3b). They are counted down from the greatest code: no-data,
+-- out-of-range and reserved at widths 8, 16 and 32, no-data alone at any other width above 1. In a plain row every code
+-- is a number.
 use mathlib.Core.Bool.{Bool}
 use Prim.Native.Nat.{ℕ, _-_, _^_}
 use Rattle.frame.specs.Words.{if_then_else_, _<?_, _=?_, _or_}

@@ -1,4 +1,4 @@
--- The code that is written for a value (document 01, "Writing takes a scaled value or a class", and refusal 12).
+-- The code that is written for a value, and refusal 12 where it has none (RULES 7.9 and 7.10).
 use mathlib.Core.Bool.{not}
 use Prim.Native.Nat.{ℕ, _+_, _-_, _/_, _%_, _^_}
 use lib.IntN.{ℤ}

@@ -1,5 +1,5 @@
--- A field of a frame whose eight bytes are one number, low byte first: bit 8b+k is bit k of byte b (document 01, "Field
--- catalogue"; 000, 3.2.3).
+-- A field of a frame whose eight bytes are one number, low byte first, so that bit 8b + k of the number is bit k of
+-- byte b (RULES 6.3; 000, 3.2.3).
 use Prim.Native.Nat.{ℕ, _+_, _*_, _-_, _/_, _%_, _^_, _≤_}
 
 -- the code in the field

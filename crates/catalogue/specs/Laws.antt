@@ -1,5 +1,5 @@
--- The laws of this crate, each a named statement. proofs/Laws.antt has a proof of each, under the same name written
--- small.
+-- The laws of this crate (RULES 6 and 7), each a named statement. proofs/Laws.antt has a proof of each, under the same
+-- name written small.
 use mathlib.Core.Path.{_≡_}
 use mathlib.Core.Bool.{true, false}
 use mathlib.Core.List.{List}
@@ -31,7 +31,7 @@ use Rattle.catalogue.specs.declared.Reading.{Reading}
 use Rattle.catalogue.specs.declared.ScaledReading.{ScaledReading}
 use Rattle.catalogue.specs.declared.Writing.{Writing}
 
--- An answer read in document 01's terms loses nothing.
+-- An answer read as number and values loses nothing (RULES 2.10).
 
 abbrev pub ToldLookedSame : Type 0
 ToldLookedSame = (r s : Looked) → toldLooked r ≡ toldLooked s → r ≡ s
@@ -161,9 +161,9 @@ LiesInFrame = (row : Row) → (liesInFrame row ≡ true) ↔ InFrame (row .first
 abbrev pub OutsideRefused : Type 0
 OutsideRefused = (row : Row) (dgn : ℕ) → (InFrame (row .first) (row .width) → ⊥) → matching row dgn ≡ refused 11
 
--- The rule of a table, in any list of rows that keeps it: rows rise strictly by DGN and then first bit, each ends at or
--- before bit 63, two rows of one DGN share no bit, the span of a DGN has its rows and no others, and a row is found by
--- its DGN and first bit.
+-- The rule of a table (RULES 6.4), in any list of rows that keeps it: by DGN and then by first bit each row comes after
+-- the one before; none goes past bit 63; rows of one DGN have no bit in common; the span of a DGN has its rows and no
+-- others; and a row is found by its DGN and first bit.
 
 abbrev pub HasBit : Row → ℕ → Type 0
 HasBit row b = (row .first ≤ b) × (b < row .first + row .width)
@@ -381,7 +381,7 @@ EightBytes =
     (n id : ℕ) (bytes new : List ℕ) (value : Value) → writtenOf n id bytes value ≡ gives new
     → (length new ≡ frameBytes) × AreBytes new
 
--- Document 01's examples (8), (9), (10).
+-- Examples 8, 9 and 10 of RULES 13.11.
 
 abbrev pub ExampleEight : Type 0
 ExampleEight = (classAt 8 252 ≡ Number) × (classAt 8 253 ≡ Reserved)

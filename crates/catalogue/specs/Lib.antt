@@ -1,3 +1,4 @@
+-- RULES 6 and 7, the catalogue and its fields.
 pub mod Rows
 pub mod Field
 pub mod Table

@@ -1,5 +1,5 @@
--- A table of packed rows. A row is one number, in hexadecimal digits DGN (5), first bit (2), width (2), unit (1), plain
--- mark (1).
+-- A table of packed rows (RULES 6.5 and 6.14). A row is one number, in hexadecimal digits DGN (5), first bit (2), width
+-- (2), unit (1), plain mark (1).
 use mathlib.Core.Bool.{not}
 use mathlib.Core.List.{List, map}
 use Prim.Native.Nat.{ℕ, zero, suc, _+_, _*_, _-_, _/_, _%_}

@@ -1,5 +1,5 @@
--- The rows of the catalogue: DGN, first bit, width, unit, and whether the row is plain (document 01, "Field catalogue"; 000, sections 6.9, 6.14, 6.16,
--- 6.17, 6.20, 6.28, 6.29). Behind each row: the field, and its line in 000. (Made by tools/catalogue from docs/catalogue.tsv.)
+-- The rows of the catalogue (RULES 6.1 and 6.2): DGN, first bit, width, unit, and whether the row is plain. Behind each
+-- row: the field, and its line in 000. (Made by tools/catalogue from docs/catalogue.tsv.)
 use mathlib.Core.Bool.{Bool, true, false}
 use mathlib.Core.List.{List, [], _∷_}
 use Prim.Native.Nat.{ℕ}

@@ -1,5 +1,5 @@
--- Scaled values (document 01, "Scaled values"; 000, 5.3): signed whole numbers of a step. Percent in halves, °C in
--- 1/32, volts and amperes in 1/20, hertz in 1/128; other rows give the code.
+-- Scaled values (RULES 7.5 and 7.6; 000, 5.3): signed whole numbers of a step. Percent in halves, °C in 1/32, volts and
+-- amperes in 1/20, hertz in 1/128; other rows give the code.
 use Prim.Native.Nat.{ℕ}
 use lib.IntN.{ℤ, pos, negsuc, _-ℤ_, _*ℤ_}
 use Rattle.frame.specs.Words.{if_then_else_, _=?_}

@@ -1,5 +1,5 @@
--- Rows by their number, by their DGN, and by DGN and first bit, in any list of rows (document 01, "Field catalogue" and
--- refusal 11). The catalogue is the list `rows`.
+-- Rows by their number, by their DGN, and by DGN and first bit, in any list of rows (RULES 6.13), and the rule of a
+-- whole table (RULES 6.4). The catalogue is the list `rows`.
 use mathlib.Core.Path.{_≡_}
 use mathlib.Core.Bool.{Bool, true}
 use mathlib.Core.List.{List, [], _∷_}

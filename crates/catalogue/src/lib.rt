@@ -1,4 +1,5 @@
-// The field catalogue of RV-C: its rows, a field's class and code, its scaled value, and a field written.
+// The field catalogue of RV-C (RULES 6 and 7): its rows, a field's class and code, its scaled value, and a field
+// written.
 ghost use mathlib.Core.Path.{_≡_};
 ghost use Rattle.catalogue.specs.Table.{rowAt};
 ghost use Rattle.catalogue.specs.Catalogue.{matching};
@@ -22,7 +23,7 @@ pub enum Unit {
     Hertz,
 }
 
-// A field of a DGN. Bit 8b+k is bit k of byte b; a plain row is always a number.
+// A field of a DGN (RULES 6.1): its bits are counted over the bytes, 8 to each; a plain row is always a number.
 pub struct Row {
     pub dgn: u32,
     pub first: u8,
@@ -56,7 +57,7 @@ pub struct Field {
     pub code: u64,
 }
 
-// A field read, or refusals 3 to 6, or 11: no such row, or the frame's DGN is not the row's.
+// A field read, or refusals 3 to 6, or 11: no such row, or a frame of another DGN.
 pub enum Reading {
     Is(Field),
     BadFrame(frame::BadFrame),

@@ -1,4 +1,5 @@
--- A run of calls, told by nothing but their promises: each call is handed the state that the one before it gave back.
+-- A run of the calls of RULES 8, told by nothing but their promises: each call is handed the state that the one before
+-- it gave back.
 use mathlib.Core.List.{List, [], _∷_, _++_}
 use Prim.Native.Nat.{ℕ}
 use lib.ListN.{length}

@@ -1,5 +1,4 @@
--- The candidate list: the addresses that a node tries to claim, in its order (document 01, "Claiming an address"; 000,
--- 3.3.2).
+-- The candidate list: the addresses that a node tries to claim, in its order (RULES 8.2; 000, 3.3.2).
 use mathlib.Core.Bool.{Bool, true, not}
 use mathlib.Core.List.{List, [], _∷_, _++_}
 use Prim.Native.Nat.{ℕ, _-_}
@@ -22,7 +21,7 @@ unfoldable pub areDistinct : List ℕ → Bool
 areDistinct [] = true
 areDistinct (a ∷ list) = isAbsent a list and areDistinct list
 
--- 1 to 16 distinct addresses, each at most 253; any other list is refused with 16
+-- 1 to 16 addresses, no two alike and none above 253; any other list is refused with 16
 unfoldable pub isWellFormed : List ℕ → Bool
 isWellFormed list = (1 ≤? length list) and (length list ≤? longestList) and areAddresses list and areDistinct list
 

@@ -1,5 +1,5 @@
--- Claiming an address as a machine on what was heard and waited (document 01, "Claiming an address"; J1939-81's contest
--- of NAMEs; 000, 3.3). A state is built in four places only: `begun`, `atNext`, `fallen` and `waited`.
+-- Claiming an address as a machine on what was heard and waited (RULES 8; J1939-81's contest of NAMEs; 000, 3.3). A
+-- state is built in four places only: `begun`, `atNext`, `fallen` and `waited`.
 use mathlib.Core.Bool.{Bool, true, false, not}
 use mathlib.Core.List.{List}
 use Prim.Native.Nat.{ℕ, _+_, min}
@@ -19,8 +19,7 @@ heldAfter = 250
 abbrev pub claimPriority : ℕ
 claimPriority = 6
 
--- a state that breaks its rules is refused with 2: a position outside its list, a wait above 250, or silent with either
--- not 0
+-- a state that breaks its rules is refused with 2 (RULES 8.14)
 unfoldable pub keepsRules : Claim → Bool
 keepsRules c =
     (c .position <? c .candidates) and (c .wait ≤? heldAfter)

@@ -1,4 +1,4 @@
--- The history of a claim: what it heard and waited, and what each of that was to it.
+-- The history of a claim (RULES 8.5 to 8.11): what it heard and waited, and what each of that was to it.
 use mathlib.Core.List.{List, [], _∷_}
 use Prim.Native.Nat.{ℕ, _+_}
 use Rattle.claim.specs.Claim.{Outcome, nothingToDo, ownName, repeated, moved, fellSilent, outcomeOf, after, pause}

@@ -1,5 +1,5 @@
--- The laws of this crate, each a named statement. proofs/Laws.antt and proofs/Machine.antt have a proof of each, under
--- the same name written small.
+-- The laws of this crate (RULES 8), each a named statement. proofs/Laws.antt and proofs/Machine.antt have a proof of
+-- each, under the same name written small.
 use mathlib.Core.Path.{_≡_}
 use mathlib.Core.Bool.{Bool, true, false}
 use mathlib.Core.List.{List}
@@ -27,7 +27,7 @@ use Rattle.claim.specs.declared.Standing.{Standing}
 use Rattle.claim.specs.declared.Sending.{Sending}
 use Rattle.claim.specs.declared.ClaimFrame.{ClaimFrame}
 
--- An answer read in document 01's terms loses nothing.
+-- An answer read as number and values loses nothing (RULES 2.10).
 
 abbrev pub ToldStartingSame : Type 0
 ToldStartingSame = (r s : Starting) → toldStarting r ≡ toldStarting s → r ≡ s
@@ -82,7 +82,7 @@ StandingRefusalOnly = (answer : Standing) (r s : ℕ) → StandingRefusal answer
 abbrev pub SendingRefusalOnly : Type 0
 SendingRefusalOnly = (answer : Sending) (r s : ℕ) → SendingRefusal answer r → SendingRefusal answer s → r ≡ s
 
--- A refusal returns its number and nothing else: the state stays, and no frame stands beside it.
+-- A refusal gives nothing (RULES 2.4 and 2.6): the state stays, and no frame stands beside it.
 
 abbrev pub NoFrame : ℕ → List ℕ → Type 0
 NoFrame id bytes = (id ≡ noFrame .id) × (bytes ≡ noFrame .bytes)
@@ -116,7 +116,7 @@ pub record LowestWins (id : ℕ) (bytes : List ℕ) (c : Claim) : Type 0 where
   pub heard : (p : Parts) → isSound c ≡ true → checkedOf id (length bytes) ≡ gives p
       → heardOf id bytes c ≡ gives (meetsFrame p bytes c)
 
--- Priority is ignored on receipt.
+-- The priority of a frame that is heard makes no difference (RULES 3.3).
 abbrev pub PriorityIgnored : Type 0
 PriorityIgnored =
     (id id′ : ℕ) (bytes : List ℕ) (c : Claim) → id < identifiers → id′ < identifiers → id % 2 ^ 26 ≡ id′ % 2 ^ 26

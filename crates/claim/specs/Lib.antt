@@ -1,3 +1,4 @@
+-- RULES 8, claiming an address.
 pub mod Candidates
 pub mod Claim
 pub mod History

@@ -1,5 +1,4 @@
-// Claiming an address: the candidate list, the contest of NAMEs, the wait until an address is held (document 01,
-// "Claiming an address").
+// Claiming an address (RULES 8): the candidate list, the contest of NAMEs, the wait until an address is held.
 use frame::BadFrame;
 use frame::standard;
 ghost use Rattle.claim.specs.Promises.{Start, Hear, Pause, Stands, OurClaim, KeepsRules, HoldsList, StartingRefusal, HearingRefusal, PausingRefusal, StandingRefusal, SendingRefusal};

@@ -1,4 +1,4 @@
-// The candidate list: 1 to 16 distinct addresses, each at most 253.
+// The candidate list: 1 to 16 addresses, no two alike and none above 253.
 use crate::CANDIDATES;
 use frame::standard;
 ghost use mathlib.Core.Path.{_≡_};

@@ -1,5 +1,5 @@
--- The acknowledgment, and the frames that this crate sends (document 01, "Commands, requests, replies"; 000 and 001,
--- 3.2.4.4; 000, table 7.5).
+-- The acknowledgment, and the frames that this crate sends (RULES 10.21 to 10.26; 000 and 001, 3.2.4.4; 000, table
+-- 7.5).
 use mathlib.Core.Bool.{not}
 use mathlib.Core.List.{List, _∷_}
 use Prim.Native.Nat.{ℕ, _+_}

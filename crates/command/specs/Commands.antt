@@ -1,4 +1,4 @@
--- Commands by instance (document 01, "Commands, requests, replies"; 000, 3.2.4.1 and 3.2.4.5).
+-- Commands by instance (RULES 10.5 to 10.10; 000, 3.2.4.1 and 3.2.4.5).
 use mathlib.Core.Bool.{Bool, false, not}
 use mathlib.Core.List.{List}
 use Prim.Native.Nat.{ℕ}

@@ -1,5 +1,5 @@
--- What is handed in: the claim's state, a frame, the two lists; and the address that we hold (document 01, refusals 2
--- to 6, 16 and 18).
+-- What is handed in: the claim's state, a frame, the two lists (RULES 10.4); and the address that we hold (RULES 10.9
+-- and 10.17).
 use mathlib.Core.Bool.{not}
 use mathlib.Core.List.{List}
 use Prim.Native.Nat.{ℕ}

@@ -1,5 +1,4 @@
--- The hosted list: the devices that a node answers for (document 01, "Commands, requests, replies"; 000, 3.2.4.1 on
--- instances).
+-- The hosted list: the devices that a node answers for (RULES 10.1 to 10.3; 000, 3.2.4.1 on instances).
 use mathlib.Core.Bool.{Bool, true, false, not}
 use mathlib.Core.List.{List, [], _∷_, _++_}
 use Prim.Native.Nat.{ℕ, _-_}

@@ -1,5 +1,5 @@
--- The laws of this crate, each a named statement. proofs/Laws.antt, proofs/PositionLaws.antt and proofs/ReplyLaws.antt
--- have a proof of each, under the same name written small.
+-- The laws of this crate (RULES 10), each a named statement. proofs/Laws.antt, proofs/PositionLaws.antt and
+-- proofs/ReplyLaws.antt have a proof of each, under the same name written small.
 use mathlib.Core.Path.{_≡_}
 use mathlib.Core.Bool.{Bool, true, false}
 use mathlib.Core.List.{List, [], _∷_}
@@ -41,7 +41,7 @@ use Rattle.command.specs.declared.Acknowledging.{Acknowledging}
 use Rattle.command.specs.declared.Acknowledging.the-variants.{Send}
 use Rattle.command.specs.declared.Acknowledged.{Acknowledged}
 
--- An answer read in document 01's terms loses nothing.
+-- An answer read as number and values loses nothing (RULES 2.10).
 
 abbrev pub ToldStartingSame : Type 0
 ToldStartingSame = (r s : Starting) → toldStarting r ≡ toldStarting s → r ≡ s
@@ -105,7 +105,7 @@ AcknowledgingRefusalAny =
     (answer : Acknowledging) (r : ℕ) (frame : Frame) → AcknowledgingRefusal answer r
     → r ≡ numberIn (toldAcknowledging answer frame)
 
--- A refusal returns its number and nothing else: no positions and no frame stand beside it. Host and claim are handed
+-- A refusal gives nothing (RULES 2.4 and 2.6): no positions and no frame stand beside it. Host and claim are handed
 -- in by value, and stay.
 
 abbrev pub StartRefusedKeeps : Type 0
@@ -156,7 +156,7 @@ pub record AcknowledgeLowestWins (c : Claim) (a : Acknowledgment) : Type 0 where
       → addressHeld (standOf c) ≡ refused 18
       → acknowledgedOf c a ≡ refused 18
 
--- Priority is ignored on receipt.
+-- The priority of a frame that is heard makes no difference (RULES 3.3).
 abbrev pub PriorityIgnored : Type 0
 PriorityIgnored =
     (id id′ : ℕ) (bytes : List ℕ) (h : Host) (c : Claim) → id < identifiers → id′ < identifiers
@@ -231,8 +231,8 @@ SlideIgnoresZero =
     → entryAt (hosted h) k .«zero_is_all» ≡ false)
     → r .positions ≡ filled []
 
--- A frame of no hosted command DGN is nothing to do; without a held address every hosted command is 18; with one, a
--- command to another address is nothing to do.
+-- RULES 10.5, 10.9 and 10.10: a frame that is no command of the list is nothing to do; while no address is held each
+-- command of the list is 18; while one is held, a command that is addressed to somebody else is nothing to do.
 
 abbrev pub NotHosted : Type 0
 NotHosted =
@@ -272,7 +272,7 @@ LaterBytesIgnored =
     → take 3 bytes ≡ take 3 bytes′
     → requestedOf id bytes h c ≡ requestedOf id bytes′ h c
 
--- While claiming, the address claimed is ours for EE00h only; silent, only global is ours.
+-- The address that we are claiming is ours for EE00h alone; when silent, none is (RULES 10.15).
 
 abbrev pub ClaimingForClaimOnly : Type 0
 ClaimingForClaimOnly =
@@ -329,7 +329,7 @@ AcknowledgeSendsOurs =
     × (checkedOf (r .id) (length (r .bytes))
     ≡ gives (record { priority = acknowledgmentPriority; dgn = acknowledgmentDgn + a .requester; source = address }))
 
--- Document 01's example (11): holding 9Ch, code 3 to 44h for SLIDE_COMMAND (1FFE7h) instance 2.
+-- Example 11 of RULES 13.11: we hold 9Ch, and answer 44h with code 3 on SLIDE_COMMAND (1FFE7h), instance 2.
 abbrev pub ExampleEleven : Type 0
 ExampleEleven =
     (c : Claim) → isSound c ≡ true → standOf c ≡ held 0x9C

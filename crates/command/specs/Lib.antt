@@ -1,3 +1,4 @@
+-- RULES 10, commands, requests and acknowledgments.
 pub mod Hosted
 pub mod Positions
 pub mod Handed

@@ -1,5 +1,5 @@
--- Positions in the hosted list: which entries pass a test, in rising order (document 01, "A command answers the
--- positions .."). Commands and requests both give them, each by a test of its own.
+-- Positions in the hosted list: which entries pass a test, in rising order (RULES 10.6 and 10.18). Commands and
+-- requests both give them, each by a test of its own.
 use mathlib.Core.Bool.{Bool}
 use mathlib.Core.List.{List, [], _∷_, _++_}
 use Prim.Native.Nat.{ℕ, suc, _-_}

@@ -1,4 +1,4 @@
--- What the private functions of this crate promise, where it is no definition of the others.
+-- What the private functions of this crate promise, where it is no definition of the others (for RULES 10).
 use mathlib.Core.Path.{_≡_}
 use mathlib.Core.Bool.{Bool}
 use mathlib.Core.List.{List, []}

@@ -1,5 +1,5 @@
--- What each public call of this crate promises: one proposition over all that it answers. The answers are read in
--- document 01's terms.
+-- What each public call of this crate promises (RULES 10 and 13.7): one proposition over all that it answers. The
+-- answers are read as numbers and values (RULES 2.10).
 use mathlib.Core.Path.{_≡_}
 use mathlib.Core.List.{List, []}
 use Prim.Native.Nat.{ℕ}

@@ -1,5 +1,4 @@
--- Requests for a DGN (document 01, "Commands, requests, replies"; 000 and 001, 3.2.4.3). Bytes 3 and 4 of a request are
--- not looked at.
+-- Requests for a DGN (RULES 10.11 to 10.20; 000 and 001, 3.2.4.3). Bytes 3 and 4 of a request are not looked at.
 use mathlib.Core.Bool.{Bool, false, not}
 use mathlib.Core.List.{List}
 use Prim.Native.Nat.{ℕ}

@@ -1,4 +1,4 @@
-// Commands by instance, requests for a DGN, and their replies (document 01, "Commands, requests, replies").
+// Commands by instance, requests for a DGN, and their replies (RULES 10).
 use address::Address;
 use claim::Claim;
 use frame::BadFrame;

@@ -1,4 +1,4 @@
--- The third demand: a busy bus reads like a quiet one (document 01, "Eight senders at once"). Each statement is one of
+-- The third demand: a busy bus reads like a quiet one (RULES 13.3 and 13.4). Each statement is one of
 -- crates/places/specs/Calls.antt at the calls of the receiver of long messages (crates/message/specs/Calls.antt): it
 -- speaks of every run of `Receiver::new`, `hear`, `pause` and `message`, with the storage handed on as each call left
 -- it.

@@ -1,5 +1,5 @@
--- The claim and the node table fit together: what a node sends to claim an address, another node's table takes for
--- just that claim (document 01, "Claiming an address" and "Node table").
+-- The claim and the node table fit together (RULES 13.2): what a node sends to claim an address (RULES 8.3), another
+-- node's table takes for just that claim (RULES 9.2).
 use mathlib.Core.Path.{_≡_}
 use mathlib.Core.Bool.{true}
 use mathlib.Core.List.{List}
@@ -18,7 +18,8 @@ use Rattle.nodes.specs.declared.Node.{Node}
 use Rattle.nodes.specs.declared.Heard.{Heard}
 
 -- Whatever frame `claim` says is to be sent (it is the frame of our claim in the state that the call leaves), a table
--- that hears it is told what a claim of our NAME from our address, or from 254, comes to, and is left as that claim leaves it.
+-- that hears it is told what a claim of our NAME from our address, or from 254, comes to, and is left as that claim
+-- leaves it.
 abbrev pub ClaimIsHeard : Type 0
 ClaimIsHeard =
     (c : Claim) (id : ℕ) (bytes : List ℕ) (table after : List Node) (r : Heard)

@@ -1,4 +1,4 @@
--- The three demands on the library, each a statement over the definitions of its parts.
+-- The three demands on the library (RULES 13.1 to 13.5), each a statement over the definitions of its parts.
 use mathlib.Core.List.{List}
 use Prim.Native.Nat.{ℕ}
 use Rattle.frame.specs.Laws as Frame
@@ -19,7 +19,7 @@ use Rattle.demands.specs.FastSplitAndJoin as FastSplitAndJoin
 use Rattle.demands.specs.ClaimsHeard.{ClaimIsHeard}
 
 -- 1. Every public call ends with an answer for every input. No call relies on an earlier check. Each refusal carries
--- document 01's number and changes nothing lent or held, but 10 closes that sender's message.
+-- its number (RULES 2.1) and changes nothing lent or held, but 10 closes that sender's message.
 pub record DemandOne : Type 2 where
   pub calls : EveryCall
   -- zeros, the state that was handed in, and the lent bytes stand beside a refusal
@@ -52,7 +52,7 @@ pub record DemandTwo : Type 0 where
   pub identifier-back : Frame.IdentifierBack
   pub number-back : Frame.NumberBack
   pub bytes-back : Frame.BytesBack
-  -- fields: every row lies in the frame and shares no bit, bit 8b+k is bit k of byte b, and what is written is read
+  -- fields: every row lies in the frame and shares no bit, bits are counted over the bytes, and what is written is read
   -- back and alters nothing else
   pub rising : Catalogue.Rising
   pub ends : Catalogue.Ends
@@ -63,7 +63,8 @@ pub record DemandTwo : Type 0 where
   pub reads-back : Catalogue.ReadsBack
   pub reads-others : Catalogue.ReadsOthers
   pub bits-kept : Catalogue.BitsKept
-  -- long messages: every message and DGN within document 01's limits is split, and is joined again in any run of calls
+  -- long messages: every message and DGN within the limits of RULES 5.15 is split, and is joined again in any run of
+  -- calls
   pub splitter-announces : Message.SplitterAnnounces
   pub splitter-cuts : Message.SplitterCuts
   pub split-and-join : SplitAndJoin

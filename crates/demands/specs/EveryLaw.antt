@@ -1,4 +1,4 @@
--- Every law of the parts, by its name, a record for each crate: one that is lost is missed here.
+-- Every law of the parts (RULES 3 to 12), by its name, a record for each crate: one that is lost is missed here.
 use mathlib.Core.List.{List}
 use Prim.Native.Nat.{ℕ}
 use Rattle.frame.specs.Laws as Frame

@@ -1,4 +1,4 @@
--- The third demand, of fast packets (request #101): it holds with "pair" for "sender", frame 0 for the announcement,
+-- The third demand, of fast packets (RULES 13.5): it holds of pairs as of senders, with frame 0 for the announcement,
 -- and the single-pair rules (crates/fast/specs/OnePair.antt) for the single-sender ones. Each statement is one of
 -- crates/places/specs/Calls.antt at the calls of the receiver of fast packets (crates/fast/specs/Calls.antt), whatever
 -- DGNs are named: it speaks of every run of `Receiver::start` with these DGNs, `hear`, `pause` and `message`, so that

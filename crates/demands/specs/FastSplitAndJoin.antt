@@ -1,5 +1,5 @@
--- The second demand, of fast packets (request #101): what the splitter splits, the receiver joins to the same sender,
--- DGN and bytes, on any bus and in any run of calls. crates/fast/specs/Sending.antt says what a sender does.
+-- The second demand, of fast packets (RULES 13.2): what the splitter splits, the receiver joins to the same sender, DGN
+-- and bytes, on any bus and in any run of calls. crates/fast/specs/Sending.antt says what a sender does.
 use mathlib.Core.Path.{_≡_}
 use mathlib.Core.List.{List, [], _∷_, _++_}
 use Prim.Native.Nat.{ℕ}

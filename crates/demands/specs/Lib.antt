@@ -1,3 +1,4 @@
+-- RULES 13, the three demands.
 pub mod BusyBus
 pub mod SplitAndJoin
 pub mod FastBus

@@ -1,7 +1,7 @@
--- The second demand, of long messages: what the splitter splits, the receiver joins to the same sender, DGN and bytes.
--- For every message of 9 to 1,785 bytes and every DGN up to 1FFFFh; pauses between two consecutive frames of the
--- message sum to at most 750 ms; and other frames of that sender may come in between, but data packets and
--- announcements.
+-- The second demand, of long messages (RULES 13.2): what the splitter splits, the receiver joins to the same sender,
+-- DGN and bytes. For every message of 9 to 1,785 bytes and every DGN up to 1FFFFh; pauses between two consecutive
+-- frames of the message sum to at most 750 ms; and other frames of that sender may come in between, but data packets
+-- and announcements.
 use mathlib.Core.Path.{_≡_}
 use mathlib.Core.Bool.{Bool, true, false}
 use mathlib.Core.List.{List, [], _∷_, _++_}
@@ -56,7 +56,7 @@ pub data Sent (message : List ℕ) (dgn sender : ℕ) : List (Event Frame) → T
       → Sending message dgn sender 1 0 events
       → Sent message dgn sender (frame (sent priority announcementDgn sender (r .bytes)) ∷ events)
 
--- a message, a DGN and a sender within document 01's limits
+-- a message, a DGN and a sender within the limits of RULES 4 and 5
 pub record Sendable (message : List ℕ) (dgn sender : ℕ) : Type 0 where
   pub long : shortest ≤ length message
   pub short : length message ≤ longest

@@ -1,4 +1,4 @@
--- The proved examples: each line computes to what 01 prints.
+-- The worked examples of RULES 13.11: each line computes to its result.
 -- Assumes nothing.
 use mathlib.Core.Path.{_≡_, refl, ap, ap₂, _∙_}
 use mathlib.Core.Bool.{true}

@@ -1,5 +1,6 @@
--- Document 01's proved examples: one table, one statement. A line has the example's number, what the promise's own
--- definition gives, and what 01 prints, both as numbers: a refusal is its number alone, what is given begins with 0.
+-- The worked examples of RULES 13.11: one table, one statement. A line has the example's number, what the promise's own
+-- definition gives, and what the example's result is, both as numbers: a refusal is its number alone, what is given
+-- begins with 0.
 use mathlib.Core.Path.{_≡_}
 use mathlib.Core.Bool.{false}
 use mathlib.Core.List.{List, [], _∷_, _++_}
@@ -92,7 +93,7 @@ storageOfZeros = replicate room 0
 abbrev pub toldOf : ℕ → List (Event Frame) → List (Out (Told Tells))
 toldOf sender events = toldFrom sender (replicate placeCount freePlace) storageOfZeros events
 
--- the long message of 01
+-- the long message of samples/example.capture
 
 -- eight places, the first open by 54h
 abbrev pub oneOpen : List Place
@@ -126,7 +127,7 @@ eightSenders =
 abbrev pub holding9C : Claim
 holding9C = record { name = 1; list = 0x9C ∷ replicate 15 0; candidates = 1; position = 0; wait = 250; silent = false }
 
--- code 3 to 44h for SLIDE_COMMAND instance 2
+-- its answer to 44h about a slide, SLIDE_COMMAND of instance 2, with code 3
 abbrev pub slideReply : Acknowledgment
 slideReply = record { code = 3; instance = 2; requester = 0x44; dgn = 0x1FFE7 }
 
@@ -205,7 +206,7 @@ zeroAmperes = line 9 (signed (scaledOf Ampere 16 32000)) (0 ∷ 0 ∷ [])
 abbrev pub lowestCelsius : Line
 lowestCelsius = line 10 (signed (scaledOf Celsius 8 0)) (1 ∷ 1280 ∷ [])
 
--- (11) holding 9Ch, code 3 to 44h for SLIDE_COMMAND instance 2
+-- (11) the acknowledgment of RULES 10.25
 abbrev pub slideAcknowledged : Line
 slideAcknowledged =
     line 11 (sent (acknowledgedOf holding9C slideReply))

@@ -1,1 +1,2 @@
+-- RULES 13.11, the worked examples.
 pub mod Examples

@@ -1,1 +1,1 @@
-// The proved examples of document 01: one table, one statement. There is no code here.
+// The worked examples of RULES 13.11: one table, one statement. There is no code here.

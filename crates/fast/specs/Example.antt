@@ -1,5 +1,5 @@
--- The worked example of 003, 3.3.1: a battery's statistics, 44 bytes of DGN 1F001h from source 0Eh, come in seven
--- frames of sequence 4. The frames are joined, and split again, as they are printed there.
+-- The worked example of 003, 3.3.1 (RULES 12.23): a battery's statistics, 44 bytes of DGN 1F001h from source 0Eh, come
+-- in seven frames of sequence 4. The frames are joined, and split again, as they are printed there.
 use mathlib.Core.Path.{_≡_}
 use mathlib.Core.List.{List, [], _∷_, _++_, map}
 use mathlib.Core.Option.{none}

@@ -1,5 +1,5 @@
--- Fast packets on the bus (NMEA 2000's format, as 003 has it in 3.3; request #101): what a frame is, the limits, and
--- the pair of sender and DGN that a message belongs to.
+-- Fast packets on the bus (RULES 12.1 and 12.5 to 12.7; NMEA 2000's format, as 003 has it in 3.3): what a frame is, the
+-- limits, and the pair of sender and DGN that a message belongs to.
 use mathlib.Core.List.{List}
 use Prim.Native.Nat.{ℕ, _+_, _-_, _*_, _/_, min}
 use lib.ListN.{length, getD}

@@ -1,3 +1,4 @@
+-- RULES 12, fast packets.
 pub mod FastPacket
 pub mod Names
 pub mod OnePair

@@ -1,4 +1,4 @@
--- The DGNs that a caller names at the start: those whose messages are carried as fast packets (request #101).
+-- The DGNs that a caller names at the start: those whose messages are carried as fast packets (RULES 12.2 to 12.4).
 use mathlib.Core.Bool.{Bool, true, not}
 use mathlib.Core.List.{List, [], _∷_, _++_}
 use Prim.Native.Nat.{ℕ, _-_}

@@ -1,4 +1,4 @@
--- The single-pair rules (request #101): what frame 0, a later frame and a pause do to the one message that a pair of
+-- The single-pair rules (RULES 12.22): what frame 0, a later frame and a pause do to the one message that a pair of
 -- sender and DGN may have open. No places and no storage: an open message is what has been collected of it.
 use mathlib.Core.List.{List, _++_}
 use mathlib.Core.Option.{Option, some, none}
@@ -90,7 +90,8 @@ asksBy (gives (begins sender dgn sequence size)) bytes =
 asksBy (gives (continues sender dgn sequence number)) bytes =
     feeds (record { sequence = sequence; number = number; seven = drop 1 bytes }) (refused 9)
 
--- Fast packets as a format, for the DGNs that are named: the key is the pair, with refusals 3 to 6 in front.
+-- Fast packets as a format, for the DGNs that are named: the key is the pair, and a frame is checked first,
+-- which is refusals 3 to 6.
 abbrev pub fastPackets : List ℕ → Format
 fastPackets names = record {
   Session = Open;

@@ -1,4 +1,4 @@
--- What the private functions of this crate promise, where it is no definition of the others.
+-- What the private functions of this crate promise, where it is no definition of the others (for RULES 12).
 use mathlib.Core.Path.{_≡_}
 use mathlib.Core.List.{map}
 use Prim.Native.Nat.{ℕ, _≤_, _<_}

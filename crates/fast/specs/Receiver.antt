@@ -1,4 +1,4 @@
--- The receiver: eight places over lent storage of their own, and the DGNs that are named (request #101).
+-- The receiver: eight places over lent storage of their own, and the DGNs that are named (RULES 12.7 to 12.19).
 use mathlib.Core.Path.{refl}
 use mathlib.Core.Bool.{Bool, not}
 use mathlib.Core.List.{List, map}
@@ -107,7 +107,7 @@ holding r places = record { dgns = r .dgns; named = r .named; places = places }
 abbrev pub placing : Receiver → ℕ → Place → Receiver
 placing r i p = holding r (set (r .places) i p)
 
--- Frame 0: a pair with an open message keeps its place, a new one takes the lowest-numbered free place. The frame's
+-- Frame 0: a pair that has a message open stays in its place, any other takes the lowest-numbered free one. The frame's
 -- bytes are kept there; a message of six bytes or fewer is handed over, and the place is free.
 
 abbrev pub orElse : Found → Found → Found

@@ -1,6 +1,6 @@
--- Sending a message as fast packets: the frames that `frame_of` answers, one after the other, told by its promise
--- alone. For every message of 1 to 223 bytes and every sequence number; pauses between two consecutive frames of the
--- message sum to at most 750 ms; and frames of that pair that are refused may come in between.
+-- Sending a message as fast packets (RULES 13.2): the frames that `frame_of` answers, one after the other, told by its
+-- promise alone. For every message of 1 to 223 bytes and every sequence number; pauses between two consecutive frames
+-- of the message sum to at most 750 ms; and frames of that pair that are refused may come in between.
 use mathlib.Core.Path.{_≡_}
 use mathlib.Core.Bool.{Bool, true, false}
 use mathlib.Core.List.{List, [], _∷_, _++_}

@@ -1,4 +1,4 @@
--- The splitter: a message as numbered frames of one sequence (request #101).
+-- The splitter: a message as numbered frames of one sequence (RULES 12.20 and 12.21).
 use mathlib.Core.List.{List, _∷_, _++_}
 use Prim.Native.Nat.{ℕ}
 use lib.ListN.{length, take, drop, replicate}

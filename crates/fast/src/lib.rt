@@ -1,5 +1,5 @@
-// Fast packets (NMEA 2000's format, as AEBus batteries send it): the receiver of eight pairs of sender and DGN over
-// lent storage, and the splitter. It has its places and its storage to itself, beside those of long messages.
+// Fast packets (RULES 12; NMEA 2000's format, as AEBus batteries send it): the receiver of eight pairs of sender and
+// DGN over lent storage, and the splitter. It has its places and its storage to itself, beside those of long messages.
 ghost use Rattle.fast.specs.Promises.{Start, Hear, Pause, Message, FrameOf, StartingRefusal, AnswerRefusal, PausingRefusal, CuttingRefusal};
 
 mod eight_places;
@@ -238,8 +238,8 @@ pub fn message(storage: &[u8], answer: Answer) -> &[u8]
     }
 }
 
-// Any one frame of a message, by its number from 0: 12 for a sequence number above 7, 13 for a message that has not 1
-// to 223 bytes, 15 for a number past its last frame.
+// Any one frame of a message, by its number from 0: 12 where three bits cannot hold the sequence number, 13 for a
+// message that has not 1 to 223 bytes, 15 for a number past its last frame.
 pub fn frame_of(message: &[u8], sequence: u8, number: u32) -> Cut
     ensures { λ r. ⌜ FrameOf (now (message .entry)) sequence number r ⌝ }
 {

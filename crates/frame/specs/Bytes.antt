@@ -1,4 +1,5 @@
--- Bytes as one number, low byte first (000, 3.2.3: data of two or more bytes goes least significant byte first).
+-- Bytes as one number, low byte first (RULES 3.12; 000, 3.2.3: data of two or more bytes goes least significant byte
+-- first).
 use mathlib.Core.List.{List, [], _∷_}
 use Prim.Native.Nat.{ℕ, zero, suc, _+_, _*_, _/_, _%_, _<_}
 use lib.ListN.{getD}

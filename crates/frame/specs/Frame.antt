@@ -1,4 +1,5 @@
--- A frame looked at by itself: what document 01's refusals 3, 4, 5, 6 and 12 say of identifier and data, the lowest number first.
+-- A frame looked at by itself (RULES 3.8 to 3.10): what refusals 3, 4, 5, 6 and 12 say of identifier and data, the
+-- lowest number first.
 use mathlib.Core.Bool.{Bool, true, false, not}
 use Prim.Native.Nat.{ℕ}
 use Rattle.frame.specs.Words.{if_then_else_, _<?_, _≤?_, _=?_, _or_, bits, Told, refused, gives}

@@ -1,5 +1,5 @@
--- The 29-bit identifier of a CAN frame, at J1939-21's bit positions (document 01, "Identifier"). 000's table 3.2b prints the address rows
--- eight bits too high; J1939-21 decides.
+-- The 29-bit identifier of a CAN frame, at J1939-21's bit positions (RULES 3.1, 3.4 and 3.5). 000's table 3.2b prints
+-- the address rows eight bits too high; J1939-21 decides (RULES 1.6).
 use mathlib.Core.Bool.{Bool}
 use Prim.Native.Nat.{ℕ, _+_, _*_, _-_, _^_}
 use Rattle.frame.specs.Words.{if_then_else_, _<?_, bits}
@@ -35,7 +35,7 @@ greatestDgn = 0x1FFFF
 abbrev pub lowestPriority : ℕ
 lowestPriority = 7
 
--- where DGN bits 15 to 8 are below F0h, the low byte is a destination
+-- a DGN is addressed if its bits 15 to 8 are less than F0h; its low byte is then the destination (RULES 3.4)
 unfoldable pub isAddressed : ℕ → Bool
 isAddressed dgn = bits 15 8 dgn <? 0xF0
 

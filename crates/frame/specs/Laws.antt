@@ -1,4 +1,5 @@
--- The laws of this crate, each a named statement. proofs/Laws.antt has a proof of each, under the same name written small.
+-- The laws of this crate (RULES 3), each a named statement. proofs/Laws.antt has a proof of each, under the same name
+-- written small.
 use mathlib.Core.Path.{_≡_}
 use mathlib.Core.Bool.{true, false}
 use mathlib.Core.List.{List}
@@ -19,7 +20,7 @@ use Rattle.frame.specs.declared.Verdict.the-variants.{Bad}
 use Rattle.frame.specs.declared.Checked.{Checked}
 use Rattle.frame.specs.declared.Destination.{Destination}
 
--- An answer read in document 01's terms loses nothing.
+-- An answer read as number and values loses nothing (RULES 2.10).
 
 abbrev pub ToldApartSame : Type 0
 ToldApartSame = (r s : Apart) → toldApart r ≡ toldApart s → r ≡ s
@@ -71,7 +72,7 @@ BadFrameRefusalOnly = (why : BadFrame) (r s : ℕ) → BadFrameRefusal why r →
 abbrev pub VerdictRefusalOnly : Type 0
 VerdictRefusalOnly = (answer : Verdict) (r s : ℕ) → VerdictRefusal answer r → VerdictRefusal answer s → r ≡ s
 
--- A refusal returns its number and nothing else: the bytes beside it are zeros.
+-- A refusal gives nothing (RULES 2.4 and 2.6): the bytes beside it are zeros.
 abbrev pub RefusedKeeps : Type 0
 RefusedKeeps = (id : ℕ) (bytes : List ℕ) (r : Checked) (why : BadFrame) → Check id bytes r → r .verdict ≡ Bad why → r .bytes ≡ replicate frameBytes 0
 
@@ -85,7 +86,8 @@ PartsBack =
 abbrev pub IdentifierBack : Type 0
 IdentifierBack = (id : ℕ) (p : Parts) → apartOf id ≡ gives p → formedOf (p .priority) (p .dgn) (p .source) ≡ gives id
 
--- The lowest number wins: each refusal is given where it applies and no lower one does, and a frame to which none applies is given.
+-- The lowest number wins: each refusal is given where it applies and no lower one does, and a frame to which none
+-- applies is given.
 pub record LowestWins (id size : ℕ) : Type 0 where
   pub three : identifiers ≤ id → checkedOf id size ≡ refused 3
   pub four : id < identifiers → (size ≡ frameBytes → ⊥) → checkedOf id size ≡ refused 4
@@ -93,7 +95,8 @@ pub record LowestWins (id size : ℕ) : Type 0 where
   pub six : id < identifiers → size ≡ frameBytes → reservedOf id ≡ 0 → sourceAllowed (sourceOf id) (dgnOf id) ≡ false → checkedOf id size ≡ refused 6
   pub sound : id < identifiers → size ≡ frameBytes → reservedOf id ≡ 0 → sourceAllowed (sourceOf id) (dgnOf id) ≡ true → checkedOf id size ≡ gives (partsOf id)
 
--- Priority is ignored on receipt: identifiers that differ only above bit 25 meet the same refusal, or have the same DGN and source.
+-- The priority makes no difference (RULES 3.3): identifiers that differ only above bit 25 meet the same refusal, or
+-- have the same DGN and source.
 abbrev pub toldButPriority : Told Parts → Told (ℕ × ℕ)
 toldButPriority (refused n) = refused n
 toldButPriority (gives p) = gives (p .dgn, p .source)
@@ -119,6 +122,6 @@ DgnBack = (dgn : ℕ) → dgn ≤ greatestDgn → numberOf (dgnBytes dgn) ≡ dg
 abbrev pub NoFrameRefused : Type 0
 NoFrameRefused = checkedOf (noFrame .id) (length (noFrame .bytes)) ≡ refused 3
 
--- Document 01's example (1): DM_RV, priority 6, source 54h.
+-- Example 1 of RULES 13.11: DM_RV, priority 6, source 54h.
 abbrev pub ExampleOne : Type 0
 ExampleOne = formedOf 6 0x1FECA 0x54 ≡ gives 0x19FECA54

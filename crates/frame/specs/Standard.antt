@@ -1,5 +1,5 @@
 -- What the standard fixes and every part of the library uses: addresses, the DGNs of its own messages, a frame as it is
--- sent, and a DGN as three bytes of one (000, 3.2 and 3.3; J1939-21; J1939-81; document 01).
+-- sent, and a DGN as three bytes of one (RULES 3.7, 3.12 and 2.6; 000, 3.2 and 3.3; J1939-21; J1939-81).
 use mathlib.Core.List.{List}
 use Prim.Native.Nat.{ℕ}
 use lib.ListN.{take, drop, replicate}

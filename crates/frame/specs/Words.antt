@@ -1,5 +1,5 @@
--- The words that every definition of this library is written in: tests on numbers that read as they stand, and an answer as document 01
--- gives it.
+-- The words that every definition of this library is written in: tests on numbers that read as they stand, and an
+-- answer as RULES 2 has it.
 use mathlib.Core.Bool.{Bool, true, false}
 use Prim.Native.Nat.{ℕ, suc, _+_, _-_, _/_, _%_, _^_}
 use lib.Dec.{ltb, leb, eqb}
@@ -36,7 +36,7 @@ false or b = b
 abbrev pub bits : ℕ → ℕ → ℕ → ℕ
 bits high low n = n / 2 ^ low % 2 ^ (high + 1 - low)
 
--- What a call answers, in document 01's terms: the number of its refusal, or what it gives.
+-- What a call answers: the number of its refusal, or what it gives.
 pub data Told (A : Type 0) : Type 0 where
   refused : ℕ → Told A
   gives : A → Told A

@@ -1,4 +1,5 @@
-// Frames of the RV-C bus: the 29-bit identifier taken apart and formed, a frame checked by itself, and eight bytes as one number.
+// Frames of the RV-C bus (RULES 3): the 29-bit identifier taken apart and formed, a frame checked by itself, and eight
+// bytes as one number.
 ghost use mathlib.Core.Path.{_≡_};
 ghost use Prim.Native.Nat.{_<_, _%_};
 ghost use lib.ListN.{length};

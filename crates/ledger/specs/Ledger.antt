@@ -1,6 +1,6 @@
--- The ledger: every field of the three demands and every line of the table of examples, each named once more from
--- outside the crates that state and prove them. A demand that loses a field, or a table that loses a line, no longer
--- fits it.
+-- The ledger: every field of the three demands (RULES 13.1 to 13.5) and every line of the table of examples (RULES
+-- 13.11), each named once more from outside the crates that state and prove them. A demand that loses a field, or a
+-- table that loses a line, no longer fits it.
 use mathlib.Core.Path.{_≡_}
 use mathlib.Core.List.{[], _∷_}
 use Rattle.frame.specs.Laws as Frame

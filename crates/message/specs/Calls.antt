@@ -1,6 +1,6 @@
--- Runs of calls: a receiver from `Receiver::new`, told by nothing but the promises of its calls. Each `hear` and
--- `pause` is handed the state that the call before it gave back, each `hear` the storage as the one before it left it,
--- and after each `hear` the message is read by `message`.
+-- Runs of calls (RULES 13.6): a receiver from `Receiver::new`, told by nothing but the promises of its calls. Each
+-- `hear` and `pause` is handed the state that the call before it gave back, each `hear` the storage as the one before
+-- it left it, and after each `hear` the message is read by `message`.
 use mathlib.Core.Path.{_≡_}
 use mathlib.Core.Bool.{true}
 use mathlib.Core.List.{List}

@@ -1,6 +1,6 @@
--- The laws of this crate, each a named statement. proofs/Laws.antt has a proof of each, under the same name written
--- small. The larger theorems, that a busy bus reads like a quiet one and that what is split is joined, stand in the
--- crate `demands`.
+-- The laws of this crate (RULES 4 and 5), each a named statement. proofs/Laws.antt has a proof of each, under the same
+-- name written small. The larger theorems, that a busy bus reads like a quiet one and that what is split is joined,
+-- stand in the crate `demands`.
 use mathlib.Core.Path.{_≡_}
 use mathlib.Core.Bool.{true, false}
 use mathlib.Core.List.{List}
@@ -31,7 +31,7 @@ use Rattle.message.specs.declared.Cutting.{Cutting}
 use Rattle.message.specs.declared.Cutting.the-variants as Cutting
 use Rattle.message.specs.declared.Cut.{Cut}
 
--- An answer read in document 01's terms loses nothing.
+-- An answer read as number and values loses nothing (RULES 2.10).
 
 abbrev pub ToldAnswerSame : Type 0
 ToldAnswerSame = (r s : Answer) → toldAnswer r ≡ toldAnswer s → r ≡ s

@@ -1,3 +1,4 @@
+-- RULES 4 and 5, long messages.
 pub mod LongMessage
 pub mod OneSender
 pub mod Receiver

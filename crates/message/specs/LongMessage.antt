@@ -1,5 +1,5 @@
--- Long messages on the bus (J1939-21's broadcast transfer; document 01, "Long messages, one sender"): what an
--- announcement and a data packet are, and the limits.
+-- Long messages on the bus (RULES 4.1 to 4.7 and 4.11; J1939-21's broadcast transfer): what an announcement and a data
+-- packet are, and the limits.
 use mathlib.Core.Bool.{Bool}
 use mathlib.Core.List.{List}
 use Prim.Native.Nat.{ℕ, _+_, _-_, _*_, _/_, min}

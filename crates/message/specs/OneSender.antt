@@ -1,6 +1,5 @@
--- The single-sender rules (document 01, "Long messages, one sender"): what an announcement, a data packet and a pause
--- do to the one message that a sender may have open. No places and no storage: an open message is what has been
--- collected of it.
+-- The single-sender rules (RULES 4.14): what an announcement, a data packet and a pause do to the one message that a
+-- sender may have open. No places and no storage: an open message is what has been collected of it.
 use mathlib.Core.List.{List, [], _++_}
 use mathlib.Core.Option.{Option, some, none}
 use Prim.Native.Nat.{ℕ, _+_}
@@ -65,7 +64,7 @@ asksBy (gives other) bytes = fixed (gives nothingToDo)
 asksBy (gives (announcement sender size dgn)) bytes = opens (announcedBy sender size dgn) (gives opened)
 asksBy (gives (packet sender number)) bytes = feeds (record { number = number; seven = drop 1 bytes }) (refused 9)
 
--- Long messages as a format: the key is the sender, with refusals 3 to 6 in front.
+-- Long messages as a format: the key is the sender, and a frame is checked first, which is refusals 3 to 6.
 abbrev pub longMessages : Format
 longMessages = record {
   Session = Open;

@@ -1,4 +1,4 @@
--- The receiver: eight places over lent storage (document 01, "Eight senders at once").
+-- The receiver: eight places over lent storage (RULES 5.1 to 5.13).
 use mathlib.Core.Path.{refl}
 use mathlib.Core.Bool.{Bool, true, false, not}
 use mathlib.Core.List.{List, map}
@@ -84,7 +84,7 @@ pub record After : Type 0 where
 abbrev pub leaves : List Place → List ℕ → Told Outcome → After
 leaves places storage answer = record { places = places; storage = storage; answer = answer }
 
--- An announcement: a sender with an open message keeps its place, a new one takes the lowest-numbered free place.
+-- An announcement: who has a message open stays in its place, anyone else takes the lowest-numbered free one.
 
 abbrev pub orElse : Found → Found → Found
 orElse (At i) found = At i
@@ -101,7 +101,7 @@ unfoldable pub announces : ℕ → ℕ → ℕ → List Place → List ℕ → A
 announces sender size dgn places storage =
     openedAt (placeFor sender places) (record { sender = sender; length = size; dgn = dgn; expected = 1; idle = 0 }) places storage
 
--- A data packet: the expected number is stored in its place's own stretch, from 7 (number - 1) on, and only what the
+-- A data packet: the expected one is stored in its place's own stretch, from 7 (number - 1) on, and only what the
 -- length still needs.
 
 abbrev pub keptAt : ℕ → Place → List ℕ → List ℕ → List ℕ

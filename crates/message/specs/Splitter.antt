@@ -1,5 +1,4 @@
--- The splitter: a message as an announcement and numbered data packets (document 01, "Eight senders at once", last
--- paragraph).
+-- The splitter: a message as an announcement and numbered data packets (RULES 5.14 and 5.15).
 use mathlib.Core.List.{List, [], _∷_, _++_}
 use Prim.Native.Nat.{ℕ, _+_, _-_, _*_}
 use lib.ListN.{length, take, drop, replicate}

@@ -1,4 +1,4 @@
-// Long messages: the receiver of eight senders over lent storage, and the splitter.
+// Long messages (RULES 4 and 5): the receiver of eight senders over lent storage, and the splitter.
 ghost use Rattle.message.specs.Promises.{New, Hear, Pause, Message, Announcement, Packet, AnswerRefusal, PausingRefusal, UnsplittableRefusal, AnnouncingRefusal, CuttingRefusal};
 
 mod eight_places;
@@ -12,8 +12,8 @@ mod storage;
 use frame::BadFrame;
 use limits::STORAGE_BYTES;
 
-// An open message's place: its sender, what was announced, the packet expected next, and the pauses since its last frame, in
-// milliseconds. A free place is all zeros.
+// An open message's place: its sender, what was announced, the packet expected next, and the pauses since its last
+// frame, in milliseconds. A free place is all zeros.
 pub struct Place {
     pub sender: u8,
     pub length: u16,
@@ -212,8 +212,8 @@ impl Receiver {
     }
 }
 
-// The finished message that `answer` tells of: that part of the storage, to be read before the next frame is heard. Empty for any
-// other answer.
+// The finished message that `answer` tells of: that part of the storage, to be read before the next frame is heard.
+// Empty for any other answer.
 pub fn message(storage: &[u8], answer: Answer) -> &[u8]
     ensures { λ r. ⌜ Message (now (storage .entry)) answer (now r) ⌝ }
 {

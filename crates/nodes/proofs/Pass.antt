@@ -1,4 +1,5 @@
--- The one pass over the table is the two steps of document 01: every record with the NAME is cleared, and then the source's record is taken.
+-- The one pass over the table is the two steps of RULES 9.3 and 9.4: the NAME is cleared everywhere, and then the
+-- record of the source takes it.
 -- Assumes nothing.
 use mathlib.Core.Path.{_≡_, refl, ap, _∙_}
 use mathlib.Core.Bool.{Bool, true, false}

@@ -1,5 +1,5 @@
--- What a call on the node table is told and what it leaves (document 01, "Refusal numbers" 1 to 6 and "Node table"). It
--- goes by the length of the table and the records of the addresses; no other record is read.
+-- What a call on the node table is told and what it leaves (RULES 9.2 and 9.7 to 9.11). It goes by the length of the
+-- table and the records of the addresses; no other record is read.
 use mathlib.Core.List.{List, [], _∷_}
 use Prim.Native.Nat.{ℕ, suc}
 use lib.ListN.{length, getD, take}

@@ -1,4 +1,4 @@
--- What the private functions promise one another. The promises of the public calls do not use it.
+-- What the private functions promise one another (for RULES 9.12). The promises of the public calls do not use it.
 use mathlib.Core.Path.{_≡_}
 use mathlib.Core.List.{List, [], _∷_}
 use Prim.Native.Nat.{ℕ, zero, suc}

@@ -1,5 +1,5 @@
--- The laws of this crate, each a named statement. proofs/Laws.antt has a proof of each, under the same name written
--- small.
+-- The laws of this crate (RULES 9), each a named statement. proofs/Laws.antt has a proof of each, under the same name
+-- written small.
 use mathlib.Core.Path.{_≡_}
 use mathlib.Core.Bool.{true, false}
 use mathlib.Core.List.{List, _++_}
@@ -22,7 +22,7 @@ use Rattle.nodes.specs.declared.Heard.the-variants.{NothingToDo}
 use Rattle.nodes.specs.declared.LookedUp.{LookedUp}
 use Rattle.nodes.specs.declared.FoundAddress.{FoundAddress}
 
--- An answer read in document 01's terms loses nothing.
+-- An answer read as number and values loses nothing (RULES 2.10).
 
 abbrev pub ToldHeardSame : Type 0
 ToldHeardSame = (r s : Heard) → toldHeard r ≡ toldHeard s → r ≡ s

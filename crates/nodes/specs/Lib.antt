@@ -1,3 +1,4 @@
+-- RULES 9, the node table.
 pub mod Table
 pub mod Call
 pub mod Promises

@@ -1,5 +1,5 @@
--- The node table (document 01, "Node table"): record a stands for address a, and says whether a node holds it and with
--- which NAME.
+-- The node table (RULES 9.1, 9.3 to 9.6 and 9.9): record a stands for address a, and says whether a node holds it and
+-- with which NAME.
 use mathlib.Core.Bool.{Bool, true, false, not}
 use mathlib.Core.List.{List, [], _∷_, _++_, map}
 use Prim.Native.Nat.{ℕ}
@@ -13,7 +13,7 @@ use Rattle.nodes.specs.declared.Claim.{Claim}
 abbrev pub addresses : ℕ
 addresses = 254
 
--- a cleared record is absent with NAME 0
+-- what clearing makes of a record: absent, and NAME 0
 abbrev pub absent : Node
 absent = record { present = false; name = 0 }
 

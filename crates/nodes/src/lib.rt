@@ -1,5 +1,5 @@
-// The node table: which NAME holds which address. The table is a slice of records that the caller lends; record a stands
-// for address a.
+// The node table (RULES 9): which NAME holds which address. The table is a slice of records that the caller lends;
+// record a stands for address a.
 mod flat; // the work on values
 
 ghost use mathlib.Core.Path.{_≡_};
@@ -11,14 +11,14 @@ ghost use Rattle.nodes.specs.Inside.{afterOf, eachFrom, recordsOf};
 // A table has a record for each of the addresses 0 to 253; what stands past them is neither read nor written.
 pub const RECORDS: usize = 254;
 
-// A record: whether a node holds the address, and its NAME. A cleared record is absent with NAME 0.
+// A record: whether a node holds the address, and its NAME. Where nobody holds it the NAME is 0.
 pub struct Node {
     pub present: bool,
     pub name: u64,
 }
 
-// What came of a frame: a claim's record took the NAME, or stays with a lower one; a claim from 254, whose sender has no
-// address; or refusal 1, 2, or 3 to 6.
+// What came of a frame: a claim's record took the NAME, or stays with a lower one; a claim from 254, whose sender has
+// no address; or refusal 1, 2, or 3 to 6.
 pub enum Heard {
     Taken(u8),
     HeldByLower(u8),

@@ -1,7 +1,7 @@
--- Runs of calls: a receiver told by nothing but the promises of its calls, each handed the state and the storage that
--- the one before it left; and the statements of Statements.antt over such runs, so that they hold of the calls and not
--- only of a definition. A format's receiver is an instance: it copies no definition of runs. proofs/Calls.antt has a
--- proof of each for all calls that keep to their places.
+-- Runs of calls (RULES 13.6): a receiver told by nothing but the promises of its calls, each handed the state and the
+-- storage that the one before it left; and the statements of Statements.antt over such runs, so that they hold of the
+-- calls and not only of a definition. A format's receiver is an instance: it copies no definition of runs.
+-- proofs/Calls.antt has a proof of each for all calls that keep to their places.
 use mathlib.Core.Path.{_≡_}
 use mathlib.Core.Bool.{true}
 use mathlib.Core.List.{List, [], _∷_}

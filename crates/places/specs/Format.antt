@@ -1,6 +1,5 @@
--- A packet format: messages that come in packets, as a receiver of several of them at once needs to know it (document
--- 01, "Long messages, one sender"; request #101). Messages are told apart by a key: the sender's address, or a number
--- for sender and DGN.
+-- A packet format: messages that come in packets, as a receiver of several of them at once needs to know it (RULES 4
+-- and 12). Messages are told apart by a key: the sender's address, or a number for sender and DGN.
 use mathlib.Core.Option.{Option}
 use Prim.Native.Nat.{ℕ}
 

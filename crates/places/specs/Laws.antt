@@ -1,6 +1,6 @@
--- The laws that tie places to an array of place structs and a storage, each a named statement over any place type,
--- stride and layout. proofs/Search.antt, Stretch.antt and View.antt have a proof of each, under the same name written
--- small.
+-- The laws that tie places to an array of place structs and a storage (RULES 5.1, 5.2 and 12.14), each a named
+-- statement over any place type, stride and layout. proofs/Search.antt, Stretch.antt and View.antt have a proof of
+-- each, under the same name written small.
 use mathlib.Core.Path.{_≡_}
 use mathlib.Core.Bool.{Bool, true, false}
 use mathlib.Core.List.{List, map}

@@ -1,6 +1,5 @@
 -- Places as code keeps them: an array of place structs of any type P, and a storage of which each place owns a stretch
--- (document 01, "Place p, from 0, owns storage bytes 1785p to 1785p+1784"; request #101 has another stride). A layout
--- says how to read them as places.
+-- (RULES 5.2; RULES 12.14 has another stride). A layout says how to read them as places.
 use mathlib.Core.Path.{_≡_}
 use mathlib.Core.Bool.{Bool, true, false, not}
 use mathlib.Core.List.{List, [], _∷_}

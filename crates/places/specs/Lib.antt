@@ -1,3 +1,4 @@
+-- RULES 13.3 to 13.5, places for every packet format.
 pub mod Format
 pub mod OneKey
 pub mod Places

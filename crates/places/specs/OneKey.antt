@@ -1,4 +1,4 @@
--- The machine of one key alone: no places, at most one open session (document 01, "Long messages, one sender").
+-- The machine of one key alone: no places, at most one open session (RULES 4.14 and 12.22).
 use mathlib.Core.List.{List, [], _∷_}
 use mathlib.Core.Option.{Option, some, none}
 use Prim.Native.Nat.{ℕ}

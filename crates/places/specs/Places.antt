@@ -1,4 +1,4 @@
--- Places: each is free, or held by one key with its session (document 01, "Eight senders at once"; request #101).
+-- Places: each is free, or held by one key with its session (RULES 5.1 to 5.8 and 12.11).
 use mathlib.Core.Bool.{Bool, true, false}
 use mathlib.Core.List.{List, [], _∷_, map}
 use mathlib.Core.Logic.{_≢_}

@@ -1,5 +1,5 @@
--- One step of a receiver on its place structs and its storage: what it has to do with the places of its format, case by
--- case. proofs/Receiver.antt has a proof of each.
+-- One step of a receiver on its place structs and its storage (RULES 5.1 to 5.12): what it has to do with the places of
+-- its format, case by case. proofs/Receiver.antt has a proof of each.
 use mathlib.Core.Path.{_≡_}
 use mathlib.Core.Bool.{true}
 use mathlib.Core.List.{List, map}

@@ -1,5 +1,6 @@
--- What holds of places, for every packet format, each a named statement (the third demand on the receiver: no sender is
--- disturbed by others). proofs/Steps.antt and Statements.antt have a proof of each, under the same name written small.
+-- What holds of places, for every packet format, each a named statement (RULES 13.3 to 13.5, the third demand on the
+-- receiver: no sender is disturbed by others). proofs/Steps.antt and Statements.antt have a proof of each, under the
+-- same name written small.
 use mathlib.Core.Path.{_≡_}
 use mathlib.Core.Bool.{Bool, true, false}
 use mathlib.Core.List.{List, [], _∷_, map}
@@ -126,8 +127,8 @@ FullExactlyWhenAt 𝓕 =
     (ps : Places 𝓕) (f : 𝓕 .Frame) → length ps ≡ placeCount → OnePlaceEach ps
     → (hear 𝓕 f ps .answer ≡ full) ↔ ((isOpening (𝓕 .asks f) ≡ true) × EightOthers (𝓕 .key f) ps)
 
--- What a format's pauses are to obey, for sessions that keep the format's rule: a pause of 0 changes nothing, and a
--- pause after a pause is their sum.
+-- What a format's pauses are to obey, for sessions that keep the format's rule: a pause of no time changes nothing, and
+-- a pause after a pause is their sum.
 pub record Pausing (𝓕 : Format) : Type 1 where
   pub Kept : 𝓕 .Session → Type 0
   pub opens-kept : (f : 𝓕 .Frame) (s : 𝓕 .Session) (a : 𝓕 .Answer) → 𝓕 .asks f ≡ opens s a → Kept s
@@ -162,7 +163,8 @@ AllKept Kept [] = Unit {0}
 AllKept Kept (free ∷ ps) = AllKept Kept ps
 AllKept Kept (held k s ∷ ps) = Kept s × AllKept Kept ps
 
--- Pauses add up, and so do the numbers of places that they free; a pause of 0 changes nothing (request #108).
+-- Pauses add up, and so do the numbers of places that they free; a pause of no time leaves all as it was (request
+-- #108).
 pub record PausesAddAt (𝓕 : Format) (a b : ℕ) (ps : Places 𝓕) : Type 0 where
   pub zero-keeps : pass 𝓕 0 ps ≡ ps
   pub zero-closes : closedBy 𝓕 0 ps ≡ 0

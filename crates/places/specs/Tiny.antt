@@ -1,6 +1,6 @@
--- A made-up format, small enough to run by hand: the statements hold for more than one format, and an opening that
--- finishes at once is seen at work. A frame has a key, a number and a byte. Number 0 is a message by itself, that byte; 1
--- to 9 opens one that needs so many packets; any other is a packet, and brings its byte.
+-- A made-up format, small enough to run by hand: the statements hold for more than one format (RULES 13.5), and an
+-- opening that finishes at once is seen at work. A frame has a key, a number and a byte. Number 0 is a message by
+-- itself, that byte; 1 to 9 opens one that needs so many packets; any other is a packet, and brings its byte.
 use mathlib.Core.Path.{_≡_}
 use mathlib.Core.List.{List, [], _∷_, _++_}
 use mathlib.Core.Option.{Option, some, none}

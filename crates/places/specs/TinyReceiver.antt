@@ -1,6 +1,6 @@
--- A receiver of the made-up format, as a definition: eight slots over lent storage, nine bytes a slot. An opening that
--- finishes at once is stored in its key's slot, or in the first free one, and handed over from there; the slot is free
--- afterwards.
+-- A receiver of the made-up format, as a definition (RULES 13.5): eight slots over lent storage, nine bytes a slot. An
+-- opening that finishes at once is stored in its key's slot, or in the first free one, and handed over from there; the
+-- slot is free afterwards.
 use mathlib.Core.Path.{_≡_, refl}
 use mathlib.Core.Bool.{Bool, true, not}
 use mathlib.Core.List.{List, [], _∷_, map}

@@ -1,5 +1,5 @@
-// The places of a receiver of several senders at once, for every packet format: definitions in specs/, laws in proofs/. Code has only what a
-// search over places finds.
+// The places of a receiver of several senders at once, for every packet format (RULES 13.5): definitions in specs/,
+// laws in proofs/. Code has only what a search over places finds.
 pub enum Found {
     At(usize),
     Nowhere,

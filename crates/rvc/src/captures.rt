@@ -1,4 +1,4 @@
-// "The capture reader": a line taken apart and written, and a stream cut into lines by `Cutter::new`, `next` and `last`.
+// RULES 11: a line taken apart and written, and a stream cut into lines by `Cutter::new`, `next` and `last`.
 pub use capture::Cut;
 pub use capture::Cutter;
 pub use capture::Cutting;

@@ -1,5 +1,5 @@
-// "Claiming an address": `Claim::start`, `hear`, `pause`, `stands`, `our_claim`, `keeps_rules` and `holds_list`, and
-// `refusal`, the number of a refusal.
+// RULES 8: `Claim::start`, `hear`, `pause`, `stands`, `our_claim`, `keeps_rules` and `holds_list`, and `refusal`, the
+// number of a refusal.
 pub use claim::CANDIDATES;
 pub use claim::Claim;
 pub use claim::ClaimFrame;

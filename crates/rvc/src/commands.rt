@@ -1,5 +1,4 @@
-// "Commands, requests, replies": `Host::start`, `route` and `request`, the acknowledgment, and `refusal`, the number of
-// a refusal.
+// RULES 10: `Host::start`, `route` and `request`, the acknowledgment, and `refusal`, the number of a refusal.
 pub use command::Acknowledged;
 pub use command::Acknowledging;
 pub use command::Acknowledgment;

@@ -1,4 +1,5 @@
-// Request #101, fast packets: the receiver with `Receiver::start`, `hear` and `pause`, the finished message, and the splitter.
+// RULES 12, fast packets: the receiver with `Receiver::start`, `hear` and `pause`, the finished message, and the
+// splitter.
 pub use fast::Answer;
 pub use fast::Cut;
 pub use fast::Cutting;

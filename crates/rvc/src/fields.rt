@@ -1,4 +1,4 @@
-// "Field catalogue": rows, classes, fields read and written; `dgns` has the names of the DGNs, `names` the rows by name.
+// RULES 6 and 7: rows, classes, fields read and written; `dgns` has the names of the DGNs, `names` the rows by name.
 pub use catalogue::Class;
 pub use catalogue::Field;
 pub use catalogue::Looked;

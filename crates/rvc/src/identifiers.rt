@@ -1,4 +1,4 @@
-// "Identifier": identifiers taken apart and formed, frames checked, bytes as one number.
+// RULES 3: identifiers taken apart and formed, frames checked, bytes as one number.
 pub use frame::Apart;
 pub use frame::BadFrame;
 pub use frame::Checked;

@@ -1,4 +1,4 @@
-// "Long messages, one sender" and "Eight senders at once": the receiver with `Receiver::new`, `hear` and `pause`, the finished message, and the splitter.
+// RULES 4 and 5: the receiver with `Receiver::new`, `hear` and `pause`, the finished message, and the splitter.
 pub use message::Announced;
 pub use message::Announcing;
 pub use message::Answer;

@@ -1,4 +1,4 @@
-// "Node table": a table to start from, claims heard into a lent table, an address looked up, a NAME's address found.
+// RULES 9: a table to start from, claims heard into a lent table, an address looked up, a NAME's address found.
 pub use nodes::FoundAddress;
 pub use nodes::Heard;
 pub use nodes::LookedUp;

@@ -1,4 +1,4 @@
--- `panel::names::hear` meets its contract: a walk of its MIR, by hand, as that of `nodes_vectors::hear`. The local array is lent for a lifetime that is made for the call, and taken back at what `nodes::hear` leaves.
+-- `panel::names::hear` meets its contract: a walk of its MIR, by hand, as that of `console::node_table::hear`. The local array is lent for a lifetime that is made for the call, and taken back at what `nodes::hear` leaves.
 -- What `bytes` owns is had twice: one goes to the call, one is kept for the exit.
 -- Assumes nothing.
 use mathlib.Core.Path.{_≡_, refl, sym, _∙_, ap, subst}

@@ -1,4 +1,4 @@
--- `panel::names::look_up` meets its contract: a walk of its MIR, by hand, as that of `nodes_vectors::look_up`. The local array is lent, shared, for a lifetime that is made for the call, and taken back.
+-- `panel::names::look_up` meets its contract: a walk of its MIR, by hand, as that of `console::node_table::look_up`. The local array is lent, shared, for a lifetime that is made for the call, and taken back.
 -- Assumes nothing.
 use mathlib.Core.Path.{_≡_, refl, sym, subst}
 use mathlib.Core.List.{List, [], _∷_}

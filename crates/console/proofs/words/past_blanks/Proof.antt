@@ -1,0 +1,51 @@
+-- `console::words::past_blanks` is safe and ends. Assumes nothing.
+use Prim.Native.Nat.{_≤_, _-_}
+use borrow.Author.Needs.{needs}
+use lib.ListN.{length}
+use Rattle.console.proofs.words.past_blanks.Statement.{statement}
+use Rattle.console.proofs.words.past_blanks.Tie as tie
+
+abbrev Inv-loop : tie.InvT-loop
+Inv-loop line at i₀ i = 0 ≤ i
+
+abbrev μ-loop : tie.MeasureT-loop
+μ-loop line at i₀ i = length line - i
+
+loop-holds : tie.Need-loop-holds Inv-loop μ-loop
+loop-holds c = search needs
+
+shared-slice-read-is-blank : tie.Need-shared-slice-read-is-blank Inv-loop μ-loop
+shared-slice-read-is-blank c = search needs
+
+is-blank-requires : tie.Need-is-blank-requires Inv-loop μ-loop
+is-blank-requires c κs = search needs
+
+returns : tie.Need-returns Inv-loop μ-loop
+returns c = search needs
+
+add-i : tie.Need-add-i Inv-loop μ-loop
+add-i c = search needs
+
+loop-less : tie.Need-loop-less Inv-loop μ-loop
+loop-less c = search needs
+
+loop-again : tie.Need-loop-again Inv-loop μ-loop
+loop-again c = search needs
+
+returns-2 : tie.Need-returns-2 Inv-loop μ-loop
+returns-2 c = search needs
+
+pub past-blanks-spec : {M : Type 1} → statement M
+past-blanks-spec =
+    tie.close
+    (tie.spec
+    Inv-loop
+    μ-loop
+    loop-holds
+    shared-slice-read-is-blank
+    is-blank-requires
+    returns
+    add-i
+    loop-less
+    loop-again
+    returns-2)
