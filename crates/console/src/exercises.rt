@@ -1,12 +1,9 @@
 // Exercises: a message split and joined again, a row written and read back, as a class would do it by many lines.
+use crate::fields::number_of_class;
 use crate::notes;
-use crate::notes::bounded;
 use crate::notes::get;
 use crate::notes::get_u8;
 use crate::say;
-use crate::words::arguments;
-use crate::words::find;
-use catalogue::Class;
 use catalogue::Looked;
 use catalogue::Reading;
 use catalogue::Row;
@@ -27,38 +24,23 @@ struct HeardFast {
     same: bool,
 }
 
-pub fn words(line: &[u8], notes: &mut [u64], data: &mut [u8]) {
-    match find(line, b"long_message fast_packet row") {
-        0 => try_long_message(line, notes, data),
-        1 => try_fast_packet(line, notes, data),
-        2 => try_row(line, notes, data),
-        _ => say::unknown(),
+pub fn call(n: usize, notes: &[u64], bytes: &[u8]) {
+    match n {
+        0 => try_long_message(bytes),
+        1 => try_fast_packet(bytes, get_u8(notes, notes::SECOND)),
+        2 => row_back(get(notes, notes::FIRST) as usize),
+        _ => {}
     }
 }
 
-fn try_long_message(line: &[u8], notes: &mut [u64], data: &mut [u8]) {
-    if !arguments(line, notes, data, b"b") {
-        return;
-    }
-    let count = bounded(get(notes, notes::BYTES) as usize, data);
+fn try_long_message(bytes: &[u8]) {
     let mut storage = [0u8; message::limits::STORAGE_BYTES];
-    long_message(&data[..count], &mut storage);
+    long_message(bytes, &mut storage);
 }
 
-fn try_fast_packet(line: &[u8], notes: &mut [u64], data: &mut [u8]) {
-    if !arguments(line, notes, data, b"b1") {
-        return;
-    }
-    let count = bounded(get(notes, notes::BYTES) as usize, data);
+fn try_fast_packet(bytes: &[u8], sequence: u8) {
     let mut storage = [0u8; fast::limits::STORAGE_BYTES];
-    fast_packet(&data[..count], get_u8(notes, notes::SECOND), &mut storage);
-}
-
-fn try_row(line: &[u8], notes: &mut [u64], data: &mut [u8]) {
-    if !arguments(line, notes, data, b"8") {
-        return;
-    }
-    row_back(get(notes, notes::FIRST) as usize);
+    fast_packet(bytes, sequence, &mut storage);
 }
 
 // A message split and sent by 54h, and what a new receiver hands back.
@@ -87,21 +69,21 @@ fn long_message(whole: &[u8], storage: &mut [u8]) {
         let receiver = heard.receiver;
         heard = hear(receiver, storage, 0x1CEBFF54, packet, whole);
     }
-    say::number(b"length=", whole.len() as u64);
-    say::number(b" packets=", number as u64);
-    same(heard.same);
+    joined(b"length=# packets=# ", whole.len(), number, heard.same);
 }
 
 fn not_split(refusal: u8) {
-    say::number(b"not split, refusal ", refusal as u64);
-    say::text(b"\n");
+    say::number(b"not split, refusal #\n", refusal as u64);
 }
 
-fn same(same: bool) {
+// How long the message was, how many frames it took, and whether it came back.
+fn joined(pattern: &[u8], length: usize, last: u32, same: bool) {
+    let numbers = [length as u64, last as u64];
+    say::form(pattern, &numbers, 0);
     if same {
-        return say::text(b" the same bytes\n");
+        return say::text(b"the same bytes\n");
     }
-    say::text(b" OTHER BYTES\n");
+    say::text(b"OTHER BYTES\n");
 }
 
 fn hear(
@@ -157,9 +139,7 @@ fn fast_packet(whole: &[u8], sequence: u8, storage: &mut [u8]) {
         let receiver = heard.receiver;
         heard = hear_fast(receiver, storage, later, whole);
     }
-    say::number(b"length=", whole.len() as u64);
-    say::number(b" last frame=", number as u64);
-    same(heard.same);
+    joined(b"length=# last frame=# ", whole.len(), number, heard.same);
 }
 
 fn hear_fast(
@@ -241,8 +221,7 @@ fn code_back(n: usize, row: Row, code: u64) {
 fn wrote(writing: Writing) {
     let refusal = writing.refusal();
     if refusal != 0 {
-        say::number(b"", refusal as u64);
-        say::text(b":");
+        say::number(b"#:", refusal as u64);
     }
 }
 
@@ -252,14 +231,9 @@ fn read_back(n: usize, id: u32, bytes: [u8; 8]) {
         Reading::BadFrame(_) => say::text(b"BadFrame"),
         Reading::NoSuchRow => say::text(b"NoSuchRow"),
         Reading::Is(field) => {
-            say::number(b"", field.code);
+            say::number(b"#=", field.code);
             let class = field.class;
-            match class {
-                Class::Number => say::text(b"=Number"),
-                Class::NoData => say::text(b"=NoData"),
-                Class::OutOfRange => say::text(b"=OutOfRange"),
-                Class::Reserved => say::text(b"=Reserved"),
-            }
+            say::word(b"NoData OutOfRange Reserved Number", number_of_class(class));
         }
     }
 }

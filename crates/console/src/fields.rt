@@ -1,22 +1,15 @@
 // The words of crate `catalogue`: one row, and a lent table of packed rows.
 use crate::frames;
 use crate::notes;
-use crate::notes::bounded;
+use crate::notes::field;
+use crate::notes::field_u8;
 use crate::notes::get;
 use crate::notes::get_i64;
 use crate::notes::get_u8;
 use crate::notes::get_u32;
 use crate::notes::put;
+use crate::notes::put_all;
 use crate::say;
-use crate::words::arguments;
-use crate::words::asked;
-use crate::words::below;
-use crate::words::ends_here;
-use crate::words::find;
-use crate::words::find_set;
-use crate::words::set_lent;
-use crate::words::shows;
-use crate::words::values;
 use catalogue::Class;
 use catalogue::Field;
 use catalogue::Looked;
@@ -29,141 +22,63 @@ use catalogue::Value;
 use catalogue::Writing;
 ghost use Rattle.io.specs.Counts.{Counts};
 
-// A row of no bits: no call reads by it.
-pub fn start() -> Row {
-    Row {
-        dgn: 0,
-        first: 0,
-        width: 0,
-        unit: Unit::Other,
-        plain: false,
+pub fn call(n: usize, notes: &mut [u64], bytes: &mut [u8], packed: &mut [u64]) {
+    if n < 4 {
+        return look(n, notes);
+    }
+    if n < 8 {
+        return look_in(n, notes, packed);
+    }
+    if n < 13 {
+        return read_by(n, notes, bytes);
+    }
+    write_by(n, notes, bytes);
+}
+
+// Rows of the catalogue.
+fn look(n: usize, notes: &mut [u64]) {
+    match n {
+        0 => say::number(b"#\n", catalogue::rows() as u64),
+        1 => row_at(notes),
+        2 => row_of(notes),
+        _ => span(catalogue::rows_of(get_u32(notes, notes::FIRST))),
     }
 }
 
-pub fn words(line: &[u8], notes: &mut [u64], data: &mut [u8], packed: &mut [u64], row: Row) -> Row {
-    if asked(line, b"set") {
-        return set(line, notes, data, packed, row);
-    }
-    match find(line, b"row_at row_of row_in row_of_in") {
-        0 => row_at(line, notes, data, row),
-        1 => row_of(line, notes, data, row),
-        2 => row_in(line, notes, data, packed, row),
-        3 => row_of_in(line, notes, data, packed, row),
-        _ => {
-            others(line, notes, data, packed, row);
-            row
-        }
-    }
-}
-
-// The words that leave the row as it is.
-fn others(line: &[u8], notes: &mut [u64], data: &mut [u8], packed: &mut [u64], row: Row) {
-    match find(line, b"rows rows_of packed_rows rows_in") {
-        0 => rows(line),
-        1 => rows_of(line, notes, data),
-        2 => all_rows(line, notes, packed),
-        3 => rows_in(line, notes, data, packed),
-        _ => {
-            if shows(line, b"catalogue") {
-                return show(row);
-            }
-            numbered(line, notes, data, row);
-        }
-    }
-}
-
-// Fields by the number of their row.
-fn numbered(line: &[u8], notes: &mut [u64], data: &mut [u8], row: Row) {
-    match find(line, b"read read_scaled write") {
-        0 => read(line, notes, data),
-        1 => read_scaled(line, notes, data),
-        2 => write(line, notes, data),
-        _ => by_value(line, notes, data, row),
-    }
-}
-
-// Fields by the console's row.
-fn by_value(line: &[u8], notes: &mut [u64], data: &mut [u8], row: Row) {
-    match find(line, b"classify read_row read_row_scaled write_row") {
-        0 => classify(line, notes, data, row),
-        1 => read_row(line, notes, data, row),
-        2 => read_row_scaled(line, notes, data, row),
-        3 => write_row(line, notes, data, row),
-        _ => refusals(line, notes),
-    }
-}
-
-fn refusals(line: &[u8], notes: &[u64]) {
-    match find(
-        line,
-        b"Looked::refusal Reading::refusal ScaledReading::refusal Writing::refusal",
-    ) {
-        0 => say::refusal(line, notes, notes::CATALOGUE_LOOKED),
-        1 => say::refusal(line, notes, notes::CATALOGUE_READING),
-        2 => say::refusal(line, notes, notes::CATALOGUE_SCALED_READING),
-        3 => say::refusal(line, notes, notes::CATALOGUE_WRITING),
-        _ => say::unknown(),
-    }
-}
-
-fn rows(line: &[u8]) {
-    if !ends_here(line, 1) {
-        return;
-    }
-    say::number(b"", catalogue::rows() as u64);
-    say::text(b"\n");
-}
-
-fn row_at(line: &[u8], notes: &mut [u64], data: &mut [u8], row: Row) -> Row {
-    if !arguments(line, notes, data, b"8") {
-        return row;
-    }
+fn row_at(notes: &mut [u64]) {
     let answer = catalogue::row_at(get(notes, notes::FIRST) as usize);
-    looked(notes, answer, row)
+    looked(notes, answer);
 }
 
-fn row_of(line: &[u8], notes: &mut [u64], data: &mut [u8], row: Row) -> Row {
-    if !arguments(line, notes, data, b"41") {
-        return row;
-    }
+fn row_of(notes: &mut [u64]) {
     let dgn = get_u32(notes, notes::FIRST);
     let answer = catalogue::row_of(dgn, get_u8(notes, notes::SECOND));
-    looked(notes, answer, row)
+    looked(notes, answer);
 }
 
-fn rows_of(line: &[u8], notes: &mut [u64], data: &mut [u8]) {
-    if !arguments(line, notes, data, b"4") {
-        return;
+// Rows of the lent table.
+fn look_in(n: usize, notes: &mut [u64], packed: &mut [u64]) {
+    if n == 4 {
+        return packed_rows(notes, packed);
     }
-    span(catalogue::rows_of(get_u32(notes, notes::FIRST)));
+    let count = lent(get(notes, notes::PACKED) as usize, packed);
+    look_in_these(n, notes, &packed[..count]);
 }
 
-fn classify(line: &[u8], notes: &mut [u64], data: &mut [u8], row: Row) {
-    if !arguments(line, notes, data, b"8") {
-        return;
+fn look_in_these(n: usize, notes: &mut [u64], packed: &[u64]) {
+    match n {
+        5 => row_in(notes, packed),
+        6 => row_of_in(notes, packed),
+        _ => span(catalogue::rows_in(packed, get_u32(notes, notes::FIRST))),
     }
-    field(catalogue::classify(row, get(notes, notes::FIRST)));
-    say::text(b"\n");
 }
 
 // The catalogue becomes the lent table.
-fn all_rows(line: &[u8], notes: &mut [u64], packed: &mut [u64]) {
-    if !ends_here(line, 1) {
-        return;
-    }
+fn packed_rows(notes: &mut [u64], packed: &mut [u64]) {
     let rows = catalogue::packed_rows();
-    copy(&rows, packed);
+    put_all(packed, 0, &rows);
     put(notes, notes::PACKED, catalogue::rows() as u64);
-    say::number(b"", catalogue::rows() as u64);
-    say::text(b" packed rows are lent\n");
-}
-
-fn copy(rows: &[u64], packed: &mut [u64]) {
-    let mut i: usize = 0;
-    while i < packed.len() {
-        packed[i] = get(rows, i);
-        i += 1;
-    }
+    say::form(b"# packed rows are lent\n", notes, notes::PACKED);
 }
 
 // How many packed rows are lent, and never more than there are.
@@ -176,82 +91,68 @@ fn lent(count: usize, packed: &[u64]) -> usize
     packed.len()
 }
 
-fn row_in(line: &[u8], notes: &mut [u64], data: &mut [u8], packed: &[u64], row: Row) -> Row {
-    if !arguments(line, notes, data, b"8") {
-        return row;
-    }
-    let count = lent(get(notes, notes::PACKED) as usize, packed);
-    let answer = catalogue::row_in(&packed[..count], get(notes, notes::FIRST) as usize);
-    looked(notes, answer, row)
+fn row_in(notes: &mut [u64], packed: &[u64]) {
+    let answer = catalogue::row_in(packed, get(notes, notes::FIRST) as usize);
+    looked(notes, answer);
 }
 
-fn row_of_in(line: &[u8], notes: &mut [u64], data: &mut [u8], packed: &[u64], row: Row) -> Row {
-    if !arguments(line, notes, data, b"41") {
-        return row;
-    }
-    let count = lent(get(notes, notes::PACKED) as usize, packed);
+fn row_of_in(notes: &mut [u64], packed: &[u64]) {
     let dgn = get_u32(notes, notes::FIRST);
-    let answer = catalogue::row_of_in(&packed[..count], dgn, get_u8(notes, notes::SECOND));
-    looked(notes, answer, row)
-}
-
-fn rows_in(line: &[u8], notes: &mut [u64], data: &mut [u8], packed: &[u64]) {
-    if !arguments(line, notes, data, b"4") {
-        return;
-    }
-    let count = lent(get(notes, notes::PACKED) as usize, packed);
-    span(catalogue::rows_in(&packed[..count], get_u32(notes, notes::FIRST)));
+    let answer = catalogue::row_of_in(packed, dgn, get_u8(notes, notes::SECOND));
+    looked(notes, answer);
 }
 
 // A row that was found becomes the console's row.
-fn looked(notes: &mut [u64], answer: Looked, row: Row) -> Row {
-    let number = answer.refusal();
-    match answer {
-        Looked::Is(found) => {
-            say::text(b"Is");
-            say::end(notes, notes::CATALOGUE_LOOKED, number);
-            show(found);
-            found
-        }
-        Looked::NoSuchRow => {
-            say::text(b"NoSuchRow");
-            say::end(notes, notes::CATALOGUE_LOOKED, number);
-            row
-        }
+fn looked(notes: &mut [u64], answer: Looked) {
+    tell_looked(notes, answer);
+    say::end(notes, notes::CATALOGUE_LOOKED, answer.refusal());
+    if answer.refusal() == 0 {
+        show(notes);
     }
+}
+
+fn tell_looked(notes: &mut [u64], answer: Looked) {
+    match answer {
+        Looked::Is(found) => is(notes, found),
+        Looked::NoSuchRow => say::text(b"NoSuchRow"),
+    }
+}
+
+fn is(notes: &mut [u64], found: Row) {
+    say::text(b"Is");
+    keep(notes, found);
 }
 
 fn span(span: Span) {
-    say::number(b"start=", span.start as u64);
-    say::number(b" count=", span.count as u64);
+    let numbers = [span.start as u64, span.count as u64];
+    say::form(b"start=# count=#\n", &numbers, 0);
+}
+
+// Fields, by the number of their row or by the console's row.
+fn read_by(n: usize, notes: &mut [u64], bytes: &[u8]) {
+    match n {
+        8 => read(notes, bytes),
+        9 => read_scaled(notes, bytes),
+        10 => classify(notes),
+        11 => read_row(notes, bytes),
+        _ => read_row_scaled(notes, bytes),
+    }
+}
+
+fn classify(notes: &[u64]) {
+    field_read(catalogue::classify(row(notes), get(notes, notes::FIRST)));
     say::text(b"\n");
 }
 
-fn read(line: &[u8], notes: &mut [u64], data: &mut [u8]) {
-    if !arguments(line, notes, data, b"84b") {
-        return;
-    }
+fn read(notes: &mut [u64], bytes: &[u8]) {
     let row = get(notes, notes::FIRST) as usize;
-    let id = get_u32(notes, notes::SECOND);
-    let count = bounded(get(notes, notes::BYTES) as usize, data);
-    reading(notes, catalogue::read(row, id, &data[..count]));
+    let answer = catalogue::read(row, get_u32(notes, notes::SECOND), bytes);
+    reading(notes, answer);
 }
 
-fn read_row(line: &[u8], notes: &mut [u64], data: &mut [u8], row: Row) {
-    if !arguments(line, notes, data, b"4b") {
-        return;
-    }
-    let id = get_u32(notes, notes::FIRST);
-    let count = bounded(get(notes, notes::BYTES) as usize, data);
-    reading(notes, catalogue::read_row(row, id, &data[..count]));
-}
-
-fn tell_reading(notes: &mut [u64], answer: Reading) {
-    match answer {
-        Reading::Is(read) => field(read),
-        Reading::BadFrame(why) => frames::bad_frame(notes, why),
-        Reading::NoSuchRow => say::text(b"NoSuchRow"),
-    }
+fn read_row(notes: &mut [u64], bytes: &[u8]) {
+    let answer = catalogue::read_row(row(notes), get_u32(notes, notes::FIRST), bytes);
+    reading(notes, answer);
 }
 
 fn reading(notes: &mut [u64], answer: Reading) {
@@ -259,34 +160,44 @@ fn reading(notes: &mut [u64], answer: Reading) {
     say::end(notes, notes::CATALOGUE_READING, answer.refusal());
 }
 
-fn field(field: Field) {
+fn tell_reading(notes: &mut [u64], answer: Reading) {
+    match answer {
+        Reading::Is(read) => field_read(read),
+        Reading::BadFrame(why) => frames::bad_frame(notes, why),
+        Reading::NoSuchRow => say::text(b"NoSuchRow"),
+    }
+}
+
+fn field_read(field: Field) {
     let class = field.class;
+    say::word(b"NoData OutOfRange Reserved Number", number_of_class(class));
+    say::number(b" code=#", field.code);
+}
+
+// The number of a class, in the order in which the notes have them.
+pub fn number_of_class(class: Class) -> usize {
     match class {
-        Class::Number => say::text(b"Number"),
-        Class::NoData => say::text(b"NoData"),
-        Class::OutOfRange => say::text(b"OutOfRange"),
-        Class::Reserved => say::text(b"Reserved"),
+        Class::NoData => 0,
+        Class::OutOfRange => 1,
+        Class::Reserved => 2,
+        Class::Number => 3,
     }
-    say::number(b" code=", field.code);
 }
 
-fn read_scaled(line: &[u8], notes: &mut [u64], data: &mut [u8]) {
-    if !arguments(line, notes, data, b"84b") {
-        return;
-    }
+fn read_scaled(notes: &mut [u64], bytes: &[u8]) {
     let row = get(notes, notes::FIRST) as usize;
-    let id = get_u32(notes, notes::SECOND);
-    let count = bounded(get(notes, notes::BYTES) as usize, data);
-    scaled(notes, catalogue::read_scaled(row, id, &data[..count]));
+    let answer = catalogue::read_scaled(row, get_u32(notes, notes::SECOND), bytes);
+    scaled(notes, answer);
 }
 
-fn read_row_scaled(line: &[u8], notes: &mut [u64], data: &mut [u8], row: Row) {
-    if !arguments(line, notes, data, b"4b") {
-        return;
-    }
-    let id = get_u32(notes, notes::FIRST);
-    let count = bounded(get(notes, notes::BYTES) as usize, data);
-    scaled(notes, catalogue::read_row_scaled(row, id, &data[..count]));
+fn read_row_scaled(notes: &mut [u64], bytes: &[u8]) {
+    let answer = catalogue::read_row_scaled(row(notes), get_u32(notes, notes::FIRST), bytes);
+    scaled(notes, answer);
+}
+
+fn scaled(notes: &mut [u64], answer: ScaledReading) {
+    tell_scaled(notes, answer);
+    say::end(notes, notes::CATALOGUE_SCALED_READING, answer.refusal());
 }
 
 fn tell_scaled(notes: &mut [u64], answer: ScaledReading) {
@@ -295,11 +206,6 @@ fn tell_scaled(notes: &mut [u64], answer: ScaledReading) {
         ScaledReading::BadFrame(why) => frames::bad_frame(notes, why),
         ScaledReading::NoSuchRow => say::text(b"NoSuchRow"),
     }
-}
-
-fn scaled(notes: &mut [u64], answer: ScaledReading) {
-    tell_scaled(notes, answer);
-    say::end(notes, notes::CATALOGUE_SCALED_READING, answer.refusal());
 }
 
 fn value(value: Value) {
@@ -316,20 +222,14 @@ fn value(value: Value) {
 
 // The value that was typed; its number is noted at `slot`.
 fn typed_value(notes: &[u64], slot: usize) -> Value {
-    let kind = get(notes, notes::VALUE);
-    if kind == notes::NO_DATA {
-        return Value::NoData;
+    let number = get_i64(notes, slot);
+    match get(notes, notes::VALUE) {
+        0 => Value::NoData,
+        1 => Value::OutOfRange,
+        2 => Value::Reserved,
+        3 => Value::Scaled(number),
+        _ => Value::Scaled(below_zero(number)),
     }
-    if kind == notes::OUT_OF_RANGE {
-        return Value::OutOfRange;
-    }
-    if kind == notes::RESERVED {
-        return Value::Reserved;
-    }
-    if kind == notes::NEGATIVE {
-        return Value::Scaled(below_zero(get_i64(notes, slot)));
-    }
-    Value::Scaled(get_i64(notes, slot))
 }
 
 // The number below zero of which one less than its size was noted.
@@ -340,27 +240,32 @@ fn below_zero(less: i64) -> i64 {
     -1 - less
 }
 
-fn write(line: &[u8], notes: &mut [u64], data: &mut [u8]) {
-    if !arguments(line, notes, data, b"84bv") {
-        return;
+fn write_by(n: usize, notes: &mut [u64], bytes: &mut [u8]) {
+    match n {
+        13 => write(notes, bytes),
+        14 => write_row(notes, bytes),
+        _ => {}
     }
-    let row = get(notes, notes::FIRST) as usize;
-    let id = get_u32(notes, notes::SECOND);
-    let value = typed_value(notes, notes::FOURTH);
-    let count = bounded(get(notes, notes::BYTES) as usize, data);
-    let answer = catalogue::write(row, id, &mut data[..count], value);
-    written(notes, data, answer);
 }
 
-fn write_row(line: &[u8], notes: &mut [u64], data: &mut [u8], row: Row) {
-    if !arguments(line, notes, data, b"4bv") {
-        return;
-    }
+fn write(notes: &mut [u64], bytes: &mut [u8]) {
+    let row = get(notes, notes::FIRST) as usize;
+    let id = get_u32(notes, notes::SECOND);
+    let answer = catalogue::write(row, id, bytes, typed_value(notes, notes::FOURTH));
+    written(notes, bytes, answer);
+}
+
+fn write_row(notes: &mut [u64], bytes: &mut [u8]) {
     let id = get_u32(notes, notes::FIRST);
-    let value = typed_value(notes, notes::THIRD);
-    let count = bounded(get(notes, notes::BYTES) as usize, data);
-    let answer = catalogue::write_row(row, id, &mut data[..count], value);
-    written(notes, data, answer);
+    let answer = catalogue::write_row(row(notes), id, bytes, typed_value(notes, notes::THIRD));
+    written(notes, bytes, answer);
+}
+
+// What writing answered, and the lent bytes after it.
+fn written(notes: &mut [u64], bytes: &[u8], answer: Writing) {
+    tell_writing(notes, answer);
+    say::bytes(b" bytes=", bytes);
+    say::end(notes, notes::CATALOGUE_WRITING, answer.refusal());
 }
 
 fn tell_writing(notes: &mut [u64], answer: Writing) {
@@ -372,114 +277,14 @@ fn tell_writing(notes: &mut [u64], answer: Writing) {
     }
 }
 
-// What writing answered, and the lent bytes after it.
-fn written(notes: &mut [u64], data: &[u8], answer: Writing) {
-    tell_writing(notes, answer);
-    let count = bounded(get(notes, notes::BYTES) as usize, data);
-    say::bytes(b" bytes=", &data[..count]);
-    say::end(notes, notes::CATALOGUE_WRITING, answer.refusal());
-}
-
-fn show(row: Row) {
-    say::hex(b"  catalogue.row.dgn=", row.dgn as u64, 5);
-    say::number(b" first=", row.first as u64);
-    say::number(b" width=", row.width as u64);
-    let unit = row.unit;
-    show_unit(unit);
-    say::truth(b" plain=", row.plain);
-    say::text(b"\n");
-}
-
-fn show_unit(unit: Unit) {
-    match unit {
-        Unit::Other => say::text(b" unit=Other"),
-        Unit::Percent => say::text(b" unit=Percent"),
-        Unit::Celsius => say::text(b" unit=Celsius"),
-        Unit::Volt => say::text(b" unit=Volt"),
-        Unit::Ampere => say::text(b" unit=Ampere"),
-        Unit::Hertz => say::text(b" unit=Hertz"),
-    }
-}
-
-// `set catalogue.row.width 33` and so of every field, the unit by its number from 0 (Other, Percent, Celsius, Volt,
-// Ampere, Hertz); `set catalogue.packed[0] 0x0EF0000080`, a packed row; `set catalogue.lent 3`, the rows that are lent.
-fn set(line: &[u8], notes: &mut [u64], data: &mut [u8], packed: &mut [u64], row: Row) -> Row {
-    match find_set(line, b"lent packed") {
-        0 => {
-            set_lent(line, notes, data, notes::PACKED, catalogue::rows() as u64);
-            row
-        }
-        1 => {
-            set_packed(line, notes, data, packed);
-            row
-        }
-        _ => set_row(line, notes, data, row),
-    }
-}
-
-fn set_packed(line: &[u8], notes: &mut [u64], data: &mut [u8], packed: &mut [u64]) {
-    if !values(line, notes, data, b"88") {
-        return;
-    }
-    if below(notes, packed.len()) {
-        let at = get(notes, notes::FIRST) as usize;
-        put(packed, at, get(notes, notes::SECOND));
-    }
-}
-
-fn set_row(line: &[u8], notes: &mut [u64], data: &mut [u8], row: Row) -> Row {
-    let mut r = row;
-    match find_set(line, b"row.dgn row.first row.width row.plain row.unit") {
-        0 => {
-            if values(line, notes, data, b"4") {
-                r.dgn = get_u32(notes, notes::FIRST);
-            }
-            r
-        }
-        1 => {
-            if values(line, notes, data, b"1") {
-                r.first = get_u8(notes, notes::FIRST);
-            }
-            r
-        }
-        2 => {
-            if values(line, notes, data, b"1") {
-                r.width = get_u8(notes, notes::FIRST);
-            }
-            r
-        }
-        3 => {
-            if values(line, notes, data, b"t") {
-                r.plain = get(notes, notes::FIRST) != 0;
-            }
-            r
-        }
-        4 => set_unit(line, notes, data, r),
-        _ => {
-            say::unknown();
-            r
-        }
-    }
-}
-
-fn set_unit(line: &[u8], notes: &mut [u64], data: &mut [u8], row: Row) -> Row {
-    if !values(line, notes, data, b"1") {
-        return row;
-    }
-    if 5 < get(notes, notes::FIRST) {
-        say::malformed(2, b"no such unit");
-        return row;
-    }
-    with_unit(row, unit_of(get(notes, notes::FIRST)))
-}
-
-fn with_unit(row: Row, unit: Unit) -> Row {
+// The row of the notes. At first it has no bits: no call reads by it.
+fn row(notes: &[u64]) -> Row {
     Row {
-        dgn: row.dgn,
-        first: row.first,
-        width: row.width,
-        unit,
-        plain: row.plain,
+        dgn: get_u32(notes, notes::ROW),
+        first: field_u8(notes, notes::ROW, 1),
+        width: field_u8(notes, notes::ROW, 2),
+        unit: unit_of(field(notes, notes::ROW, 3)),
+        plain: field(notes, notes::ROW, 4) != 0,
     }
 }
 
@@ -492,4 +297,41 @@ fn unit_of(number: u64) -> Unit {
         5 => Unit::Hertz,
         _ => Unit::Other,
     }
+}
+
+// Notes the row.
+fn keep(notes: &mut [u64], row: Row) {
+    let unit = row.unit;
+    let fields = [
+        row.dgn as u64,
+        row.first as u64,
+        row.width as u64,
+        number_of_unit(unit),
+        row.plain as u64,
+    ];
+    put_all(notes, notes::ROW, &fields);
+}
+
+fn number_of_unit(unit: Unit) -> u64 {
+    match unit {
+        Unit::Other => 0,
+        Unit::Percent => 1,
+        Unit::Celsius => 2,
+        Unit::Volt => 3,
+        Unit::Ampere => 4,
+        Unit::Hertz => 5,
+    }
+}
+
+pub fn show(notes: &[u64]) {
+    say::form(
+        b"  catalogue.row.dgn=~ first=# width=# unit=",
+        notes,
+        notes::ROW,
+    );
+    say::word(
+        b"Other Percent Celsius Volt Ampere Hertz",
+        field(notes, notes::ROW, 3) as usize,
+    );
+    say::form(b" plain=?\n", notes, notes::ROW + 4);
 }

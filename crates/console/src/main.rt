@@ -1,6 +1,8 @@
 // A console for class: it reads a call a line from standard input and prints the answer in words, with the number of a
 // refusal, the state and the lent bytes. It keeps one receiver of each kind with its storage, a claim, a host, a node
 // table, a row and a cutter of lines. docs/CONSOLE.md has its words.
+mod arguments;
+mod calls;
 mod captures;
 mod claims;
 mod commands;
@@ -13,47 +15,19 @@ mod messages;
 mod node_table;
 mod notes;
 mod say;
+mod state;
 mod words;
 
-use capture::Cutter;
-use catalogue::Row;
-use claim::Claim;
-use commands::Hosting;
-use fast_packets::Fast;
-use messages::Messages;
-use nodes::Node;
 use notes::NOTES;
 use notes::bounded;
 use notes::get;
 use notes::put;
-use words::asked;
+use std::num::wrapping_add_usize;
 
-// What the console keeps between the lines.
+// What the console keeps beside its notes: the storage of both receivers, and a table of packed rows to lend.
 struct Desk {
-    long: LongMessages,
-    fast: FastPackets,
-    claim: Claim,
-    hosting: Hosting,
-    table: [Node; node_table::MOST_RECORDS],
-    rows: Rows,
-    cutter: Cutter,
-}
-
-// A receiver of long messages and its storage.
-struct LongMessages {
-    state: Messages,
-    storage: [u8; message::limits::STORAGE_BYTES],
-}
-
-// A receiver of fast packets and its storage.
-struct FastPackets {
-    state: Fast,
-    storage: [u8; fast::limits::STORAGE_BYTES],
-}
-
-// A row, and a table of packed rows to lend.
-struct Rows {
-    row: Row,
+    long: [u8; message::limits::STORAGE_BYTES],
+    fast: [u8; fast::limits::STORAGE_BYTES],
     packed: [u64; 375],
 }
 
@@ -65,38 +39,25 @@ struct Round {
 
 fn main() {
     let mut notes = [0u64; NOTES];
-    let desk = start(&mut notes);
-    listen(&mut notes, desk);
+    put(
+        &mut notes,
+        notes::MESSAGE_STORAGE,
+        message::limits::STORAGE_BYTES as u64,
+    );
+    put(
+        &mut notes,
+        notes::FAST_STORAGE,
+        fast::limits::STORAGE_BYTES as u64,
+    );
+    put(&mut notes, notes::TABLE, nodes::RECORDS as u64);
+    listen(&mut notes, start());
 }
 
-fn start(notes: &mut [u64]) -> Desk {
-    Desk {
-        long: start_long(notes),
-        fast: start_fast(notes),
-        claim: claims::start(),
-        hosting: commands::start(),
-        table: node_table::start(notes),
-        rows: start_rows(),
-        cutter: Cutter::new(),
-    }
-}
-
-fn start_long(notes: &mut [u64]) -> LongMessages {
-    let storage = [0u8; message::limits::STORAGE_BYTES];
-    let state = messages::start(notes);
-    LongMessages { state, storage }
-}
-
-fn start_fast(notes: &mut [u64]) -> FastPackets {
-    let storage = [0u8; fast::limits::STORAGE_BYTES];
-    let state = fast_packets::start(notes);
-    FastPackets { state, storage }
-}
-
-fn start_rows() -> Rows {
+fn start() -> Desk {
+    let long = [0u8; message::limits::STORAGE_BYTES];
+    let fast = [0u8; fast::limits::STORAGE_BYTES];
     let packed = [0u64; 375];
-    let row = fields::start();
-    Rows { row, packed }
+    Desk { long, fast, packed }
 }
 
 // Line after line. Nothing says that an input ends, so the loop counts down from a number that no input uses up.
@@ -130,157 +91,216 @@ fn next_line(notes: &mut [u64], desk: Desk) -> Round {
 
 // A line: nothing, a title, or a call.
 fn turn(line: &[u8], notes: &mut [u64], desk: Desk) -> Desk {
-    let first = words::nth_word(line, 0);
-    if first.to <= first.from {
-        return desk;
-    }
-    if lines::LONGEST <= line.len() {
-        say::text(b"malformed: the line is too long\n");
-        return desk;
-    }
-    if notes::byte_at(line, first.from) == b'#' {
-        title(line);
+    note(line, notes);
+    if is_said(line, notes) {
         return desk;
     }
     echo(line, notes);
-    let mut data = [0u8; 2048];
-    call(line, notes, &mut data, desk)
+    heed(notes, desk)
 }
 
-// A call: the part of the library that it is about answers it.
-fn call(line: &[u8], notes: &mut [u64], data: &mut [u8], desk: Desk) -> Desk {
-    match words::part(line, b"message fast claim nodes command catalogue capture") {
-        0 => with_long(line, notes, data, desk),
-        1 => with_fast(line, notes, data, desk),
-        2 => with_claim(line, notes, data, desk),
-        3 => with_table(line, notes, data, desk),
-        4 => with_hosting(line, notes, data, desk),
-        5 => with_rows(line, notes, data, desk),
-        6 => with_cutter(line, notes, data, desk),
-        _ => {
-            others(line, notes, data);
-            desk
-        }
+// Notes the letters of the line.
+fn note(line: &[u8], notes: &mut [u64]) {
+    put(notes, notes::LETTERS, line.len() as u64);
+    let mut i: usize = 0;
+    while i < line.len() {
+        let letter = notes::byte_at(line, i);
+        put(notes, wrapping_add_usize(notes::LINE, i), letter as u64);
+        i += 1;
     }
 }
 
-// The words that leave the desk as it is.
-fn others(line: &[u8], notes: &mut [u64], data: &mut [u8]) {
-    match words::part(line, b"frame exercise") {
-        0 => frames::words(line, notes, data),
-        1 => exercises::words(line, notes, data),
-        _ => console_words(line, notes, data),
+// Whether nothing is asked: the line is empty, too long, or begins with # and is printed as it is.
+fn is_said(line: &[u8], notes: &[u64]) -> bool {
+    let first = words::nth_word(notes, 0);
+    if first.to <= first.from {
+        return true;
     }
+    if lines::LONGEST <= line.len() {
+        say::text(b"malformed: the line is too long\n");
+        return true;
+    }
+    if words::letter(notes, first.from) == b'#' {
+        print(line);
+        return true;
+    }
+    false
 }
 
-fn with_long(line: &[u8], notes: &mut [u64], data: &mut [u8], desk: Desk) -> Desk {
-    let mut after = desk;
-    after.long = long_words(line, notes, data, desk.long);
-    after
-}
-
-fn long_words(line: &[u8], notes: &mut [u64], data: &mut [u8], long: LongMessages) -> LongMessages {
-    let mut storage = long.storage;
-    let state = messages::words(line, notes, data, &mut storage, long.state);
-    LongMessages { state, storage }
-}
-
-fn with_fast(line: &[u8], notes: &mut [u64], data: &mut [u8], desk: Desk) -> Desk {
-    let mut after = desk;
-    after.fast = fast_words(line, notes, data, desk.fast);
-    after
-}
-
-fn fast_words(line: &[u8], notes: &mut [u64], data: &mut [u8], fast: FastPackets) -> FastPackets {
-    let mut storage = fast.storage;
-    let state = fast_packets::words(line, notes, data, &mut storage, fast.state);
-    FastPackets { state, storage }
-}
-
-fn with_claim(line: &[u8], notes: &mut [u64], data: &mut [u8], desk: Desk) -> Desk {
-    let mut after = desk;
-    after.claim = claims::words(line, notes, data, desk.claim);
-    after
-}
-
-fn with_table(line: &[u8], notes: &mut [u64], data: &mut [u8], desk: Desk) -> Desk {
-    let mut after = desk;
-    let before = desk.table;
-    let table = node_table::words(line, notes, data, before);
-    after.table = table;
-    after
-}
-
-fn with_hosting(line: &[u8], notes: &mut [u64], data: &mut [u8], desk: Desk) -> Desk {
-    let mut after = desk;
-    after.hosting = commands::words(line, notes, data, desk.claim, desk.hosting);
-    after
-}
-
-fn with_rows(line: &[u8], notes: &mut [u64], data: &mut [u8], desk: Desk) -> Desk {
-    let mut after = desk;
-    after.rows = rows_words(line, notes, data, desk.rows);
-    after
-}
-
-fn rows_words(line: &[u8], notes: &mut [u64], data: &mut [u8], rows: Rows) -> Rows {
-    let mut packed = rows.packed;
-    let row = fields::words(line, notes, data, &mut packed, rows.row);
-    Rows { row, packed }
-}
-
-fn with_cutter(line: &[u8], notes: &mut [u64], data: &mut [u8], desk: Desk) -> Desk {
-    let mut after = desk;
-    after.cutter = captures::words(line, notes, data, desk.cutter);
-    after
-}
-
-// A line that begins with # is printed as it is.
-fn title(line: &[u8]) {
+fn print(line: &[u8]) {
     say::text(line);
     say::text(b"\n");
 }
 
 // The line before its answer, for a script.
 fn echo(line: &[u8], notes: &[u64]) {
-    if get(notes, notes::ECHO) == 0 {
-        return;
-    }
-    say::text(b"> ");
-    say::text(line);
-    say::text(b"\n");
-}
-
-// The console's own words.
-fn console_words(line: &[u8], notes: &mut [u64], data: &mut [u8]) {
-    if asked(line, b"echo") {
-        return set_echo(line, notes, data);
-    }
-    if asked(line, b"help") {
-        return help(line);
-    }
-    say::unknown();
-}
-
-fn set_echo(line: &[u8], notes: &mut [u64], data: &mut [u8]) {
-    if words::arguments(line, notes, data, b"t") {
-        let on = get(notes, notes::FIRST);
-        put(notes, notes::ECHO, on);
+    if get(notes, notes::ECHO) != 0 {
+        say::text(b"> ");
+        print(line);
     }
 }
 
-fn help(line: &[u8]) {
-    if !words::ends_here(line, 1) {
-        return;
+// A call is answered by the part of the library that it is about; other lines set or show state, or ask for a number.
+fn heed(notes: &mut [u64], desk: Desk) -> Desk {
+    let part = calls::part(notes);
+    let n = calls::asked(notes, part);
+    if n == words::NONE {
+        return others(notes, desk);
     }
+    let mut data = notes::typed(notes);
+    let count = notes::typed_count(notes, &data);
+    answer(notes, &mut data[..count], desk, part, n)
+}
+
+fn answer(notes: &mut [u64], bytes: &mut [u8], desk: Desk, part: usize, n: usize) -> Desk {
+    match part {
+        1 => with_long(notes, bytes, desk, n),
+        2 => with_fast(notes, bytes, desk, n),
+        3 => with_packed(notes, bytes, desk, n),
+        _ => {
+            answer_alone(notes, bytes, part, n);
+            desk
+        }
+    }
+}
+
+fn with_long(notes: &mut [u64], bytes: &[u8], desk: Desk, n: usize) -> Desk {
+    let mut after = desk;
+    let mut long = desk.long;
+    messages::call(n, notes, bytes, &mut long);
+    after.long = long;
+    after
+}
+
+fn with_fast(notes: &mut [u64], bytes: &[u8], desk: Desk, n: usize) -> Desk {
+    let mut after = desk;
+    let mut fast = desk.fast;
+    fast_packets::call(n, notes, bytes, &mut fast);
+    after.fast = fast;
+    after
+}
+
+fn with_packed(notes: &mut [u64], bytes: &mut [u8], desk: Desk, n: usize) -> Desk {
+    let mut after = desk;
+    let mut packed = desk.packed;
+    fields::call(n, notes, bytes, &mut packed);
+    after.packed = packed;
+    after
+}
+
+// The parts that need no storage and no packed rows.
+fn answer_alone(notes: &mut [u64], bytes: &[u8], part: usize, n: usize) {
+    match part {
+        0 => frames::call(n, notes, bytes),
+        4 => claims::call(n, notes, bytes),
+        5 => node_table::call(n, notes, bytes),
+        6 => commands::call(n, notes, bytes),
+        7 => captures::call(n, notes, bytes),
+        _ => exercises::call(n, notes, bytes),
+    }
+}
+
+// A line that asks for no call.
+fn others(notes: &mut [u64], desk: Desk) -> Desk {
+    match words::asked(notes, b"set show") {
+        0 => set(notes, desk),
+        1 => {
+            show(notes, desk);
+            desk
+        }
+        _ => {
+            console_words(notes);
+            desk
+        }
+    }
+}
+
+// `set message.storage[5] 7`, `set catalogue.packed[0] 0x0EF0000080`; and what stands in the notes.
+fn set(notes: &mut [u64], desk: Desk) -> Desk {
+    match words::find_state(notes, b"message.storage fast.storage catalogue.packed") {
+        0 => set_long(notes, desk),
+        1 => set_fast(notes, desk),
+        2 => set_packed(notes, desk),
+        _ => {
+            state::set(notes);
+            desk
+        }
+    }
+}
+
+fn set_long(notes: &mut [u64], desk: Desk) -> Desk {
+    let mut after = desk;
+    let mut long = desk.long;
+    state::set_byte(notes, &mut long);
+    after.long = long;
+    after
+}
+
+fn set_fast(notes: &mut [u64], desk: Desk) -> Desk {
+    let mut after = desk;
+    let mut fast = desk.fast;
+    state::set_byte(notes, &mut fast);
+    after.fast = fast;
+    after
+}
+
+fn set_packed(notes: &mut [u64], desk: Desk) -> Desk {
+    let mut after = desk;
+    let mut packed = desk.packed;
+    state::set_packed(notes, &mut packed);
+    after.packed = packed;
+    after
+}
+
+// `show claim`.
+fn show(notes: &[u64], desk: Desk) {
+    let more = words::nth_word(notes, 2);
+    if more.from < more.to {
+        return say::unknown();
+    }
+    match words::find_state(notes, b"message fast") {
+        0 => {
+            let long = desk.long;
+            messages::show(notes, &long)
+        }
+        1 => {
+            let fast = desk.fast;
+            fast_packets::show(notes, &fast)
+        }
+        _ => show_noted(notes),
+    }
+}
+
+fn show_noted(notes: &[u64]) {
+    match words::find_state(notes, b"catalogue claim nodes command capture") {
+        0 => fields::show(notes),
+        1 => claims::show(notes),
+        2 => node_table::show(notes),
+        3 => commands::show(notes),
+        4 => captures::show(notes),
+        _ => say::unknown(),
+    }
+}
+
+// The console's own words, and the numbers of refusals.
+fn console_words(notes: &mut [u64]) {
+    let n = words::asked(notes, b"echo help");
+    match arguments::called(notes, b"t .", 0, n) {
+        0 => {
+            let on = get(notes, notes::FIRST);
+            put(notes, notes::ECHO, on);
+        }
+        1 => help(),
+        words::NONE => calls::refusals(notes),
+        _ => {}
+    }
+}
+
+fn help() {
     say::text(
-        b"Type a call by its name in README's table, and its arguments: frame::take_apart(0x19FECA54)\n",
+        b"Type a call by its name in README's table, and its arguments: frame::take_apart(0x19FECA54)\n\
+          Numbers: 84, 0x54, 54h, true. Bytes: 20090002FFEBFE00, \"text\", - for none, that for the last eight.\n\
+          The state is the console's own: set claim.wait 251 changes it, show claim prints it.\n\
+          docs/CONSOLE.md has all words.\n",
     );
-    say::text(
-        b"Numbers: 84, 0x54, 54h, true. Bytes: 20090002FFEBFE00, \"text\", - for none, that for the last eight.\n",
-    );
-    say::text(
-        b"The state is the console's own: set claim.wait 251 changes it, show claim prints it.\n",
-    );
-    say::text(b"docs/CONSOLE.md has all words.\n");
 }

@@ -11,17 +11,69 @@ pub fn text(text: &[u8]) {
     io::write_all(STDOUT_FILENO, text);
 }
 
-// A number with what it is.
-pub fn number(label: &[u8], value: u64) {
-    text(label);
-    io::print_decimal(STDOUT_FILENO, value);
+// A pattern with numbers, taken from a place on: `#` is one in decimal digits, `%` an address, `~` a DGN, `^` an
+// identifier and `@` a NAME, all in hexadecimal digits, `?` true or false. Every other character is printed as it is.
+pub fn form(pattern: &[u8], numbers: &[u64], at: usize) {
+    let mut next = at;
+    let mut i: usize = 0;
+    while i < pattern.len() {
+        if piece(pattern[i], get(numbers, next)) {
+            next = wrapping_add_usize(next, 1);
+        }
+        i += 1;
+    }
 }
 
-// A number in hexadecimal digits, with what it is.
-pub fn hex(label: &[u8], value: u64, width: usize) {
-    text(label);
+// A character of a pattern, and whether it was the number.
+fn piece(c: u8, number: u64) -> bool {
+    match c {
+        b'#' => decimal(number),
+        b'%' => hex(number, 2),
+        b'~' => hex(number, 5),
+        b'^' => hex(number, 8),
+        b'@' => hex(number, 16),
+        b'?' => word(b"false true", number as usize),
+        _ => {
+            character(c);
+            return false;
+        }
+    }
+    true
+}
+
+// A pattern with one number.
+pub fn number(pattern: &[u8], number: u64) {
+    let numbers = [number];
+    form(pattern, &numbers, 0);
+}
+
+// One of these words, counted from 0.
+pub fn word(words: &[u8], n: usize) {
+    let word = words::nth_name(words, 0, n);
+    characters(words, word.from, word.to);
+}
+
+// Characters of a text.
+pub fn characters(text: &[u8], from: usize, to: usize) {
+    let mut i = from;
+    while i < to {
+        character(byte_at(text, i));
+        i += 1;
+    }
+}
+
+fn character(c: u8) {
+    let one = [c];
+    text(&one);
+}
+
+fn decimal(number: u64) {
+    io::print_decimal(STDOUT_FILENO, number);
+}
+
+fn hex(number: u64, width: usize) {
     text(b"0x");
-    io::print_hex(STDOUT_FILENO, value, width);
+    io::print_hex(STDOUT_FILENO, number, width);
 }
 
 // A number that may be negative.
@@ -33,10 +85,6 @@ pub fn signed(number: i64) {
         return;
     }
     decimal(number as u64);
-}
-
-fn decimal(number: u64) {
-    io::print_decimal(STDOUT_FILENO, number);
 }
 
 fn byte(byte: u8) {
@@ -54,8 +102,7 @@ pub fn bytes(label: &[u8], bytes: &[u8]) {
 }
 
 // Some bytes of a storage, from a place on; 0 past its end.
-pub fn stretch(label: &[u8], storage: &[u8], from: usize, count: usize) {
-    text(label);
+pub fn stretch(storage: &[u8], from: usize, count: usize) {
     let mut i: usize = 0;
     while i < count {
         byte(byte_at(storage, wrapping_add_usize(from, i)));
@@ -65,55 +112,22 @@ pub fn stretch(label: &[u8], storage: &[u8], from: usize, count: usize) {
 
 // Eight bytes that a call gave. They are noted, and the word `that` means them in the next line.
 pub fn eight(notes: &mut [u64], label: &[u8], eight: [u8; 8]) {
-    note_eight(notes, eight);
+    put(notes, notes::THAT, frame::number_of(eight));
     bytes(label, &eight);
-}
-
-fn note_eight(notes: &mut [u64], eight: [u8; 8]) {
-    note(notes, notes::THAT, eight[0]);
-    note(notes, notes::THAT + 1, eight[1]);
-    note(notes, notes::THAT + 2, eight[2]);
-    note(notes, notes::THAT + 3, eight[3]);
-    note(notes, notes::THAT + 4, eight[4]);
-    note(notes, notes::THAT + 5, eight[5]);
-    note(notes, notes::THAT + 6, eight[6]);
-    note(notes, notes::THAT + 7, eight[7]);
-}
-
-fn note(notes: &mut [u64], at: usize, byte: u8) {
-    put(notes, at, byte as u64);
 }
 
 // A frame that stands beside an answer.
 pub fn frame(notes: &mut [u64], id: u32, bytes: [u8; 8]) {
-    hex(b" id=", id as u64, 8);
+    number(b" id=^", id as u64);
     eight(notes, b" bytes=", bytes);
-}
-
-pub fn truth(label: &[u8], value: bool) {
-    text(label);
-    if value {
-        text(b"true");
-        return;
-    }
-    text(b"false");
 }
 
 // The end of an answer: the number of its refusal, which is noted, and the end of the line.
 pub fn end(notes: &mut [u64], kind: usize, refusal: u8) {
     put(notes, kind, refusal as u64);
     if refusal != 0 {
-        number(b", refusal ", refusal as u64);
+        number(b", refusal #", refusal as u64);
     }
-    text(b"\n");
-}
-
-// The number of the last answer of a kind.
-pub fn refusal(line: &[u8], notes: &[u64], kind: usize) {
-    if !words::ends_here(line, 1) {
-        return;
-    }
-    number(b"", get(notes, kind));
     text(b"\n");
 }
 
@@ -124,8 +138,7 @@ pub fn unknown() {
 
 // What is wrong with a line, and at which of its words, counted from 0.
 pub fn malformed(n: usize, why: &[u8]) {
-    number(b"malformed, word ", n as u64);
-    text(b": ");
+    number(b"malformed, word #: ", n as u64);
     text(why);
     text(b"\n");
 }

@@ -7,11 +7,10 @@ use Rattle.console.proofs.exercises.long_message.Statement.{statement}
 use Rattle.console.proofs.exercises.long_message.Tie as tie
 
 abbrev Inv-loop : tie.InvT-loop
-Inv-loop whole storage₀ heard₀ number₀ t11 t12 storage heard number =
-    (number ≤ 255) × (length storage ≡ length storage₀)
+Inv-loop whole storage₀ heard₀ number₀ t11 storage heard number = (number ≤ 255) × (length storage ≡ length storage₀)
 
 abbrev μ-loop : tie.MeasureT-loop
-μ-loop whole storage₀ heard₀ number₀ t11 t12 storage heard number = 255 - number
+μ-loop whole storage₀ heard₀ number₀ t11 storage heard number = 255 - number
 
 announcement-requires : tie.Need-announcement-requires Inv-loop μ-loop
 announcement-requires c κs = search needs
@@ -52,23 +51,11 @@ loop-less c = search needs
 loop-again : tie.Need-loop-again Inv-loop μ-loop
 loop-again c = search needs
 
-slice-aggregate-number : tie.Need-slice-aggregate-number Inv-loop μ-loop
-slice-aggregate-number c = search needs
+slice-aggregate-joined : tie.Need-slice-aggregate-joined Inv-loop μ-loop
+slice-aggregate-joined c = search needs
 
-number-requires : tie.Need-number-requires Inv-loop μ-loop
-number-requires c κs = search needs
-
-slice-aggregate-number-2 : tie.Need-slice-aggregate-number-2 Inv-loop μ-loop
-slice-aggregate-number-2 c = search needs
-
-cast-number : tie.Need-cast-number Inv-loop μ-loop
-cast-number c = search needs
-
-number-requires-2 : tie.Need-number-requires-2 Inv-loop μ-loop
-number-requires-2 c κs = search needs
-
-same-requires : tie.Need-same-requires Inv-loop μ-loop
-same-requires c κs = search needs
+joined-requires : tie.Need-joined-requires Inv-loop μ-loop
+joined-requires c κs = search needs
 
 same-length : tie.Need-same-length Inv-loop μ-loop
 same-length c = search needs
@@ -95,11 +82,7 @@ long-message-spec =
     hear-requires-2
     loop-less
     loop-again
-    slice-aggregate-number
-    number-requires
-    slice-aggregate-number-2
-    cast-number
-    number-requires-2
-    same-requires
+    slice-aggregate-joined
+    joined-requires
     same-length
     returns-2)

@@ -15,11 +15,8 @@ abbrev μ-loop : tie.MeasureT-loop
 loop-holds : tie.Need-loop-holds Inv-loop μ-loop
 loop-holds c = search needs
 
-wrapping-add-usize-requires : tie.Need-wrapping-add-usize-requires Inv-loop μ-loop
-wrapping-add-usize-requires c κs = search needs
-
-get-u32-requires : tie.Need-get-u32-requires Inv-loop μ-loop
-get-u32-requires c κs = search needs
+field-u32-requires : tie.Need-field-u32-requires Inv-loop μ-loop
+field-u32-requires c κs = search needs
 
 mul-list : tie.Need-mul-list Inv-loop μ-loop
 mul-list c = search needs
@@ -46,8 +43,7 @@ typed-list-spec =
     Inv-loop
     μ-loop
     loop-holds
-    wrapping-add-usize-requires
-    get-u32-requires
+    field-u32-requires
     mul-list
     array-write-list
     add-i

@@ -5,13 +5,10 @@ use Rattle.console.proofs.say.stretch.Statement.{statement}
 use Rattle.console.proofs.say.stretch.Tie as tie
 
 abbrev Inv-loop : tie.InvT-loop
-Inv-loop label storage from count i₀ i = 0 ≤ i
+Inv-loop storage from count i₀ i = 0 ≤ i
 
 abbrev μ-loop : tie.MeasureT-loop
-μ-loop label storage from count i₀ i = count - i
-
-text-requires : tie.Need-text-requires Inv-loop μ-loop
-text-requires c κs = search needs
+μ-loop storage from count i₀ i = count - i
 
 loop-holds : tie.Need-loop-holds Inv-loop μ-loop
 loop-holds c = search needs
@@ -43,7 +40,6 @@ stretch-spec =
     (tie.spec
     Inv-loop
     μ-loop
-    text-requires
     loop-holds
     wrapping-add-usize-requires
     byte-at-requires

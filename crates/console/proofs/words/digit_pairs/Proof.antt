@@ -6,10 +6,13 @@ use Rattle.console.proofs.words.digit_pairs.Statement.{statement}
 use Rattle.console.proofs.words.digit_pairs.Tie as tie
 
 abbrev Inv-loop : tie.InvT-loop
-Inv-loop line data₀ word p₀ left₀ «data» p left = length «data» ≡ length data₀
+Inv-loop notes₀ word p₀ left₀ notes p left = length notes ≡ length notes₀
 
 abbrev μ-loop : tie.MeasureT-loop
-μ-loop line data₀ word p₀ left₀ «data» p left = left
+μ-loop notes₀ word p₀ left₀ notes p left = left
+
+length-requires : tie.Need-length-requires Inv-loop μ-loop
+length-requires c κs = search needs
 
 loop-holds : tie.Need-loop-holds Inv-loop μ-loop
 loop-holds c = search needs
@@ -41,6 +44,7 @@ digit-pairs-spec =
     (tie.spec
     Inv-loop
     μ-loop
+    length-requires
     loop-holds
     pair-requires
     sub-left

@@ -5,10 +5,10 @@ use Rattle.console.proofs.words.digits.Statement.{statement}
 use Rattle.console.proofs.words.digits.Tie as tie
 
 abbrev Inv-loop : tie.InvT-loop
-Inv-loop line from to hexadecimal number₀ i₀ number i = 0 ≤ i
+Inv-loop notes from to hexadecimal number₀ i₀ number i = 0 ≤ i
 
 abbrev μ-loop : tie.MeasureT-loop
-μ-loop line from to hexadecimal number₀ i₀ number i = to - i
+μ-loop notes from to hexadecimal number₀ i₀ number i = to - i
 
 loop-holds : tie.Need-loop-holds Inv-loop μ-loop
 loop-holds c = search needs
@@ -16,8 +16,8 @@ loop-holds c = search needs
 returns : tie.Need-returns Inv-loop μ-loop
 returns c = search needs
 
-byte-at-requires : tie.Need-byte-at-requires Inv-loop μ-loop
-byte-at-requires c κs = search needs
+letter-requires : tie.Need-letter-requires Inv-loop μ-loop
+letter-requires c κs = search needs
 
 digit-requires : tie.Need-digit-requires Inv-loop μ-loop
 digit-requires c κs = search needs
@@ -45,7 +45,7 @@ digits-spec =
     μ-loop
     loop-holds
     returns
-    byte-at-requires
+    letter-requires
     digit-requires
     with-digit-requires
     add-i

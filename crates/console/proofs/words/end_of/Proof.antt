@@ -1,21 +1,23 @@
 -- `console::words::end_of` is safe and ends. Assumes nothing.
 use Prim.Native.Nat.{_≤_, _-_}
 use borrow.Author.Needs.{needs}
-use lib.ListN.{length}
 use Rattle.console.proofs.words.end_of.Statement.{statement}
 use Rattle.console.proofs.words.end_of.Tie as tie
 
 abbrev Inv-loop : tie.InvT-loop
-Inv-loop line at quoted₀ i₀ quoted i = 0 ≤ i
+Inv-loop notes at end quoted₀ i₀ quoted i = 0 ≤ i
 
 abbrev μ-loop : tie.MeasureT-loop
-μ-loop line at quoted₀ i₀ quoted i = length line - i
+μ-loop notes at end quoted₀ i₀ quoted i = end - i
+
+length-requires : tie.Need-length-requires Inv-loop μ-loop
+length-requires c κs = search needs
 
 loop-holds : tie.Need-loop-holds Inv-loop μ-loop
 loop-holds c = search needs
 
-shared-slice-read-c : tie.Need-shared-slice-read-c Inv-loop μ-loop
-shared-slice-read-c c = search needs
+letter-requires : tie.Need-letter-requires Inv-loop μ-loop
+letter-requires c κs = search needs
 
 ends-word-requires : tie.Need-ends-word-requires Inv-loop μ-loop
 ends-word-requires c κs = search needs
@@ -41,8 +43,9 @@ end-of-spec =
     (tie.spec
     Inv-loop
     μ-loop
+    length-requires
     loop-holds
-    shared-slice-read-c
+    letter-requires
     ends-word-requires
     returns
     add-i

@@ -5,16 +5,16 @@ use Rattle.console.proofs.words.find_word.Statement.{statement}
 use Rattle.console.proofs.words.find_word.Tie as tie
 
 abbrev Inv-loop : tie.InvT-loop
-Inv-loop line word names n₀ n = n ≤ 64
+Inv-loop notes word lists list n₀ n = n ≤ 64
 
 abbrev μ-loop : tie.MeasureT-loop
-μ-loop line word names n₀ n = 64 - n
+μ-loop notes word lists list n₀ n = 64 - n
 
 loop-holds : tie.Need-loop-holds Inv-loop μ-loop
 loop-holds c = search needs
 
-nth-word-requires : tie.Need-nth-word-requires Inv-loop μ-loop
-nth-word-requires c κs = search needs
+nth-name-requires : tie.Need-nth-name-requires Inv-loop μ-loop
+nth-name-requires c κs = search needs
 
 returns : tie.Need-returns Inv-loop μ-loop
 returns c = search needs
@@ -44,7 +44,7 @@ find-word-spec =
     Inv-loop
     μ-loop
     loop-holds
-    nth-word-requires
+    nth-name-requires
     returns
     same-requires
     returns-2

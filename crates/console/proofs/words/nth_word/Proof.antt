@@ -5,10 +5,10 @@ use Rattle.console.proofs.words.nth_word.Statement.{statement}
 use Rattle.console.proofs.words.nth_word.Tie as tie
 
 abbrev Inv-loop : tie.InvT-loop
-Inv-loop line n from₀ to₀ left₀ from to left = 0 ≤ left
+Inv-loop notes n from₀ to₀ left₀ from to left = 0 ≤ left
 
 abbrev μ-loop : tie.MeasureT-loop
-μ-loop line n from₀ to₀ left₀ from to left = left
+μ-loop notes n from₀ to₀ left₀ from to left = left
 
 past-blanks-requires : tie.Need-past-blanks-requires Inv-loop μ-loop
 past-blanks-requires c κs = search needs

@@ -1,21 +1,23 @@
 -- `console::words::past_blanks` is safe and ends. Assumes nothing.
 use Prim.Native.Nat.{_≤_, _-_}
 use borrow.Author.Needs.{needs}
-use lib.ListN.{length}
 use Rattle.console.proofs.words.past_blanks.Statement.{statement}
 use Rattle.console.proofs.words.past_blanks.Tie as tie
 
 abbrev Inv-loop : tie.InvT-loop
-Inv-loop line at i₀ i = 0 ≤ i
+Inv-loop notes at end i₀ i = 0 ≤ i
 
 abbrev μ-loop : tie.MeasureT-loop
-μ-loop line at i₀ i = length line - i
+μ-loop notes at end i₀ i = end - i
+
+length-requires : tie.Need-length-requires Inv-loop μ-loop
+length-requires c κs = search needs
 
 loop-holds : tie.Need-loop-holds Inv-loop μ-loop
 loop-holds c = search needs
 
-shared-slice-read-is-blank : tie.Need-shared-slice-read-is-blank Inv-loop μ-loop
-shared-slice-read-is-blank c = search needs
+letter-requires : tie.Need-letter-requires Inv-loop μ-loop
+letter-requires c κs = search needs
 
 is-blank-requires : tie.Need-is-blank-requires Inv-loop μ-loop
 is-blank-requires c κs = search needs
@@ -41,8 +43,9 @@ past-blanks-spec =
     (tie.spec
     Inv-loop
     μ-loop
+    length-requires
     loop-holds
-    shared-slice-read-is-blank
+    letter-requires
     is-blank-requires
     returns
     add-i

@@ -5,10 +5,10 @@ use Rattle.console.proofs.words.same.Statement.{statement}
 use Rattle.console.proofs.words.same.Tie as tie
 
 abbrev Inv-loop : tie.InvT-loop
-Inv-loop line word other name size i₀ i = 0 ≤ i
+Inv-loop notes word names name size i₀ i = 0 ≤ i
 
 abbrev μ-loop : tie.MeasureT-loop
-μ-loop line word other name size i₀ i = size - i
+μ-loop notes word names name size i₀ i = size - i
 
 wrapping-sub-usize-requires : tie.Need-wrapping-sub-usize-requires Inv-loop μ-loop
 wrapping-sub-usize-requires c κs = search needs
@@ -25,14 +25,14 @@ loop-holds c = search needs
 wrapping-add-usize-requires : tie.Need-wrapping-add-usize-requires Inv-loop μ-loop
 wrapping-add-usize-requires c κs = search needs
 
-byte-at-requires : tie.Need-byte-at-requires Inv-loop μ-loop
-byte-at-requires c κs = search needs
+letter-requires : tie.Need-letter-requires Inv-loop μ-loop
+letter-requires c κs = search needs
 
 wrapping-add-usize-requires-2 : tie.Need-wrapping-add-usize-requires-2 Inv-loop μ-loop
 wrapping-add-usize-requires-2 c κs = search needs
 
-byte-at-requires-2 : tie.Need-byte-at-requires-2 Inv-loop μ-loop
-byte-at-requires-2 c κs = search needs
+byte-at-requires : tie.Need-byte-at-requires Inv-loop μ-loop
+byte-at-requires c κs = search needs
 
 returns-2 : tie.Need-returns-2 Inv-loop μ-loop
 returns-2 c = search needs
@@ -60,9 +60,9 @@ same-spec =
     returns
     loop-holds
     wrapping-add-usize-requires
-    byte-at-requires
+    letter-requires
     wrapping-add-usize-requires-2
-    byte-at-requires-2
+    byte-at-requires
     returns-2
     add-i
     loop-less

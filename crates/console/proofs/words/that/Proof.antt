@@ -7,19 +7,22 @@ use Rattle.console.proofs.words.that.Statement.{statement}
 use Rattle.console.proofs.words.that.Tie as tie
 
 abbrev Inv-loop : tie.InvT-loop
-Inv-loop notes data₀ i₀ «data» i = (i ≤ 8) × (length «data» ≡ length data₀)
+Inv-loop notes₀ eight i₀ notes i = (i ≤ 8) × ((length eight ≡ 8) × (length notes ≡ length notes₀))
 
 abbrev μ-loop : tie.MeasureT-loop
-μ-loop notes data₀ i₀ «data» i = 8 - i
+μ-loop notes₀ eight i₀ notes i = 8 - i
+
+get-requires : tie.Need-get-requires Inv-loop μ-loop
+get-requires c κs = search needs
+
+bytes-of-requires : tie.Need-bytes-of-requires Inv-loop μ-loop
+bytes-of-requires c κs = search needs
 
 loop-holds : tie.Need-loop-holds Inv-loop μ-loop
 loop-holds c = search needs
 
-wrapping-add-usize-requires : tie.Need-wrapping-add-usize-requires Inv-loop μ-loop
-wrapping-add-usize-requires c κs = search needs
-
-get-u8-requires : tie.Need-get-u8-requires Inv-loop μ-loop
-get-u8-requires c κs = search needs
+array-read-put-byte : tie.Need-array-read-put-byte Inv-loop μ-loop
+array-read-put-byte c = search needs
 
 put-byte-requires : tie.Need-put-byte-requires Inv-loop μ-loop
 put-byte-requires c κs = search needs
@@ -33,6 +36,9 @@ loop-less c = search needs
 loop-again : tie.Need-loop-again Inv-loop μ-loop
 loop-again c = search needs
 
+is-requires : tie.Need-is-requires Inv-loop μ-loop
+is-requires c κs = search needs
+
 same-length : tie.Need-same-length Inv-loop μ-loop
 same-length c = search needs
 
@@ -45,12 +51,14 @@ that-spec =
     (tie.spec
     Inv-loop
     μ-loop
+    get-requires
+    bytes-of-requires
     loop-holds
-    wrapping-add-usize-requires
-    get-u8-requires
+    array-read-put-byte
     put-byte-requires
     add-i
     loop-less
     loop-again
+    is-requires
     same-length
     returns)

@@ -1,0 +1,34 @@
+-- `console::messages::show` is safe and ends. Assumes nothing.
+use Prim.Native.Nat.{_≤_, _-_}
+use borrow.Author.Needs.{needs}
+use Rattle.console.proofs.messages.show.Statement.{statement}
+use Rattle.console.proofs.messages.show.Tie as tie
+
+abbrev Inv-loop : tie.InvT-loop
+Inv-loop notes storage i₀ i = i ≤ 8
+
+abbrev μ-loop : tie.MeasureT-loop
+μ-loop notes storage i₀ i = 8 - i
+
+loop-holds : tie.Need-loop-holds Inv-loop μ-loop
+loop-holds c = search needs
+
+show-place-requires : tie.Need-show-place-requires Inv-loop μ-loop
+show-place-requires c κs = search needs
+
+add-i : tie.Need-add-i Inv-loop μ-loop
+add-i c = search needs
+
+loop-less : tie.Need-loop-less Inv-loop μ-loop
+loop-less c = search needs
+
+loop-again : tie.Need-loop-again Inv-loop μ-loop
+loop-again c = search needs
+
+returns : tie.Need-returns Inv-loop μ-loop
+returns c = search needs
+
+pub show-spec : {M : Type 1} → statement M
+show-spec =
+    tie.close
+    (tie.spec Inv-loop μ-loop loop-holds show-place-requires add-i loop-less loop-again returns)

@@ -1,0 +1,73 @@
+// Every call of the library, part by part, with the shapes of its arguments; and the methods that number a refusal.
+use crate::arguments;
+use crate::notes;
+use crate::say;
+use crate::words;
+use std::num::wrapping_add_usize;
+
+// The parts, in the order of the lists below.
+pub fn part(notes: &[u64]) -> usize {
+    words::part(
+        notes,
+        b"frame message fast catalogue claim nodes command capture exercise",
+    )
+}
+
+// Which call of a part the line asks for, counted from 0, or `words::NONE`. Its arguments are read and noted; where
+// they do not fit, that is said, and there is nothing more to answer.
+pub fn asked(notes: &mut [u64], part: usize) -> usize {
+    let n = words::find(
+        notes,
+        b"take_apart form check destination_of catalogue_form number_of bytes_of dgn_bytes dgn_of |\
+          Receiver::new Receiver::hear Receiver::pause message announcement packet |\
+          Receiver::start Receiver::hear Receiver::pause message frame_of |\
+          rows row_at row_of rows_of packed_rows row_in row_of_in rows_in read read_scaled classify read_row \
+          read_row_scaled write write_row |\
+          Claim::start Claim::hear Claim::pause Claim::stands Claim::our_claim Claim::keeps_rules \
+          Claim::holds_list |\
+          empty hear look_up find_address |\
+          Host::start Host::route Host::request acknowledge |\
+          take_apart write Cutter::new Cutter::next Cutter::last |\
+          long_message fast_packet row |",
+        part,
+    );
+    arguments::called(
+        notes,
+        b"4 141 4b 4 4 e 8 4 111 |\
+          . 4b 2 . b4 b44 |\
+          l 4b 2 . b14 |\
+          . 8 41 4 . 8 41 4 84b 84b 8 4b 4b 84bv 4bv |\
+          8b 4b 2 . . . . |\
+          . 4b 1 8 |\
+          8 4b 4b 1114 |\
+          b 24e . b8 . |\
+          b b1 8 |",
+        part,
+        n,
+    )
+}
+
+// The number of the last answer of a type. The notes of the types stand in this order.
+pub fn refusals(notes: &[u64]) {
+    let n = words::asked(
+        notes,
+        b"frame::Apart::refusal frame::Formed::refusal frame::BadFrame::refusal frame::Verdict::refusal \
+          message::Answer::refusal message::Pausing::refusal message::Unsplittable::refusal \
+          message::Announcing::refusal message::Cutting::refusal \
+          fast::Starting::refusal fast::Answer::refusal fast::Pausing::refusal fast::Cutting::refusal \
+          catalogue::Looked::refusal catalogue::Reading::refusal catalogue::ScaledReading::refusal \
+          catalogue::Writing::refusal \
+          claim::Starting::refusal claim::Hearing::refusal claim::Pausing::refusal claim::Standing::refusal \
+          claim::Sending::refusal \
+          nodes::Heard::refusal nodes::LookedUp::refusal nodes::FoundAddress::refusal \
+          command::Starting::refusal command::Routing::refusal command::Requesting::refusal \
+          command::Acknowledging::refusal \
+          capture::Reading::refusal",
+    );
+    if n == words::NONE {
+        return say::unknown();
+    }
+    if words::ends_here(notes, 1) {
+        say::form(b"#\n", notes, wrapping_add_usize(notes::REFUSALS, n));
+    }
+}
