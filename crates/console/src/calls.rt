@@ -25,7 +25,7 @@ pub fn asked(notes: &mut [u64], part: usize) -> usize {
           read_row_scaled write write_row |\
           Claim::start Claim::hear Claim::pause Claim::stands Claim::our_claim Claim::keeps_rules \
           Claim::holds_list |\
-          empty hear look_up find_address |\
+          empty hear look_up find_address pause find_challenger |\
           Host::start Host::route Host::request acknowledge |\
           take_apart write Cutter::new Cutter::next Cutter::last |\
           long_message fast_packet row |",
@@ -38,7 +38,7 @@ pub fn asked(notes: &mut [u64], part: usize) -> usize {
           l 4b 2 . b14 |\
           . 8 41 4 . 8 41 4 84b 84b 8 4b 4b 84bv 4bv |\
           8b 4b 2 . . . . |\
-          . 4b 1 8 |\
+          . 4b 1 8 2 1 |\
           8 4b 4b 1114 |\
           b 24e . b8 . |\
           b b1 8 |",
@@ -59,7 +59,8 @@ pub fn refusals(notes: &[u64]) {
           catalogue::Writing::refusal \
           claim::Starting::refusal claim::Hearing::refusal claim::Pausing::refusal claim::Standing::refusal \
           claim::Sending::refusal \
-          nodes::Heard::refusal nodes::LookedUp::refusal nodes::FoundAddress::refusal \
+          nodes::Heard::refusal nodes::LookedUp::refusal nodes::FoundAddress::refusal nodes::Pausing::refusal \
+          nodes::FoundChallenger::refusal \
           command::Starting::refusal command::Routing::refusal command::Requesting::refusal \
           command::Acknowledging::refusal \
           capture::Reading::refusal",

@@ -2,23 +2,26 @@
 use crate::frames;
 use crate::notes;
 use crate::notes::field;
+use crate::notes::field_u16;
 use crate::notes::get;
 use crate::notes::get_u8;
+use crate::notes::get_u16;
 use crate::notes::get_u32;
-use crate::notes::put;
+use crate::notes::put_all;
 use crate::notes::record;
 use crate::say;
 use crate::state;
 use nodes::FoundAddress;
+use nodes::FoundChallenger;
 use nodes::Heard;
 use nodes::LookedUp;
 use nodes::Node;
+use nodes::Pausing;
 use nodes::RECORDS;
-use std::num::wrapping_add_usize;
 ghost use mathlib.Core.Path.{_≡_};
 ghost use Prim.Native.Nat.{_≤_};
 ghost use lib.ListN.{take};
-ghost use Rattle.nodes.specs.Promises.{Hear, LookUp, FindAddress};
+ghost use Rattle.nodes.specs.Promises.{Hear, Pause, LookUp, FindAddress, FindChallenger};
 
 // How many records the console keeps.
 pub const MOST_RECORDS: usize = 300;
@@ -29,6 +32,8 @@ pub fn call(n: usize, notes: &mut [u64], bytes: &[u8]) {
         1 => heard(notes, bytes),
         2 => looked_up(notes),
         3 => found_address(notes),
+        4 => paused(notes),
+        5 => found_challenger(notes),
         _ => {}
     }
 }
@@ -42,14 +47,19 @@ fn emptied(notes: &mut [u64]) {
 fn keep_first(notes: &mut [u64], first: [Node; RECORDS]) {
     let mut i: usize = 0;
     while i < RECORDS {
-        keep_node(notes, record(notes::NODES, 2, i), first[i]);
+        keep_node(notes, record(notes::NODES, 4, i), first[i]);
         i += 1;
     }
 }
 
 fn keep_node(notes: &mut [u64], at: usize, node: Node) {
-    put(notes, at, node.present as u64);
-    put(notes, wrapping_add_usize(at, 1), node.name);
+    let four = [
+        node.present as u64,
+        node.name,
+        node.challenger,
+        node.wait as u64,
+    ];
+    put_all(notes, at, &four);
 }
 
 // How many records are lent.
@@ -77,6 +87,7 @@ fn heard(notes: &mut [u64], bytes: &[u8]) {
 fn tell(notes: &mut [u64], answer: Heard) {
     match answer {
         Heard::Taken(address) => say::number(b"Taken %", address as u64),
+        Heard::Challenges(address) => say::number(b"Challenges %", address as u64),
         Heard::HeldByLower(address) => say::number(b"HeldByLower %", address as u64),
         Heard::BadFrame(why) => frames::bad_frame(notes, why),
         _ => say::word(
@@ -92,6 +103,25 @@ fn number(answer: Heard) -> usize {
         Heard::NothingToDo => 1,
         Heard::TableTooShort => 2,
         _ => 3,
+    }
+}
+
+fn paused(notes: &mut [u64]) {
+    let ms = get_u16(notes, notes::FIRST);
+    let after = pause(table(notes), lent(notes), ms);
+    let table = after.table;
+    keep(notes, table);
+    let answer = after.answer;
+    tell_pause(answer);
+    say::end(notes, notes::NODES_PAUSING, answer.refusal());
+    show(notes);
+}
+
+fn tell_pause(answer: Pausing) {
+    match answer {
+        Pausing::Replaced(count) => say::number(b"Replaced #", count as u64),
+        Pausing::TableTooShort => say::text(b"TableTooShort"),
+        Pausing::BrokenTable => say::text(b"BrokenTable"),
     }
 }
 
@@ -117,6 +147,22 @@ fn found_address(notes: &mut [u64]) {
     say::end(notes, notes::NODES_FOUND_ADDRESS, answer.refusal());
 }
 
+fn found_challenger(notes: &mut [u64]) {
+    let answer = find_challenger(table(notes), lent(notes), get_u8(notes, notes::FIRST));
+    match answer {
+        FoundChallenger::Waits(name, wait) => waits(name, wait),
+        FoundChallenger::NoChallenger => say::text(b"NoChallenger"),
+        FoundChallenger::TableTooShort => say::text(b"TableTooShort"),
+        FoundChallenger::BrokenTable => say::text(b"BrokenTable"),
+    }
+    say::end(notes, notes::NODES_FOUND_CHALLENGER, answer.refusal());
+}
+
+fn waits(name: u64, wait: u16) {
+    let two = [name, wait as u64];
+    say::form(b"Waits name=@ wait=#", &two, 0);
+}
+
 // A table after a frame, and what was answered.
 struct After {
     table: [Node; 300],
@@ -139,6 +185,28 @@ fn left(table: [Node; 300], answer: Heard) -> After
     After { table, answer }
 }
 
+// A table after a pause, and what was answered.
+struct AfterPause {
+    table: [Node; 300],
+    answer: Pausing,
+}
+
+// Time passes for the first `size` records of a table.
+fn pause(table: [Node; 300], size: usize, ms: u16) -> AfterPause
+    requires { ⌜ size ≤ 300 ⌝ }
+    ensures { λ r. ⌜ Pause (take size table) ms (r .answer) (take size (r .table)) ⌝ }
+{
+    let mut lent = table;
+    let answer = nodes::pause(&mut lent[..size], ms);
+    left_waiting(lent, answer)
+}
+
+fn left_waiting(table: [Node; 300], answer: Pausing) -> AfterPause
+    ensures { λ r. ⌜ (r .table ≡ table) × (r .answer ≡ answer) ⌝ }
+{
+    AfterPause { table, answer }
+}
+
 // Who has an address in the first `size` records of a table.
 fn look_up(table: [Node; 300], size: usize, address: u8) -> LookedUp
     requires { ⌜ size ≤ 300 ⌝ }
@@ -157,12 +225,21 @@ fn find_address(table: [Node; 300], size: usize, name: u64) -> FoundAddress
     nodes::find_address(&lent[..size], name)
 }
 
+// Who challenges the holder of an address in the first `size` records of a table.
+fn find_challenger(table: [Node; 300], size: usize, address: u8) -> FoundChallenger
+    requires { ⌜ size ≤ 300 ⌝ }
+    ensures { λ r. ⌜ FindChallenger (take size table) address r ⌝ }
+{
+    let lent = table;
+    nodes::find_challenger(&lent[..size], address)
+}
+
 // The table of the notes.
 fn table(notes: &[u64]) -> [Node; MOST_RECORDS] {
     let mut table = [node(notes, notes::NODES); MOST_RECORDS];
     let mut i: usize = 0;
     while i < MOST_RECORDS {
-        table[i] = node(notes, record(notes::NODES, 2, i));
+        table[i] = node(notes, record(notes::NODES, 4, i));
         i += 1;
     }
     table
@@ -172,6 +249,8 @@ fn node(notes: &[u64], at: usize) -> Node {
     Node {
         present: get(notes, at) != 0,
         name: field(notes, at, 1),
+        challenger: field(notes, at, 2),
+        wait: field_u16(notes, at, 3),
     }
 }
 
@@ -179,7 +258,7 @@ fn node(notes: &[u64], at: usize) -> Node {
 fn keep(notes: &mut [u64], table: [Node; MOST_RECORDS]) {
     let mut i: usize = 0;
     while i < MOST_RECORDS {
-        keep_node(notes, record(notes::NODES, 2, i), table[i]);
+        keep_node(notes, record(notes::NODES, 4, i), table[i]);
         i += 1;
     }
 }
@@ -189,9 +268,9 @@ pub fn show(notes: &[u64]) {
     state::show_all(
         notes,
         b"  nodes[%",
-        b"] present=? name=@\n",
+        b"] present=? name=@ challenger=@ wait=#\n",
         notes::NODES,
-        2,
+        4,
         MOST_RECORDS,
     );
 }

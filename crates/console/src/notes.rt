@@ -100,15 +100,19 @@ pub const NODES_LOOKED_UP: usize = 55;
 
 pub const NODES_FOUND_ADDRESS: usize = 56;
 
-pub const COMMAND_STARTING: usize = 57;
+pub const NODES_PAUSING: usize = 57;
 
-pub const COMMAND_ROUTING: usize = 58;
+pub const NODES_FOUND_CHALLENGER: usize = 58;
 
-pub const COMMAND_REQUESTING: usize = 59;
+pub const COMMAND_STARTING: usize = 59;
 
-pub const COMMAND_ACKNOWLEDGING: usize = 60;
+pub const COMMAND_ROUTING: usize = 60;
 
-pub const CAPTURE_READING: usize = 61;
+pub const COMMAND_REQUESTING: usize = 61;
+
+pub const COMMAND_ACKNOWLEDGING: usize = 62;
+
+pub const CAPTURE_READING: usize = 63;
 
 // The numbers of a list that was typed, up to 32.
 pub const NUMBERS: usize = 64;
@@ -154,7 +158,7 @@ pub const ENTRIES: usize = 360;
 
 pub const HOST_ENTRIES: usize = 424;
 
-// The node table: 300 records of present, name.
+// The node table: 300 records of present, name, challenger, wait.
 pub const NODES: usize = 500;
 
 // The bytes that were typed, up to 2,048.

@@ -192,7 +192,13 @@ fn set_record(notes: &mut [u64]) {
     match find_state(notes, b"command.entries command.host.entries nodes") {
         0 => set_entry(notes, notes::ENTRIES),
         1 => set_entry(notes, notes::HOST_ENTRIES),
-        2 => set_field(notes, b".present .name", b"t8", notes::NODES, MOST_RECORDS),
+        2 => set_field(
+            notes,
+            b".present .name .challenger .wait",
+            b"t882",
+            notes::NODES,
+            MOST_RECORDS,
+        ),
         _ => say::unknown(),
     }
 }

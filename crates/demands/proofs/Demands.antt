@@ -7,7 +7,9 @@ use Rattle.fast.proofs.KeepsPlaces as FastKeepsPlaces
 use Rattle.fast.proofs.Joined as FastJoined
 use Rattle.catalogue.proofs.Laws as Catalogue
 use Rattle.claim.proofs.Laws as Claim
+use Rattle.nodes.proofs.Challenge as NodesChallenge
 use Rattle.nodes.proofs.Laws as Nodes
+use Rattle.nodes.proofs.Runs as NodesRuns
 use Rattle.command.proofs.Laws as Command
 use Rattle.capture.proofs.Laws as Capture
 use Rattle.capture.proofs.Feeding as Feeding
@@ -37,6 +39,7 @@ demand-one =
       claim-pause = Claim.pause-refused-keeps;
       our-claim = Claim.our-claim-refused-keeps;
       nodes = Nodes.hear-refused-keeps;
+      nodes-pause = Nodes.pause-refused-keeps;
       host-start = Command.start-refused-keeps;
       route = Command.route-refused-keeps;
       request = Command.request-refused-keeps;
@@ -68,6 +71,14 @@ demand-two =
       fast-split-and-join = FastSplitAndJoin.split-and-join;
       fast-joined-by-rules = FastJoined.joined-by-rules;
       claim-is-heard = ClaimsHeard.claim-is-heard;
+      nodes-run = NodesRuns.run-by-record;
+      nodes-every-run-runs = NodesRuns.every-run-runs;
+      challenge-waits = NodesChallenge.challenge-waits;
+      challenge-takes = NodesChallenge.challenge-takes;
+      holder-leaves = NodesChallenge.holder-leaves;
+      takes-only-so = NodesChallenge.takes-only-so;
+      challenge-entered = NodesChallenge.challenge-entered;
+      holder-stays = NodesChallenge.holder-stays;
       written-taken-apart = Capture.written-taken-apart;
       taken-apart-written = Capture.taken-apart-written;
       blocks-do-not-matter = Feeding.blocks-do-not-matter;

@@ -82,11 +82,15 @@ use Rattle.nodes.specs.Promises as nodes-promises
 use Rattle.nodes.proofs.Laws as Nodes
 use Rattle.nodes.proofs.empty.Met as nodes-empty
 use Rattle.nodes.proofs.hear.Met as nodes-hear
+use Rattle.nodes.proofs.pause.Met as nodes-pause
 use Rattle.nodes.proofs.look_up.Met as nodes-look-up
 use Rattle.nodes.proofs.find_address.Met as nodes-find-address
+use Rattle.nodes.proofs.find_challenger.Met as nodes-find-challenger
 use Rattle.nodes.proofs.Heard.refusal.Met as nodes-heard-refusal
+use Rattle.nodes.proofs.Pausing.refusal.Met as nodes-pausing-refusal
 use Rattle.nodes.proofs.LookedUp.refusal.Met as nodes-looked-up-refusal
 use Rattle.nodes.proofs.FoundAddress.refusal.Met as nodes-found-address-refusal
+use Rattle.nodes.proofs.FoundChallenger.refusal.Met as nodes-found-challenger-refusal
 use Rattle.command.specs.Promises as command-promises
 use Rattle.command.proofs.Laws as Command
 use Rattle.command.proofs.Host.start.Met as command-start
@@ -665,6 +669,15 @@ every-call M =
             (Nodes.hear-only (now (a .0)) (a .1 .0) (now (a .1 .1 .0)) r s (w .0) (v .0) h k);
         only = Nodes.hear-only;
       };
+      nodes-pause = record {
+        meets = nodes-pause.met;
+        asks-nothing = free;
+        Promise = λ κs a r e. nodes-promises.Pause (now (a .0)) (a .1 .0) r (now (e .0));
+        promises = λ 𝓤 H A mem run κs a ghost r. refl;
+        one-answer = λ κs a r s w v h k.
+            lent (λ x. (x, (tt, tt))) (Nodes.pause-only (now (a .0)) (a .1 .0) r s (w .0) (v .0) h k);
+        only = Nodes.pause-only;
+      };
       nodes-look-up = record {
         meets = nodes-look-up.met;
         asks-nothing = free;
@@ -681,6 +694,14 @@ every-call M =
         one-answer = λ κs a r s w v h k. (Nodes.find-address-only (now (a .0)) (a .1 .0) r s h k, refl);
         only = Nodes.find-address-only;
       };
+      nodes-find-challenger = record {
+        meets = nodes-find-challenger.met;
+        asks-nothing = free;
+        Promise = λ κs a r e. nodes-promises.FindChallenger (now (a .0)) (a .1 .0) r;
+        promises = λ 𝓤 H A mem run κs a ghost r. refl;
+        one-answer = λ κs a r s w v h k. (Nodes.find-challenger-only (now (a .0)) (a .1 .0) r s h k, refl);
+        only = Nodes.find-challenger-only;
+      };
       nodes-heard-refusal = record {
         meets = nodes-heard-refusal.met;
         asks-nothing = free;
@@ -688,6 +709,14 @@ every-call M =
         promises = λ 𝓤 H A mem run κs a ghost r. refl;
         one-answer = λ κs a r s w v h k. (Nodes.heard-refusal-only (a .0) r s h k, refl);
         only = Nodes.heard-refusal-only;
+      };
+      nodes-pausing-refusal = record {
+        meets = nodes-pausing-refusal.met;
+        asks-nothing = free;
+        Promise = λ κs a r e. nodes-promises.PausingRefusal (a .0) r;
+        promises = λ 𝓤 H A mem run κs a ghost r. refl;
+        one-answer = λ κs a r s w v h k. (Nodes.pausing-refusal-only (a .0) r s h k, refl);
+        only = Nodes.pausing-refusal-only;
       };
       nodes-looked-up-refusal = record {
         meets = nodes-looked-up-refusal.met;
@@ -704,6 +733,14 @@ every-call M =
         promises = λ 𝓤 H A mem run κs a ghost r. refl;
         one-answer = λ κs a r s w v h k. (Nodes.found-address-refusal-only (a .0) r s h k, refl);
         only = Nodes.found-address-refusal-only;
+      };
+      nodes-found-challenger-refusal = record {
+        meets = nodes-found-challenger-refusal.met;
+        asks-nothing = free;
+        Promise = λ κs a r e. nodes-promises.FoundChallengerRefusal (a .0) r;
+        promises = λ 𝓤 H A mem run κs a ghost r. refl;
+        one-answer = λ κs a r s w v h k. (Nodes.found-challenger-refusal-only (a .0) r s h k, refl);
+        only = Nodes.found-challenger-refusal-only;
       };
       command-start = record {
         meets = command-start.met;

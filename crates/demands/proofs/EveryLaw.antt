@@ -25,9 +25,14 @@ use Rattle.catalogue.proofs.Laws as Catalogue
 use Rattle.claim.proofs.Laws as Claim
 use Rattle.claim.proofs.Machine as ClaimMachine
 use Rattle.nodes.proofs.Blank as NodesBlank
+use Rattle.nodes.proofs.Challenge as NodesChallenge
 use Rattle.nodes.proofs.Find as NodesFind
 use Rattle.nodes.proofs.Kept as NodesKept
 use Rattle.nodes.proofs.Laws as Nodes
+use Rattle.nodes.proofs.Pass as NodesPass
+use Rattle.nodes.proofs.Runs as NodesRuns
+use Rattle.nodes.proofs.Sentences as NodesSentences
+use Rattle.nodes.proofs.Shown as NodesShown
 use Rattle.command.proofs.Laws as Command
 use Rattle.command.proofs.PositionLaws as CommandPositionLaws
 use Rattle.command.proofs.ReplyLaws as CommandReplyLaws
@@ -355,35 +360,59 @@ nodes-laws : NodesLaws
 nodes-laws =
     record {
       told-heard-same = Nodes.told-heard-same;
+      told-pausing-same = Nodes.told-pausing-same;
       told-looked-up-same = Nodes.told-looked-up-same;
       told-found-address-same = Nodes.told-found-address-same;
+      told-found-challenger-same = Nodes.told-found-challenger-same;
       empty-only = Nodes.empty-only;
       hear-only = Nodes.hear-only;
+      pause-only = Nodes.pause-only;
       look-up-only = Nodes.look-up-only;
       find-address-only = Nodes.find-address-only;
+      find-challenger-only = Nodes.find-challenger-only;
       heard-refusal-only = Nodes.heard-refusal-only;
+      pausing-refusal-only = Nodes.pausing-refusal-only;
       looked-up-refusal-only = Nodes.looked-up-refusal-only;
       found-address-refusal-only = Nodes.found-address-refusal-only;
+      found-challenger-refusal-only = Nodes.found-challenger-refusal-only;
       hear-refused-keeps = Nodes.hear-refused-keeps;
+      pause-refused-keeps = Nodes.pause-refused-keeps;
       hear-nothing-keeps = Nodes.hear-nothing-keeps;
       priority-ignored = Nodes.priority-ignored;
       past-untouched = Nodes.past-untouched;
+      pause-past-untouched = Nodes.pause-past-untouched;
       past-unread = Nodes.past-unread;
       length-kept = Nodes.length-kept;
+      pause-length-kept = Nodes.pause-length-kept;
       rules-read = Nodes.rules-read;
       empty-keeps-rules = NodesBlank.empty-keeps-rules;
       empty-has-nobody = NodesBlank.empty-has-nobody;
       empty-has-no-name = NodesBlank.empty-has-no-name;
+      empty-has-no-challenger = NodesBlank.empty-has-no-challenger;
       rules-kept = Nodes.rules-kept;
+      pause-rules-kept = Nodes.pause-rules-kept;
       name-once = NodesKept.name-once;
+      cleared-then-entered = NodesPass.cleared-then-entered;
       taken-by-lower = NodesKept.taken-by-lower;
-      taken-shown = Nodes.taken-shown;
-      held-shown = Nodes.held-shown;
+      every-sentence = NodesSentences.every-sentence;
+      replaced-counts = NodesSentences.replaced-counts;
+      taken-shown = NodesShown.taken-shown;
+      challenges-shown = NodesShown.challenges-shown;
+      held-shown = NodesShown.held-shown;
       found-there = NodesFind.found-there;
       found-nowhere = NodesFind.found-nowhere;
       found-shown = NodesFind.found-shown;
-      taken-found = Nodes.taken-found;
+      taken-found = NodesShown.taken-found;
       lowest-wins = Nodes.lowest-wins;
+      pause-lowest-wins = Nodes.pause-lowest-wins;
+      run-by-record = NodesRuns.run-by-record;
+      every-run-runs = NodesRuns.every-run-runs;
+      challenge-waits = NodesChallenge.challenge-waits;
+      challenge-takes = NodesChallenge.challenge-takes;
+      holder-leaves = NodesChallenge.holder-leaves;
+      takes-only-so = NodesChallenge.takes-only-so;
+      challenge-entered = NodesChallenge.challenge-entered;
+      holder-stays = NodesChallenge.holder-stays;
     }
 
 command-laws : CommandLaws

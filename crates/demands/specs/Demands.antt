@@ -9,6 +9,7 @@ use Rattle.fast.specs.Sending as FastSending
 use Rattle.catalogue.specs.Laws as Catalogue
 use Rattle.claim.specs.Laws as Claim
 use Rattle.nodes.specs.Laws as Nodes
+use Rattle.nodes.specs.Runs as NodesRuns
 use Rattle.command.specs.Laws as Command
 use Rattle.capture.specs.Laws as Capture
 use Rattle.demands.specs.EveryCall.{EveryCall}
@@ -37,6 +38,7 @@ pub record DemandOne : Type 2 where
   pub claim-pause : Claim.PauseRefusedKeeps
   pub our-claim : Claim.OurClaimRefusedKeeps
   pub nodes : Nodes.HearRefusedKeeps
+  pub nodes-pause : Nodes.PauseRefusedKeeps
   pub host-start : Command.StartRefusedKeeps
   pub route : Command.RouteRefusedKeeps
   pub request : Command.RequestRefusedKeeps
@@ -75,6 +77,16 @@ pub record DemandTwo : Type 0 where
   pub fast-joined-by-rules : FastSending.JoinedByRules
   -- claims: what one node sends, another's table takes for that claim
   pub claim-is-heard : ClaimIsHeard
+  -- the node table: a run of calls makes of each record what the claims and pauses make of it, and a challenger takes
+  -- its record just when the rules say so
+  pub nodes-run : NodesRuns.RunByRecord
+  pub nodes-every-run-runs : NodesRuns.EveryRunRuns
+  pub challenge-waits : NodesRuns.ChallengeWaits
+  pub challenge-takes : NodesRuns.ChallengeTakes
+  pub holder-leaves : NodesRuns.HolderLeaves
+  pub takes-only-so : NodesRuns.TakesOnlySo
+  pub challenge-entered : NodesRuns.ChallengeEntered
+  pub holder-stays : NodesRuns.HolderStays
   -- captures
   pub written-taken-apart : Capture.WrittenTakenApart
   pub taken-apart-written : Capture.TakenApartWritten

@@ -90,11 +90,15 @@ use Rattle.claim.proofs.Sending.refusal as claim-sending-refusal
 use Rattle.nodes.specs.Laws as Nodes
 use Rattle.nodes.proofs.empty as nodes-empty
 use Rattle.nodes.proofs.hear as nodes-hear
+use Rattle.nodes.proofs.pause as nodes-pause
 use Rattle.nodes.proofs.look_up as nodes-look-up
 use Rattle.nodes.proofs.find_address as nodes-find-address
+use Rattle.nodes.proofs.find_challenger as nodes-find-challenger
 use Rattle.nodes.proofs.Heard.refusal as nodes-heard-refusal
+use Rattle.nodes.proofs.Pausing.refusal as nodes-pausing-refusal
 use Rattle.nodes.proofs.LookedUp.refusal as nodes-looked-up-refusal
 use Rattle.nodes.proofs.FoundAddress.refusal as nodes-found-address-refusal
+use Rattle.nodes.proofs.FoundChallenger.refusal as nodes-found-challenger-refusal
 use Rattle.command.specs.Laws as Command
 use Rattle.command.proofs.Host.start as command-start
 use Rattle.command.proofs.Host.route as command-route
@@ -311,18 +315,28 @@ module _ (M : Type 1) where
     -- Node table
     pub nodes-empty : Answers nodes-empty.ended nodes-empty.Symbol.routine nodes-empty.spec Nodes.EmptyOnly
     pub nodes-hear : Answers nodes-hear.ended nodes-hear.Symbol.routine nodes-hear.spec Nodes.HearOnly
+    pub nodes-pause : Answers nodes-pause.ended nodes-pause.Symbol.routine nodes-pause.spec Nodes.PauseOnly
     pub nodes-look-up : Answers nodes-look-up.ended nodes-look-up.Symbol.routine nodes-look-up.spec Nodes.LookUpOnly
     pub nodes-find-address :
         Answers nodes-find-address.ended nodes-find-address.Symbol.routine nodes-find-address.spec Nodes.FindAddressOnly
+    pub nodes-find-challenger :
+        Answers nodes-find-challenger.ended nodes-find-challenger.Symbol.routine nodes-find-challenger.spec
+        Nodes.FindChallengerOnly
     pub nodes-heard-refusal :
         Answers nodes-heard-refusal.ended nodes-heard-refusal.Symbol.routine nodes-heard-refusal.spec
         Nodes.HeardRefusalOnly
+    pub nodes-pausing-refusal :
+        Answers nodes-pausing-refusal.ended nodes-pausing-refusal.Symbol.routine nodes-pausing-refusal.spec
+        Nodes.PausingRefusalOnly
     pub nodes-looked-up-refusal :
         Answers nodes-looked-up-refusal.ended nodes-looked-up-refusal.Symbol.routine nodes-looked-up-refusal.spec
         Nodes.LookedUpRefusalOnly
     pub nodes-found-address-refusal :
         Answers nodes-found-address-refusal.ended nodes-found-address-refusal.Symbol.routine
         nodes-found-address-refusal.spec Nodes.FoundAddressRefusalOnly
+    pub nodes-found-challenger-refusal :
+        Answers nodes-found-challenger-refusal.ended nodes-found-challenger-refusal.Symbol.routine
+        nodes-found-challenger-refusal.spec Nodes.FoundChallengerRefusalOnly
     -- Commands, requests, replies
     pub command-start :
         Answers command-start.ended command-start.Symbol.routine command-start.spec Command.StartOnly

@@ -20,6 +20,7 @@ use Rattle.fast.specs.Sending as FastSending
 use Rattle.catalogue.specs.Laws as Catalogue
 use Rattle.claim.specs.Laws as Claims
 use Rattle.nodes.specs.Laws as Nodes
+use Rattle.nodes.specs.Runs as NodesRuns
 use Rattle.command.specs.Laws as Command
 use Rattle.capture.specs.Laws as Capture
 use Rattle.message.specs.declared.Place.{Place}
@@ -330,35 +331,59 @@ pub record ClaimLaws : Type 0 where
 
 pub record NodesLaws : Type 0 where
   pub told-heard-same : Nodes.ToldHeardSame
+  pub told-pausing-same : Nodes.ToldPausingSame
   pub told-looked-up-same : Nodes.ToldLookedUpSame
   pub told-found-address-same : Nodes.ToldFoundAddressSame
+  pub told-found-challenger-same : Nodes.ToldFoundChallengerSame
   pub empty-only : Nodes.EmptyOnly
   pub hear-only : Nodes.HearOnly
+  pub pause-only : Nodes.PauseOnly
   pub look-up-only : Nodes.LookUpOnly
   pub find-address-only : Nodes.FindAddressOnly
+  pub find-challenger-only : Nodes.FindChallengerOnly
   pub heard-refusal-only : Nodes.HeardRefusalOnly
+  pub pausing-refusal-only : Nodes.PausingRefusalOnly
   pub looked-up-refusal-only : Nodes.LookedUpRefusalOnly
   pub found-address-refusal-only : Nodes.FoundAddressRefusalOnly
+  pub found-challenger-refusal-only : Nodes.FoundChallengerRefusalOnly
   pub hear-refused-keeps : Nodes.HearRefusedKeeps
+  pub pause-refused-keeps : Nodes.PauseRefusedKeeps
   pub hear-nothing-keeps : Nodes.HearNothingKeeps
   pub priority-ignored : Nodes.PriorityIgnored
   pub past-untouched : Nodes.PastUntouched
+  pub pause-past-untouched : Nodes.PausePastUntouched
   pub past-unread : Nodes.PastUnread
   pub length-kept : Nodes.LengthKept
+  pub pause-length-kept : Nodes.PauseLengthKept
   pub rules-read : Nodes.RulesRead
   pub empty-keeps-rules : Nodes.EmptyKeepsRules
   pub empty-has-nobody : Nodes.EmptyHasNobody
   pub empty-has-no-name : Nodes.EmptyHasNoName
+  pub empty-has-no-challenger : Nodes.EmptyHasNoChallenger
   pub rules-kept : Nodes.RulesKept
+  pub pause-rules-kept : Nodes.PauseRulesKept
   pub name-once : Nodes.NameOnce
+  pub cleared-then-entered : Nodes.ClearedThenEntered
   pub taken-by-lower : Nodes.TakenByLower
+  pub every-sentence : Nodes.EverySentence
+  pub replaced-counts : Nodes.ReplacedCounts
   pub taken-shown : Nodes.TakenShown
+  pub challenges-shown : Nodes.ChallengesShown
   pub held-shown : Nodes.HeldShown
   pub found-there : Nodes.FoundThere
   pub found-nowhere : Nodes.FoundNowhere
   pub found-shown : Nodes.FoundShown
   pub taken-found : Nodes.TakenFound
   pub lowest-wins : (table : List Node) (id : ℕ) (bytes : List ℕ) → Nodes.LowestWins table id bytes
+  pub pause-lowest-wins : (table : List Node) (ms : ℕ) → Nodes.PauseLowestWins table ms
+  pub run-by-record : NodesRuns.RunByRecord
+  pub every-run-runs : NodesRuns.EveryRunRuns
+  pub challenge-waits : NodesRuns.ChallengeWaits
+  pub challenge-takes : NodesRuns.ChallengeTakes
+  pub holder-leaves : NodesRuns.HolderLeaves
+  pub takes-only-so : NodesRuns.TakesOnlySo
+  pub challenge-entered : NodesRuns.ChallengeEntered
+  pub holder-stays : NodesRuns.HolderStays
 
 pub record CommandLaws : Type 0 where
   pub told-starting-same : Command.ToldStartingSame

@@ -11,6 +11,7 @@ use Rattle.fast.specs.Sending as FastSending
 use Rattle.catalogue.specs.Laws as Catalogue
 use Rattle.claim.specs.Laws as Claim
 use Rattle.nodes.specs.Laws as Nodes
+use Rattle.nodes.specs.Runs as NodesRuns
 use Rattle.command.specs.Laws as Command
 use Rattle.capture.specs.Laws as Capture
 use Rattle.demands.specs.EveryCall.{EveryCall}
@@ -38,6 +39,7 @@ pub record FieldsOfOne : Type 2 where
   pub claim-pause : Claim.PauseRefusedKeeps
   pub our-claim : Claim.OurClaimRefusedKeeps
   pub nodes : Nodes.HearRefusedKeeps
+  pub nodes-pause : Nodes.PauseRefusedKeeps
   pub host-start : Command.StartRefusedKeeps
   pub route : Command.RouteRefusedKeeps
   pub request : Command.RequestRefusedKeeps
@@ -66,6 +68,14 @@ pub record FieldsOfTwo : Type 0 where
   pub fast-split-and-join : FastSplitAndJoin.SplitAndJoin
   pub fast-joined-by-rules : FastSending.JoinedByRules
   pub claim-is-heard : ClaimIsHeard
+  pub nodes-run : NodesRuns.RunByRecord
+  pub nodes-every-run-runs : NodesRuns.EveryRunRuns
+  pub challenge-waits : NodesRuns.ChallengeWaits
+  pub challenge-takes : NodesRuns.ChallengeTakes
+  pub holder-leaves : NodesRuns.HolderLeaves
+  pub takes-only-so : NodesRuns.TakesOnlySo
+  pub challenge-entered : NodesRuns.ChallengeEntered
+  pub holder-stays : NodesRuns.HolderStays
   pub written-taken-apart : Capture.WrittenTakenApart
   pub taken-apart-written : Capture.TakenApartWritten
   pub blocks-do-not-matter : Capture.BlocksDoNotMatter

@@ -11,12 +11,12 @@ use borrow.Author.Tests.{ltb-true, ltb-false}
 use Rattle.frame.specs.Words.{gives}
 use Rattle.frame.specs.Standard.{greatestAddress}
 use Rattle.frame.proofs.Words.{by-test}
-use Rattle.nodes.specs.Table.{addresses, absent, hasName, soundRecord, heldAgain, keepsRules}
-use Rattle.nodes.specs.Call.{nobody, holderOf, lookedUpOf, nowhere, addressFrom, foundOf}
+use Rattle.nodes.specs.Table.{addresses, absent, hasName, isChallenged, soundRecord, holderAgain, challengerAgain, standsAgain, keepsRules}
+use Rattle.nodes.specs.Call.{nobody, holderOf, lookedUpOf, nowhere, addressFrom, foundOf, noRival, rivalOf, challengerOf}
 use Rattle.nodes.specs.Promises.{Empty}
-use Rattle.nodes.specs.Laws.{EmptyKeepsRules, EmptyHasNobody, EmptyHasNoName}
+use Rattle.nodes.specs.Laws.{EmptyKeepsRules, EmptyHasNobody, EmptyHasNoName, EmptyHasNoChallenger}
 use Rattle.nodes.specs.declared.Node.{Node}
-use Rattle.nodes.proofs.Call.{looked-past, looked-at, found-in}
+use Rattle.nodes.proofs.Call.{looked-past, looked-at, found-in, rival-past, rival-at}
 
 -- ---- any number of them
 
@@ -25,7 +25,7 @@ front zero behind = refl
 front (suc k) behind = ap (λ (ns : List Node). absent ∷ ns) (front k behind)
 
 all-keep : (k : ℕ) → keepsRules (replicate k absent) ≡ true
-unfolding keepsRules soundRecord heldAgain
+unfolding keepsRules soundRecord standsAgain holderAgain challengerAgain isChallenged
 all-keep zero = refl
 all-keep (suc k) = all-keep k
 
@@ -45,6 +45,10 @@ nobody-there : holderOf absent ≡ nobody
 unfolding holderOf
 nobody-there = refl
 
+nobody-challenges : rivalOf absent ≡ noRival
+unfolding rivalOf isChallenged
+nobody-challenges = refl
+
 module _ (r behind : List Node) (e : Empty r) where
   front-is : take addresses (r ++ behind) ≡ replicate addresses absent
   front-is = ap (λ (ns : List Node). take addresses (ns ++ behind)) (e .answer) ∙ front addresses behind
@@ -57,7 +61,7 @@ module _ (r behind : List Node) (e : Empty r) where
   kept : keepsRules (take addresses (r ++ behind)) ≡ true
   kept = ap keepsRules front-is ∙ all-keep addresses
 
-  absent-at : (a : ℕ) → getD (take addresses (r ++ behind)) a absent ≡ absent
+  pub absent-at : (a : ℕ) → getD (take addresses (r ++ behind)) a absent ≡ absent
   absent-at a = ap (λ (ns : List Node). getD ns a absent) front-is ∙ all-absent addresses a
 
   looked : (a : ℕ) → lookedUpOf (length (r ++ behind)) (take addresses (r ++ behind)) a ≡ gives nobody
@@ -71,6 +75,12 @@ module _ (r behind : List Node) (e : Empty r) where
       found-in _ _ name long kept
       ∙ ap (λ (ns : List Node). gives (addressFrom name 0 ns)) front-is ∙ ap gives (all-nameless name addresses 0)
 
+  rivals : (a : ℕ) → challengerOf (length (r ++ behind)) (take addresses (r ++ behind)) a ≡ gives noRival
+  rivals a =
+      by-test (ltb greatestAddress a) (λ t. rival-past _ _ a long kept (ltb-true _ _ t))
+      (λ t. rival-at _ _ a long kept (ltb-false _ _ t)
+      ∙ ap (λ (n : Node). gives (rivalOf n)) (absent-at a) ∙ ap gives nobody-challenges)
+
 pub empty-keeps-rules : EmptyKeepsRules
 empty-keeps-rules r behind e = (long r behind e, kept r behind e)
 
@@ -79,3 +89,6 @@ empty-has-nobody r behind a e = looked r behind e a
 
 pub empty-has-no-name : EmptyHasNoName
 empty-has-no-name r behind name e = found r behind e name
+
+pub empty-has-no-challenger : EmptyHasNoChallenger
+empty-has-no-challenger r behind a e = rivals r behind e a

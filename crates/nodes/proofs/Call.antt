@@ -11,19 +11,22 @@ use Rattle.frame.specs.Words.{Told, refused, gives}
 use Rattle.frame.specs.Frame.{checkedOf}
 use Rattle.frame.specs.Standard.{greatestAddress}
 use Rattle.frame.specs.declared.Parts.{Parts}
-use Rattle.nodes.specs.Table.{addresses, absent, keepsRules}
-use Rattle.nodes.specs.Call.{Asked, nothing, claims, askedBy, askedOf, claimOutcome, answerOf, nobody, holderOf, lookedUpOf, addressFrom, foundOf}
-use Rattle.nodes.specs.Promises.{toldHeard}
-use Rattle.nodes.specs.Inside.{turnsOf, changeOf, unaskedAs, JudgedAs}
+use Rattle.nodes.specs.Table.{addresses, absent, replacedIn, keepsRules}
+use Rattle.nodes.specs.Call.{Asked, nothing, claims, pauses, askedBy, askedOf, pauseAsked, claimOutcome, answerOf, replaced, nobody, holderOf, lookedUpOf, addressFrom, foundOf, noRival, rivalOf, challengerOf}
+use Rattle.nodes.specs.Promises.{toldHeard, toldPausing}
+use Rattle.nodes.specs.Inside.{turnsOf, changeOf, unaskedAs, JudgedAs, unpausedAs, JudgedPauseAs}
 use Rattle.nodes.specs.declared.Node.{Node}
 use Rattle.nodes.specs.declared.Claim.{Claim}
-use Rattle.nodes.specs.declared.Change.the-variants.{Claims}
+use Rattle.nodes.specs.declared.Change.the-variants.{Claims, Pauses}
 use Rattle.nodes.specs.declared.Judged.{Judged}
+use Rattle.nodes.specs.declared.JudgedPause.{JudgedPause}
 use Rattle.nodes.specs.declared.Heard.{Heard}
 use Rattle.nodes.specs.declared.Heard.the-variants.{NothingToDo}
+use Rattle.nodes.specs.declared.Pausing.{Pausing}
 
 module _ (records : List Node) (told : Told Asked) (r : Judged) where
-  pub judged-refused : (n : ℕ) (h : Heard) → told ≡ refused n → toldHeard h ≡ refused n → r ≡ unaskedAs h → JudgedAs records told r
+  pub judged-refused : (n : ℕ) (h : Heard) → told ≡ refused n → toldHeard h ≡ refused n → r ≡ unaskedAs h
+      → JudgedAs records told r
   judged-refused n h t e u =
       record {
         answer = ap (λ (j : Judged). toldHeard (j .answer)) u ∙ e ∙ sym (ap (answerOf records) t);
@@ -39,9 +42,30 @@ module _ (records : List Node) (told : Told Asked) (r : Judged) where
         change = ap (λ (j : Judged). j .change) u ∙ sym (ap changeOf t);
       }
 
-  pub judged-claim : (claim : Claim) → told ≡ gives (claims claim) → toldHeard (r .answer) ≡ gives (claimOutcome records claim)
+  pub judged-claim : (claim : Claim) → told ≡ gives (claims claim)
+      → toldHeard (r .answer) ≡ gives (claimOutcome records claim)
       → r .turns ≡ addresses → r .change ≡ Claims claim → JudgedAs records told r
   judged-claim claim t a n e =
+      record {
+        answer = a ∙ sym (ap (answerOf records) t);
+        turns = n ∙ sym (ap turnsOf t);
+        change = e ∙ sym (ap changeOf t);
+      }
+
+module _ (records : List Node) (told : Told Asked) (r : JudgedPause) where
+  pub pause-refused : (n : ℕ) (p : Pausing) → told ≡ refused n → toldPausing p ≡ refused n → r ≡ unpausedAs p
+      → JudgedPauseAs records told r
+  pause-refused n p t e u =
+      record {
+        answer = ap (λ (j : JudgedPause). toldPausing (j .answer)) u ∙ e ∙ sym (ap (answerOf records) t);
+        turns = ap (λ (j : JudgedPause). j .turns) u ∙ sym (ap turnsOf t);
+        change = ap (λ (j : JudgedPause). j .change) u ∙ sym (ap changeOf t);
+      }
+
+  pub pause-passed : (ms : ℕ) → told ≡ gives (pauses ms)
+      → toldPausing (r .answer) ≡ gives (replaced (replacedIn ms records))
+      → r .turns ≡ addresses → r .change ≡ Pauses ms → JudgedPauseAs records told r
+  pause-passed ms t a n e =
       record {
         answer = a ∙ sym (ap (answerOf records) t);
         turns = n ∙ sym (ap turnsOf t);
@@ -68,6 +92,20 @@ module _ (size : ℕ) (records : List Node) (id : ℕ) (bytes : List ℕ) where
   unfolding askedOf
   asked-sound h k p e = rw (le-ltb _ _ h, k, e)
 
+-- a pause, likewise
+module _ (size : ℕ) (records : List Node) (ms : ℕ) where
+  pub pause-short : size < addresses → pauseAsked size records ms ≡ refused 1
+  unfolding pauseAsked
+  pause-short h = rw (lt-ltb _ _ h)
+
+  pub pause-broken : addresses ≤ size → keepsRules records ≡ false → pauseAsked size records ms ≡ refused 2
+  unfolding pauseAsked
+  pause-broken h k = rw (le-ltb _ _ h, k)
+
+  pub pause-sound : addresses ≤ size → keepsRules records ≡ true → pauseAsked size records ms ≡ gives (pauses ms)
+  unfolding pauseAsked
+  pause-sound h k = rw (le-ltb _ _ h, k)
+
 -- what is looked up, likewise
 module _ (size : ℕ) (records : List Node) (address : ℕ) where
   pub looked-short : size < addresses → lookedUpOf size records address ≡ refused 1
@@ -78,7 +116,8 @@ module _ (size : ℕ) (records : List Node) (address : ℕ) where
   unfolding lookedUpOf
   looked-broken h k = rw (le-ltb _ _ h, k)
 
-  pub looked-past : addresses ≤ size → keepsRules records ≡ true → greatestAddress < address → lookedUpOf size records address ≡ gives nobody
+  pub looked-past : addresses ≤ size → keepsRules records ≡ true → greatestAddress < address
+      → lookedUpOf size records address ≡ gives nobody
   unfolding lookedUpOf
   looked-past h k a = rw (le-ltb _ _ h, k, lt-ltb _ _ a)
 
@@ -101,3 +140,23 @@ module _ (size : ℕ) (records : List Node) (name : ℕ) where
       → foundOf size records name ≡ gives (addressFrom name 0 records)
   unfolding foundOf
   found-in h k = rw (le-ltb _ _ h, k)
+
+-- who challenges, likewise
+module _ (size : ℕ) (records : List Node) (address : ℕ) where
+  pub rival-short : size < addresses → challengerOf size records address ≡ refused 1
+  unfolding challengerOf
+  rival-short h = rw (lt-ltb _ _ h)
+
+  pub rival-broken : addresses ≤ size → keepsRules records ≡ false → challengerOf size records address ≡ refused 2
+  unfolding challengerOf
+  rival-broken h k = rw (le-ltb _ _ h, k)
+
+  pub rival-past : addresses ≤ size → keepsRules records ≡ true → greatestAddress < address
+      → challengerOf size records address ≡ gives noRival
+  unfolding challengerOf
+  rival-past h k a = rw (le-ltb _ _ h, k, lt-ltb _ _ a)
+
+  pub rival-at : addresses ≤ size → keepsRules records ≡ true → address ≤ greatestAddress
+      → challengerOf size records address ≡ gives (rivalOf (getD records address absent))
+  unfolding challengerOf
+  rival-at h k a = rw (le-ltb _ _ h, k, le-ltb _ _ a)

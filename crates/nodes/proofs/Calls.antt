@@ -42,8 +42,8 @@ use denote.Triple.Statement.{Contract, Triple}
 use denote.Triple.Walked.{says}
 use Rattle.nodes.specs.declared.Node.{Node}
 use Rattle.nodes.specs.declared.Change.{Change}
-use Rattle.nodes.specs.Table.{addresses}
-use Rattle.nodes.specs.Inside.{afterOf, eachFrom, recordsOf}
+use Rattle.nodes.specs.Table.{addresses, eachFrom}
+use Rattle.nodes.specs.Inside.{afterOf, recordsOf}
 use Rattle.nodes.proofs.Change as K
 use Rattle.nodes.proofs.Change.Laws as K′
 use Rattle.nodes.proofs.Record.{R, C, change-vals, change-val, AR}

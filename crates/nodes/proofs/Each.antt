@@ -1,10 +1,11 @@
 -- What `eachFrom` does to a list, one element at a time. Assumes nothing.
-use mathlib.Core.Path.{_≡_, refl, sym, _∙_, ap}
+use mathlib.Core.Path.{_≡_, refl, sym, _∙_, ap, subst}
 use Prim.Native.Nat.{ℕ, zero, suc, _+_, _<_, _≤_}
 use native.Mathlib.Nat.{add-zero, add-suc, suc-add, not-suc-le-zero, le-of-suc-le-suc}
+use native.Mathlib.Omega.{arith}
 use mathlib.Core.List.{List, [], _∷_}
 use lib.ListN.{length, getD, set, take, drop}
-use Rattle.nodes.specs.Inside.{eachFrom}
+use Rattle.nodes.specs.Table.{eachFrom}
 
 module _ {A : Type 0} (f : ℕ → A → A) where
   pub each-length : (k a : ℕ) (xs : List A) → length (eachFrom f k a xs) ≡ length xs
@@ -55,3 +56,17 @@ module _ {A : Type 0} (f : ℕ → A → A) where
   drop-each zero a xs = refl
   drop-each (suc k) a [] = refl
   drop-each (suc k) a (x ∷ xs) = drop-each k (suc a) xs
+
+-- two functions that agree on each of the first elements
+pub each-same : {A : Type 0} (f g : ℕ → A → A) (k a : ℕ) (xs : List A) (d : A)
+    → ((i : ℕ) → i < k → i < length xs → f (a + i) (getD xs i d) ≡ g (a + i) (getD xs i d))
+    → eachFrom f k a xs ≡ eachFrom g k a xs
+unfolding eachFrom
+each-same f g zero a xs d same = refl
+each-same f g (suc k) a [] d same = refl
+each-same f g (suc k) a (x ∷ xs) d same =
+    let first : f a x ≡ g a x = subst (λ (n : ℕ). f n x ≡ g n x) (add-zero a) (same 0 (omega arith) (omega arith)) in
+    let rest = each-same f g k (suc a) xs d (λ i h l.
+    subst (λ (n : ℕ). f n (getD xs i d) ≡ g n (getD xs i d)) (add-suc a i ∙ sym (suc-add a i))
+    (same (suc i) (omega arith) (omega arith))) in
+    λ j. first j ∷ rest j

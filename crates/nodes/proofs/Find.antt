@@ -14,12 +14,12 @@ use borrow.Author.Tests.{ltb-true, ltb-false}
 use Rattle.frame.specs.Words.{Told, gives}
 use Rattle.frame.specs.Standard.{greatestAddress}
 use Rattle.frame.proofs.Words.{past-refusal, before-refusal, gives-same, by-test}
-use Rattle.nodes.specs.Table.{addresses, absent, hasName, keepsRules}
+use Rattle.nodes.specs.Table.{addresses, absent, hasName, stands, keepsRules}
 use Rattle.nodes.specs.Call.{tableOr, Holder, nobody, holder, holderOf, lookedUpOf, Whereabouts, nowhere, there, addressFrom, foundOf}
 use Rattle.nodes.specs.Laws.{Rules, foundIn, Holds, FoundThere, FoundNowhere, FoundShown}
 use Rattle.nodes.specs.declared.Node.{Node}
 use Rattle.nodes.proofs.Call.{looked-past, looked-at, found-in}
-use Rattle.nodes.proofs.Sound.{has-name-of, name-of, rules-of}
+use Rattle.nodes.proofs.Sound.{has-name-of, name-of, stands-holder, rules-of}
 
 -- ---- the loop
 
@@ -91,14 +91,18 @@ module _ (name : ℕ) (rs : List Node) where
   of-in rules a i nowhere e = absurd (none-in e a i)
   of-in rules a i (there b) e =
       let j = in-of b e in
-      ap there (rules .one-each b a (j .0) (i .0) (j .1) (i .1) (j .2 ∙ sym (i .2)))
+      ap there (rules .one-each name b a (j .0) (i .0) (standing b j) (standing a i))
+    where
+      standing : (x : ℕ) → In x → stands name (getD rs x absent) ≡ true
+      standing x k =
+          stands-holder name (getD rs x absent) (has-name-of name (getD rs x absent) (k .1) (k .2))
 
 -- ---- in a table, of whose records the first n are looked at
 
 pub getD-front : (n a : ℕ) (ns : List Node) → a < n → getD (take n ns) a absent ≡ getD ns a absent
 getD-front n a ns h = rw getD-take
 
-front-length : (n : ℕ) (ns : List Node) → n ≤ length ns → length (take n ns) ≡ n
+pub front-length : (n : ℕ) (ns : List Node) → n ≤ length ns → length (take n ns) ≡ n
 front-length n ns h = simp (length-take) (omega arith)
 
 module _ (n : ℕ) (table : List Node) (name : ℕ) (enough : n ≤ length table) where
@@ -151,7 +155,7 @@ found-nowhere table name enough keeps = (nowhere-none table name enough keeps, n
 -- ---- what is found is looked up, and what is looked up is found
 
 -- what is given was given of a table that has all the addresses and keeps the rules
-table-sound : {A : Type 0} (size : ℕ) (records : List Node) (t : Told A) {a : A} → tableOr size records t ≡ gives a
+pub table-sound : {A : Type 0} (size : ℕ) (records : List Node) (t : Told A) {a : A} → tableOr size records t ≡ gives a
     → (addresses ≤ size) × (keepsRules records ≡ true) × (t ≡ gives a)
 table-sound size records t e =
     let p = past-refusal (ltb size addresses) 1 _ e in
@@ -162,7 +166,7 @@ pub holder-held : (n : Node) → n .present ≡ true → holderOf n ≡ holder (
 unfolding holderOf
 holder-held n p = rw p
 
-holder-of : (n : Node) (name : ℕ) → holderOf n ≡ holder name → (n .present ≡ true) × (n .name ≡ name)
+pub holder-of : (n : Node) (name : ℕ) → holderOf n ≡ holder name → (n .present ≡ true) × (n .name ≡ name)
 unfolding holderOf
 holder-of n name e =
     by-test (n .present) (λ p. (p, same (rw p at e))) (λ p. absurd (differ (rw p at e)))

@@ -5,10 +5,14 @@ pub mod Copy
 pub mod Record
 pub mod Array
 pub mod Calls
-pub mod Pass
 pub mod Whole
 pub mod Sound
+pub mod Sentences
+pub mod Find
+pub mod Pass
 pub mod Kept
 pub mod Blank
-pub mod Find
+pub mod Shown
+pub mod Runs
+pub mod Challenge
 pub mod Laws

@@ -27,7 +27,7 @@ abbrev pub vals : Node → List Val
 vals = LL.vals T.the-type T′.the-laws
 
 abbrev pub size : ℕ
-size = 16
+size = 32
 
 -- a change
 abbrev pub C : RattleType

@@ -2,36 +2,44 @@
 -- written small.
 use mathlib.Core.Path.{_≡_}
 use mathlib.Core.Bool.{true, false}
-use mathlib.Core.List.{List, _++_}
+use mathlib.Core.List.{List, _++_, map}
 use mathlib.Core.Logic.{_⊎_}
 use Prim.Native.Nat.{ℕ, _≤_, _<_, _%_, _^_}
-use lib.ListN.{length, getD, take, drop}
-use Rattle.frame.specs.Words.{Told, refused, gives}
+use lib.ListN.{length, getD, set, take, drop}
+use Rattle.frame.specs.Words.{if_then_else_, _≤?_, Told, refused, gives}
 use Rattle.frame.specs.Bytes.{numberOf}
 use Rattle.frame.specs.Identifier.{identifiers}
 use Rattle.frame.specs.Frame.{checkedOf}
-use Rattle.frame.specs.Standard.{claimDgn}
+use Rattle.frame.specs.Standard.{claimDgn, greatestAddress}
 use Rattle.frame.specs.declared.Parts.{Parts}
-use Rattle.nodes.specs.Table.{addresses, absent, held, hasName, keepsRules, claimedOf}
-use Rattle.nodes.specs.Call.{nothingToDo, taken, heldByLower, claimOutcome, heardOf, tableAfter, Holder, nobody, holder, lookedUpOf, Whereabouts, nowhere, there, foundOf}
-use Rattle.nodes.specs.Promises.{Empty, Hear, LookUp, FindAddress, HeardRefusal, LookedUpRefusal, FoundAddressRefusal, toldHeard, toldLookedUp, toldFoundAddress}
+use Rattle.nodes.specs.Table.{addresses, takesAfter, absent, held, challenged, unchallengedOf, hasName, isChallenged, hasChallenger, stands, clearedOf, enteredOf, claimedAt, pausedAt, replacesOf, replacedIn, keepsRules, soundRecord, claimedOf, pausedOf}
+use Rattle.nodes.specs.Call.{nothingToDo, taken, challenges, heldByLower, replaced, claimOutcome, heardOf, tableAfter, pauseTold, tablePaused, Holder, nobody, holder, lookedUpOf, Whereabouts, nowhere, there, foundOf, Rival, noRival, rival, challengerOf}
+use Rattle.nodes.specs.Promises.{Empty, Hear, Pause, LookUp, FindAddress, FindChallenger, HeardRefusal, PausingRefusal, LookedUpRefusal, FoundAddressRefusal, FoundChallengerRefusal, toldHeard, toldPausing, toldLookedUp, toldFoundAddress, toldFoundChallenger}
 use Rattle.nodes.specs.declared.Node.{Node}
 use Rattle.nodes.specs.declared.Claim.{Claim}
 use Rattle.nodes.specs.declared.Heard.{Heard}
 use Rattle.nodes.specs.declared.Heard.the-variants.{NothingToDo}
+use Rattle.nodes.specs.declared.Pausing.{Pausing}
 use Rattle.nodes.specs.declared.LookedUp.{LookedUp}
 use Rattle.nodes.specs.declared.FoundAddress.{FoundAddress}
+use Rattle.nodes.specs.declared.FoundChallenger.{FoundChallenger}
 
 -- An answer read as number and values loses nothing (RULES 2.10).
 
 abbrev pub ToldHeardSame : Type 0
 ToldHeardSame = (r s : Heard) → toldHeard r ≡ toldHeard s → r ≡ s
 
+abbrev pub ToldPausingSame : Type 0
+ToldPausingSame = (r s : Pausing) → toldPausing r ≡ toldPausing s → r ≡ s
+
 abbrev pub ToldLookedUpSame : Type 0
 ToldLookedUpSame = (r s : LookedUp) → toldLookedUp r ≡ toldLookedUp s → r ≡ s
 
 abbrev pub ToldFoundAddressSame : Type 0
 ToldFoundAddressSame = (r s : FoundAddress) → toldFoundAddress r ≡ toldFoundAddress s → r ≡ s
+
+abbrev pub ToldFoundChallengerSame : Type 0
+ToldFoundChallengerSame = (r s : FoundChallenger) → toldFoundChallenger r ≡ toldFoundChallenger s → r ≡ s
 
 -- No second answer and no second table keep a promise.
 
@@ -43,6 +51,11 @@ HearOnly =
     (table : List Node) (id : ℕ) (bytes : List ℕ) (r s : Heard) (after after′ : List Node)
     → Hear table id bytes r after → Hear table id bytes s after′ → (r ≡ s) × (after ≡ after′)
 
+abbrev pub PauseOnly : Type 0
+PauseOnly =
+    (table : List Node) (ms : ℕ) (r s : Pausing) (after after′ : List Node)
+    → Pause table ms r after → Pause table ms s after′ → (r ≡ s) × (after ≡ after′)
+
 abbrev pub LookUpOnly : Type 0
 LookUpOnly =
     (table : List Node) (address : ℕ) (r s : LookedUp) → LookUp table address r → LookUp table address s → r ≡ s
@@ -51,8 +64,16 @@ abbrev pub FindAddressOnly : Type 0
 FindAddressOnly =
     (table : List Node) (name : ℕ) (r s : FoundAddress) → FindAddress table name r → FindAddress table name s → r ≡ s
 
+abbrev pub FindChallengerOnly : Type 0
+FindChallengerOnly =
+    (table : List Node) (address : ℕ) (r s : FoundChallenger)
+    → FindChallenger table address r → FindChallenger table address s → r ≡ s
+
 abbrev pub HeardRefusalOnly : Type 0
 HeardRefusalOnly = (answer : Heard) (r s : ℕ) → HeardRefusal answer r → HeardRefusal answer s → r ≡ s
+
+abbrev pub PausingRefusalOnly : Type 0
+PausingRefusalOnly = (answer : Pausing) (r s : ℕ) → PausingRefusal answer r → PausingRefusal answer s → r ≡ s
 
 abbrev pub LookedUpRefusalOnly : Type 0
 LookedUpRefusalOnly = (answer : LookedUp) (r s : ℕ) → LookedUpRefusal answer r → LookedUpRefusal answer s → r ≡ s
@@ -61,12 +82,21 @@ abbrev pub FoundAddressRefusalOnly : Type 0
 FoundAddressRefusalOnly =
     (answer : FoundAddress) (r s : ℕ) → FoundAddressRefusal answer r → FoundAddressRefusal answer s → r ≡ s
 
+abbrev pub FoundChallengerRefusalOnly : Type 0
+FoundChallengerRefusalOnly =
+    (answer : FoundChallenger) (r s : ℕ) → FoundChallengerRefusal answer r → FoundChallengerRefusal answer s → r ≡ s
+
 -- A refusal keeps the table, and so does a frame that asks nothing.
 
 abbrev pub HearRefusedKeeps : Type 0
 HearRefusedKeeps =
     (table : List Node) (id : ℕ) (bytes : List ℕ) (r : Heard) (after : List Node) (n : ℕ)
     → Hear table id bytes r after → toldHeard r ≡ refused n → after ≡ table
+
+abbrev pub PauseRefusedKeeps : Type 0
+PauseRefusedKeeps =
+    (table : List Node) (ms : ℕ) (r : Pausing) (after : List Node) (n : ℕ)
+    → Pause table ms r after → toldPausing r ≡ refused n → after ≡ table
 
 abbrev pub HearNothingKeeps : Type 0
 HearNothingKeeps =
@@ -88,6 +118,14 @@ pub record LowestWins (table : List Node) (id : ℕ) (bytes : List ℕ) : Type 0
       ≡ gives (claimOutcome (take addresses table) (record { source = p .source; name = numberOf bytes })))
       × (tableAfter table id bytes ≡ claimedOf (record { source = p .source; name = numberOf bytes }) table)
 
+-- A pause: 1, then 2; otherwise time passes.
+pub record PauseLowestWins (table : List Node) (ms : ℕ) : Type 0 where
+  pub one : length table < addresses → pauseTold table ms ≡ refused 1
+  pub two : addresses ≤ length table → keepsRules (take addresses table) ≡ false → pauseTold table ms ≡ refused 2
+  pub passes : addresses ≤ length table → keepsRules (take addresses table) ≡ true
+      → (pauseTold table ms ≡ gives (replaced (replacedIn ms (take addresses table))))
+      × (tablePaused table ms ≡ pausedOf ms table)
+
 -- Priority is ignored: identifiers that differ only above bit 25 are heard alike.
 abbrev pub PriorityIgnored : Type 0
 PriorityIgnored =
@@ -102,11 +140,17 @@ abbrev pub PastUntouched : Type 0
 PastUntouched =
     (table : List Node) (id : ℕ) (bytes : List ℕ) → drop addresses (tableAfter table id bytes) ≡ drop addresses table
 
+abbrev pub PausePastUntouched : Type 0
+PausePastUntouched = (table : List Node) (ms : ℕ) → drop addresses (tablePaused table ms) ≡ drop addresses table
+
 pub record Alike (table other : List Node) (id : ℕ) (bytes : List ℕ) : Type 0 where
   pub heard : heardOf table id bytes ≡ heardOf other id bytes
   pub left : take addresses (tableAfter table id bytes) ≡ take addresses (tableAfter other id bytes)
   pub looked-up : (address : ℕ) (r : LookedUp) → LookUp table address r → LookUp other address r
   pub found : (name : ℕ) (r : FoundAddress) → FindAddress table name r → FindAddress other name r
+  pub challenger : (address : ℕ) (r : FoundChallenger) → FindChallenger table address r → FindChallenger other address r
+  pub paused : (ms : ℕ) → pauseTold table ms ≡ pauseTold other ms
+  pub left-paused : (ms : ℕ) → take addresses (tablePaused table ms) ≡ take addresses (tablePaused other ms)
 
 abbrev pub PastUnread : Type 0
 PastUnread =
@@ -118,13 +162,24 @@ PastUnread =
 abbrev pub LengthKept : Type 0
 LengthKept = (table : List Node) (id : ℕ) (bytes : List ℕ) → length (tableAfter table id bytes) ≡ length table
 
+abbrev pub PauseLengthKept : Type 0
+PauseLengthKept = (table : List Node) (ms : ℕ) → length (tablePaused table ms) ≡ length table
+
 -- The rules of a table, said of its records one by one: the computed test says just this.
 pub record Rules (records : List Node) : Type 0 where
-  pub absent-zero : (a : ℕ) → a < length records
-      → getD records a absent .present ≡ false → getD records a absent .name ≡ 0
-  pub one-each : (a b : ℕ) → a < length records → b < length records
-      → getD records a absent .present ≡ true → getD records b absent .present ≡ true
-      → getD records a absent .name ≡ getD records b absent .name → a ≡ b
+  -- an absent record is all zeros
+  pub absent-zeros : (a : ℕ) → a < length records
+      → getD records a absent .present ≡ false → getD records a absent ≡ absent
+  -- a challenger is above the holder, and has waited less than 250 ms
+  pub challenger-above : (a : ℕ) → a < length records
+      → isChallenged (getD records a absent) ≡ true → getD records a absent .name < getD records a absent .challenger
+  pub wait-below : (a : ℕ) → a < length records → getD records a absent .wait < takesAfter
+  -- a missing challenger is all zeros
+  pub missing-zeros : (a : ℕ) → a < length records
+      → isChallenged (getD records a absent) ≡ false → getD records a absent .wait ≡ 0
+  -- no NAME stands twice: not in two records, and by the second rule not in one
+  pub one-each : (name a b : ℕ) → a < length records → b < length records
+      → stands name (getD records a absent) ≡ true → stands name (getD records b absent) ≡ true → a ≡ b
 
 abbrev pub RulesRead : Type 0
 RulesRead =
@@ -148,44 +203,124 @@ EmptyHasNoName =
     (r behind : List Node) (name : ℕ) → Empty r
     → foundOf (length (r ++ behind)) (take addresses (r ++ behind)) name ≡ gives nowhere
 
--- A table that keeps the rules leads to one that keeps them, whatever is heard.
+abbrev pub EmptyHasNoChallenger : Type 0
+EmptyHasNoChallenger =
+    (r behind : List Node) (address : ℕ) → Empty r
+    → challengerOf (length (r ++ behind)) (take addresses (r ++ behind)) address ≡ gives noRival
+
+-- A table that keeps the rules leads to one that keeps them, whatever is heard and however long the pause.
 abbrev pub RulesKept : Type 0
 RulesKept =
     (table : List Node) (id : ℕ) (bytes : List ℕ)
     → keepsRules (take addresses table) ≡ true → keepsRules (take addresses (tableAfter table id bytes)) ≡ true
 
--- After a claim its NAME stands at most once: at its source.
+abbrev pub PauseRulesKept : Type 0
+PauseRulesKept =
+    (table : List Node) (ms : ℕ)
+    → keepsRules (take addresses table) ≡ true → keepsRules (take addresses (tablePaused table ms)) ≡ true
+
+-- After a claim its NAME stands at most once, as holder or as challenger: at its source.
 abbrev pub NameOnce : Type 0
 NameOnce =
-    (claim : Claim) (table : List Node) → addresses ≤ length table → (a : ℕ) → a < addresses
-    → hasName (claim .name) (getD (claimedOf claim table) a absent) ≡ true → a ≡ claim .source
+    (claim : Claim) (table : List Node) → addresses ≤ length table → keepsRules (take addresses table) ≡ true
+    → (a : ℕ) → a < addresses → stands (claim .name) (getD (claimedOf claim table) a absent) ≡ true → a ≡ claim .source
 
--- A record is taken from its holder only by a lower NAME, and only at the claim's source; otherwise its holder keeps
--- it.
+-- A table that keeps the rules after a claim, in two steps: the NAME is cleared from every record, and then entered in
+-- that of its source, where the source is an address.
+
+abbrev pub clearedAll : ℕ → List Node → List Node
+clearedAll name table = map (clearedOf name) (take addresses table) ++ drop addresses table
+
+abbrev pub enteredAt : ℕ → ℕ → List Node → List Node
+enteredAt source name table =
+    if source ≤? greatestAddress then set table source (enteredOf name (getD table source absent)) else table
+
+abbrev pub ClearedThenEntered : Type 0
+ClearedThenEntered =
+    (claim : Claim) (table : List Node) → keepsRules (take addresses table) ≡ true
+    → claimedOf claim table ≡ enteredAt (claim .source) (claim .name) (clearedAll (claim .name) table)
+
+-- A holder loses its record by somebody else's claim only to a lower NAME, and only at the claim's source; otherwise it
+-- keeps it.
 abbrev pub TakenByLower : Type 0
 TakenByLower =
     (claim : Claim) (table : List Node) → addresses ≤ length table → (a : ℕ) → a < addresses
     → getD table a absent .present ≡ true → (getD table a absent .name ≡ claim .name → ⊥)
-    → (getD (claimedOf claim table) a absent ≡ getD table a absent)
+    → ((getD (claimedOf claim table) a absent .present ≡ true)
+    × (getD (claimedOf claim table) a absent .name ≡ getD table a absent .name))
     ⊎ ((a ≡ claim .source) × (claim .name < getD table a absent .name)
     × (getD (claimedOf claim table) a absent ≡ held (claim .name)))
 
--- What `hear` tells, `look_up` shows: after `taken` the claim's NAME is there, and after `heldByLower` a lower one.
+-- What a claim makes of a sound record, a case for each sentence of the rules (RULES 9.3 to 9.5, 9.13 to 9.16).
+pub record ClaimAt (claim : Claim) (a : ℕ) (n : Node) : Type 0 where
+  -- the holder claims its address again: the challenger goes
+  pub repeats : a ≡ claim .source → hasName (claim .name) n ≡ true → claimedAt claim a n ≡ held (claim .name)
+  -- the holder claims from any other source: the challenger takes the record at once, or nobody has it
+  pub handed-over : (a ≡ claim .source → ⊥) → hasName (claim .name) n ≡ true → isChallenged n ≡ true
+      → claimedAt claim a n ≡ held (n .challenger)
+  pub left : (a ≡ claim .source → ⊥) → hasName (claim .name) n ≡ true → isChallenged n ≡ false
+      → claimedAt claim a n ≡ absent
+  -- the challenger claims elsewhere, and challenges no more; or here again, and waits from 0
+  pub withdrawn : (a ≡ claim .source → ⊥) → hasChallenger (claim .name) n ≡ true
+      → claimedAt claim a n ≡ unchallengedOf n
+  pub anew : a ≡ claim .source → hasChallenger (claim .name) n ≡ true
+      → claimedAt claim a n ≡ challenged (claim .name) 0 n
+  -- a NAME that does not stand here: it takes an absent record, or that of a higher NAME, whose challenger goes
+  pub takes-absent : a ≡ claim .source → n .present ≡ false → claimedAt claim a n ≡ held (claim .name)
+  pub takes : a ≡ claim .source → claim .name < n .name → claimedAt claim a n ≡ held (claim .name)
+  -- it challenges a lower holder whom nobody challenges; or in place of a higher challenger; and not of a lower one
+  pub first : a ≡ claim .source → n .present ≡ true → n .name < claim .name → isChallenged n ≡ false
+      → claimedAt claim a n ≡ challenged (claim .name) 0 n
+  pub instead : a ≡ claim .source → n .present ≡ true → n .name < claim .name → isChallenged n ≡ true
+      → claim .name < n .challenger → claimedAt claim a n ≡ challenged (claim .name) 0 n
+  pub ignored : a ≡ claim .source → n .present ≡ true → n .name < claim .name → isChallenged n ≡ true
+      → n .challenger < claim .name → claimedAt claim a n ≡ n
+  -- and from elsewhere it changes nothing
+  pub untouched : (a ≡ claim .source → ⊥) → stands (claim .name) n ≡ false → claimedAt claim a n ≡ n
+
+abbrev pub EverySentence : Type 0
+EverySentence = (claim : Claim) (a : ℕ) (n : Node) → soundRecord n ≡ true → ClaimAt claim a n
+
+-- What a pause counts is what it makes of a sound record: one where the challenger has it now, and none where the
+-- holder is who it was.
+abbrev pub ReplacedCounts : Type 0
+ReplacedCounts =
+    (ms : ℕ) (n : Node) → soundRecord n ≡ true
+    → ((replacesOf ms n ≡ 1) × (pausedAt ms n ≡ held (n .challenger)) × (n .name < n .challenger))
+    ⊎ ((replacesOf ms n ≡ 0) × (pausedAt ms n .present ≡ n .present) × (pausedAt ms n .name ≡ n .name))
+
+-- What `hear` tells, `look_up` and `find_challenger` show: after `taken` the claim's NAME is there and nobody
+-- challenges it; after `challenges` a lower one is there, which it challenges since 0 ms; after `heldByLower` two lower
+-- ones are, the holder and its challenger.
 
 abbrev pub lookedAfter : List Node → ℕ → List ℕ → ℕ → Told Holder
 lookedAfter table id bytes a =
     lookedUpOf (length (tableAfter table id bytes)) (take addresses (tableAfter table id bytes)) a
 
+abbrev pub rivalAfter : List Node → ℕ → List ℕ → ℕ → Told Rival
+rivalAfter table id bytes a =
+    challengerOf (length (tableAfter table id bytes)) (take addresses (tableAfter table id bytes)) a
+
 abbrev pub TakenShown : Type 0
 TakenShown =
     (table : List Node) (id : ℕ) (bytes : List ℕ) (a : ℕ)
-    → heardOf table id bytes ≡ gives (taken a) → lookedAfter table id bytes a ≡ gives (holder (numberOf bytes))
+    → heardOf table id bytes ≡ gives (taken a)
+    → (lookedAfter table id bytes a ≡ gives (holder (numberOf bytes))) × (rivalAfter table id bytes a ≡ gives noRival)
+
+abbrev pub ChallengesShown : Type 0
+ChallengesShown =
+    (table : List Node) (id : ℕ) (bytes : List ℕ) (a : ℕ)
+    → heardOf table id bytes ≡ gives (challenges a)
+    → (m : ℕ) × (lookedAfter table id bytes a ≡ gives (holder m)) × (m < numberOf bytes)
+    × (rivalAfter table id bytes a ≡ gives (rival (numberOf bytes) 0))
 
 abbrev pub HeldShown : Type 0
 HeldShown =
     (table : List Node) (id : ℕ) (bytes : List ℕ) (a : ℕ)
     → heardOf table id bytes ≡ gives (heldByLower a)
-    → (m : ℕ) × (lookedAfter table id bytes a ≡ gives (holder m)) × (m < numberOf bytes)
+    → (m c w : ℕ) × (lookedAfter table id bytes a ≡ gives (holder m))
+    × (rivalAfter table id bytes a ≡ gives (rival c w))
+    × (m < c) × (c < numberOf bytes)
 
 -- In a table that keeps the rules a NAME is found exactly at the address whose record is present with it, so at one at
 -- most; and nowhere exactly if no record is.

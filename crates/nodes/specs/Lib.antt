@@ -4,3 +4,4 @@ pub mod Call
 pub mod Promises
 pub mod Inside
 pub mod Laws
+pub mod Runs

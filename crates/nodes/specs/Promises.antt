@@ -7,14 +7,18 @@ use lib.ListN.{length, take}
 use Rattle.frame.specs.Words.{Told, refused, gives, numberIn}
 use Rattle.frame.specs.Promises.{refusalOf}
 use Rattle.nodes.specs.Table.{addresses, emptyTable}
-use Rattle.nodes.specs.Call.{Outcome, nothingToDo, taken, heldByLower, silent, Holder, nobody, holder, heardOf, tableAfter, lookedUpOf, Whereabouts, nowhere, there, foundOf}
+use Rattle.nodes.specs.Call.{Outcome, nothingToDo, taken, challenges, heldByLower, silent, replaced, Holder, nobody, holder, heardOf, tableAfter, pauseTold, tablePaused, lookedUpOf, Whereabouts, nowhere, there, foundOf, Rival, noRival, rival, challengerOf}
 use Rattle.nodes.specs.declared.Node.{Node}
 use Rattle.nodes.specs.declared.Heard.{Heard}
 use Rattle.nodes.specs.declared.Heard.the-variants as Heard
+use Rattle.nodes.specs.declared.Pausing.{Pausing}
+use Rattle.nodes.specs.declared.Pausing.the-variants as Pausing
 use Rattle.nodes.specs.declared.LookedUp.{LookedUp}
 use Rattle.nodes.specs.declared.LookedUp.the-variants as LookedUp
 use Rattle.nodes.specs.declared.FoundAddress.{FoundAddress}
 use Rattle.nodes.specs.declared.FoundAddress.the-variants as FoundAddress
+use Rattle.nodes.specs.declared.FoundChallenger.{FoundChallenger}
+use Rattle.nodes.specs.declared.FoundChallenger.the-variants as FoundChallenger
 
 -- empty
 
@@ -25,6 +29,7 @@ pub record Empty (r : List Node) : Type 0 where
 
 abbrev pub toldHeard : Heard → Told Outcome
 toldHeard (Heard.Taken address) = gives (taken address)
+toldHeard (Heard.Challenges address) = gives (challenges address)
 toldHeard (Heard.HeldByLower address) = gives (heldByLower address)
 toldHeard Heard.Silent = gives silent
 toldHeard Heard.NothingToDo = gives nothingToDo
@@ -38,6 +43,20 @@ pub record Hear (table : List Node) (id : ℕ) (bytes : List ℕ) (r : Heard) (a
 
 pub record HeardRefusal (answer : Heard) (r : ℕ) : Type 0 where
   pub number : r ≡ numberIn (toldHeard answer)
+
+-- pause
+
+abbrev pub toldPausing : Pausing → Told Outcome
+toldPausing (Pausing.Replaced count) = gives (replaced count)
+toldPausing Pausing.TableTooShort = refused 1
+toldPausing Pausing.BrokenTable = refused 2
+
+pub record Pause (table : List Node) (ms : ℕ) (r : Pausing) (after : List Node) : Type 0 where
+  pub answer : toldPausing r ≡ pauseTold table ms
+  pub table-after : after ≡ tablePaused table ms
+
+pub record PausingRefusal (answer : Pausing) (r : ℕ) : Type 0 where
+  pub number : r ≡ numberIn (toldPausing answer)
 
 -- look_up; the table is only read
 
@@ -66,3 +85,17 @@ pub record FindAddress (table : List Node) (name : ℕ) (r : FoundAddress) : Typ
 
 pub record FoundAddressRefusal (answer : FoundAddress) (r : ℕ) : Type 0 where
   pub number : r ≡ numberIn (toldFoundAddress answer)
+
+-- find_challenger; the table is only read
+
+abbrev pub toldFoundChallenger : FoundChallenger → Told Rival
+toldFoundChallenger (FoundChallenger.Waits name wait) = gives (rival name wait)
+toldFoundChallenger FoundChallenger.NoChallenger = gives noRival
+toldFoundChallenger FoundChallenger.TableTooShort = refused 1
+toldFoundChallenger FoundChallenger.BrokenTable = refused 2
+
+pub record FindChallenger (table : List Node) (address : ℕ) (r : FoundChallenger) : Type 0 where
+  pub answer : toldFoundChallenger r ≡ challengerOf (length table) (take addresses table) address
+
+pub record FoundChallengerRefusal (answer : FoundChallenger) (r : ℕ) : Type 0 where
+  pub number : r ≡ numberIn (toldFoundChallenger answer)

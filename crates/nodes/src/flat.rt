@@ -2,11 +2,15 @@
 use crate::Change;
 use crate::Claim;
 use crate::FoundAddress;
+use crate::FoundChallenger;
 use crate::Heard;
 use crate::Judged;
+use crate::JudgedPause;
 use crate::LookedUp;
 use crate::Node;
+use crate::Pausing;
 use crate::RECORDS;
+use crate::TAKES_AFTER;
 use frame::Verdict;
 use frame::standard::CLAIM;
 use frame::standard::GREATEST_ADDRESS;
@@ -14,10 +18,10 @@ ghost use mathlib.Core.Path.{_≡_};
 ghost use Prim.Native.Nat.{_≤_};
 ghost use lib.ListN.{drop};
 ghost use Rattle.frame.specs.Words.{gives};
-ghost use Rattle.nodes.specs.Table.{addresses, hasName, givesWay, clearedOf, takenOf, soundRecord, heldIn, heldAgain, keepsRules};
-ghost use Rattle.nodes.specs.Call.{askedOf, askedBy, claimOutcome, lookedUpOf, addressFrom, foundOf};
-ghost use Rattle.nodes.specs.Promises.{toldHeard, toldLookedUp, toldFoundAddress};
-ghost use Rattle.nodes.specs.Inside.{claimedAt, afterOf, readableOf, JudgedAs, unaskedAs};
+ghost use Rattle.nodes.specs.Table.{addresses, absent as absentNode, held as heldBy, challenged as challengedBy, unchallengedOf, hasName, isChallenged, hasChallenger, stands as standsFor, givesWay, mayChallenge, vacatedOf, clearedOf, enteredOf, claimedHere, claimedAt, replacesOf, pausedAt, replacedIn, soundChallenge, soundRecord, standsIn, holderAgain, challengerAgain, standsAgain, keepsRules};
+ghost use Rattle.nodes.specs.Call.{askedOf, askedBy, pauseAsked, claimOutcome, lookedUpOf, addressFrom, foundOf, challengerOf};
+ghost use Rattle.nodes.specs.Promises.{toldHeard, toldLookedUp, toldFoundAddress, toldFoundChallenger};
+ghost use Rattle.nodes.specs.Inside.{afterOf, readableOf, JudgedAs, unaskedAs, JudgedPauseAs, unpausedAs};
 
 // How many records are read of a table with `size`: those of all the addresses, or none.
 pub fn readable(size: usize) -> usize
@@ -90,7 +94,55 @@ fn outcome(records: [Node; RECORDS], claim: Claim) -> Heard
     if gives_way(before, claim.name) {
         return Heard::Taken(source);
     }
+    if may_challenge(before, claim.name) {
+        return Heard::Challenges(source);
+    }
     Heard::HeldByLower(source)
+}
+
+// Judges a pause on values: everything that is refused, and in how many records the challenger takes the address.
+pub fn judge_pause(size: usize, records: [Node; RECORDS], ms: u16) -> JudgedPause
+    ensures { λ r. ⌜ JudgedPauseAs records (pauseAsked size records ms) r ⌝ }
+{
+    if size < RECORDS {
+        return unpaused(Pausing::TableTooShort);
+    }
+    if !keeps_rules(records) {
+        return unpaused(Pausing::BrokenTable);
+    }
+    let answer = Pausing::Replaced(replaced(records, ms));
+    let turns = RECORDS;
+    let change = Change::Pauses(ms);
+    JudgedPause {
+        answer,
+        turns,
+        change,
+    }
+}
+
+// A refused pause: nothing is done to the table.
+fn unpaused(answer: Pausing) -> JudgedPause
+    ensures { λ r. ⌜ r ≡ unpausedAs answer ⌝ }
+{
+    let turns = 0;
+    let change = Change::Nothing;
+    JudgedPause {
+        answer,
+        turns,
+        change,
+    }
+}
+
+fn replaced(records: [Node; RECORDS], ms: u16) -> u8
+    ensures { λ r. ⌜ r ≡ replacedIn ms records ⌝ }
+{
+    let mut count: usize = 0;
+    let mut i: usize = 0;
+    while i < RECORDS {
+        count += replaces(records[i], ms);
+        i += 1;
+    }
+    count as u8
 }
 
 pub fn looked_up(size: usize, records: [Node; RECORDS], address: u8) -> LookedUp
@@ -111,6 +163,26 @@ pub fn looked_up(size: usize, records: [Node; RECORDS], address: u8) -> LookedUp
         return LookedUp::Present(n.name);
     }
     LookedUp::Absent
+}
+
+pub fn found_challenger(size: usize, records: [Node; RECORDS], address: u8) -> FoundChallenger
+    ensures { λ r. ⌜ toldFoundChallenger r ≡ challengerOf size records address ⌝ }
+{
+    if size < RECORDS {
+        return FoundChallenger::TableTooShort;
+    }
+    if !keeps_rules(records) {
+        return FoundChallenger::BrokenTable;
+    }
+    if address > GREATEST_ADDRESS {
+        return FoundChallenger::NoChallenger;
+    }
+    let at = address as usize;
+    let n = records[at];
+    if is_challenged(n) {
+        return FoundChallenger::Waits(n.challenger, n.wait);
+    }
+    FoundChallenger::NoChallenger
 }
 
 pub fn found_address(size: usize, records: [Node; RECORDS], name: u64) -> FoundAddress
@@ -148,42 +220,134 @@ pub fn after(n: Node, address: usize, change: Change) -> Node
     match change {
         Change::Nothing => n,
         Change::Claims(claim) => claimed(n, address, claim),
+        Change::Pauses(ms) => paused(n, ms),
     }
 }
 
-// What the record of an address becomes by a claim.
+// What the record of an address becomes by a claim: the NAME is cleared, but from its own address, where it is entered.
 fn claimed(n: Node, address: usize, claim: Claim) -> Node
     ensures { λ r. ⌜ r ≡ claimedAt claim address n ⌝ }
 {
-    let before = cleared(n, claim.name);
     if address == claim.source as usize {
-        return taken(before, claim.name);
+        return claimed_here(n, claim.name);
     }
-    before
+    cleared(n, claim.name)
 }
 
+// What the record becomes whose address is claimed: its holder again, without a challenger; or another NAME is entered,
+// which is cleared first, for it may be the challenger.
+fn claimed_here(before: Node, name: u64) -> Node
+    ensures { λ r. ⌜ r ≡ claimedHere name before ⌝ }
+{
+    if has_name(before, name) {
+        return challenged(before, 0, 0);
+    }
+    let rest = cleared(before, name);
+    entered(rest, name)
+}
+
+// The record without a NAME: where it was the holder the challenger takes over, and where it challenged it does no
+// more.
 fn cleared(n: Node, name: u64) -> Node
     ensures { λ r. ⌜ r ≡ clearedOf name n ⌝ }
 {
     if has_name(n, name) {
-        return Node {
-            present: false,
-            name: 0,
-        };
+        return vacated(n);
+    }
+    if has_challenger(n, name) {
+        return unchallenged(n);
     }
     n
 }
 
-fn taken(n: Node, name: u64) -> Node
-    ensures { λ r. ⌜ r ≡ takenOf name n ⌝ }
+// The record after its holder has gone.
+fn vacated(n: Node) -> Node
+    ensures { λ r. ⌜ r ≡ vacatedOf n ⌝ }
+{
+    if is_challenged(n) {
+        return held(n.challenger);
+    }
+    absent()
+}
+
+// The record with a NAME that claims its address.
+fn entered(n: Node, name: u64) -> Node
+    ensures { λ r. ⌜ r ≡ enteredOf name n ⌝ }
 {
     if gives_way(n, name) {
-        return Node {
-            present: true,
-            name,
-        };
+        return held(name);
+    }
+    if may_challenge(n, name) {
+        return challenged(n, name, 0);
     }
     n
+}
+
+// The record after a pause. The sum is made in 32 bits: 249 and 65,535 do not fit 16.
+fn paused(n: Node, ms: u16) -> Node
+    ensures { λ r. ⌜ r ≡ pausedAt ms n ⌝ }
+{
+    if !is_challenged(n) {
+        return n;
+    }
+    let sum = n.wait as u32 + ms as u32;
+    if sum < TAKES_AFTER as u32 {
+        return challenged(n, n.challenger, sum as u16);
+    }
+    held(n.challenger)
+}
+
+// 1 where the challenger takes the record in a pause, and 0 where not.
+fn replaces(n: Node, ms: u16) -> usize
+    ensures { λ r. ⌜ r ≡ replacesOf ms n ⌝ }
+{
+    if !is_challenged(n) {
+        return 0;
+    }
+    let waited = n.wait as u32 + ms as u32;
+    if waited < TAKES_AFTER as u32 {
+        return 0;
+    }
+    1
+}
+
+fn absent() -> Node
+    ensures { λ r. ⌜ r ≡ absentNode ⌝ }
+{
+    Node {
+        present: false,
+        name: 0,
+        challenger: 0,
+        wait: 0,
+    }
+}
+
+fn held(name: u64) -> Node
+    ensures { λ r. ⌜ r ≡ heldBy name ⌝ }
+{
+    Node {
+        present: true,
+        name,
+        challenger: 0,
+        wait: 0,
+    }
+}
+
+fn challenged(n: Node, challenger: u64, wait: u16) -> Node
+    ensures { λ r. ⌜ r ≡ challengedBy challenger wait n ⌝ }
+{
+    Node {
+        present: n.present,
+        name: n.name,
+        challenger,
+        wait,
+    }
+}
+
+fn unchallenged(n: Node) -> Node
+    ensures { λ r. ⌜ r ≡ unchallengedOf n ⌝ }
+{
+    challenged(n, 0, 0)
 }
 
 fn has_name(n: Node, name: u64) -> bool
@@ -195,6 +359,32 @@ fn has_name(n: Node, name: u64) -> bool
     false
 }
 
+fn is_challenged(n: Node) -> bool
+    ensures { λ r. ⌜ r ≡ isChallenged n ⌝ }
+{
+    0 < n.challenger
+}
+
+fn has_challenger(n: Node, name: u64) -> bool
+    ensures { λ r. ⌜ r ≡ hasChallenger name n ⌝ }
+{
+    if is_challenged(n) {
+        return n.challenger == name;
+    }
+    false
+}
+
+// Whether the NAME stands in the record, as the holder or as the challenger.
+fn stands(n: Node, name: u64) -> bool
+    ensures { λ r. ⌜ r ≡ standsFor name n ⌝ }
+{
+    let holds = has_name(n, name);
+    if holds {
+        return true;
+    }
+    has_challenger(n, name)
+}
+
 fn gives_way(n: Node, name: u64) -> bool
     ensures { λ r. ⌜ r ≡ givesWay name n ⌝ }
 {
@@ -204,7 +394,17 @@ fn gives_way(n: Node, name: u64) -> bool
     true
 }
 
-// The rules of a table, each pair of records compared once.
+fn may_challenge(n: Node, name: u64) -> bool
+    ensures { λ r. ⌜ r ≡ mayChallenge name n ⌝ }
+{
+    if is_challenged(n) {
+        return name < n.challenger;
+    }
+    true
+}
+
+// The rules of a table, each pair of records compared once. Who is absent is compared with nobody, and so no table is
+// handed on for it.
 fn keeps_rules(records: [Node; RECORDS]) -> bool
     ensures { λ r. ⌜ r ≡ keepsRules records ⌝ }
 {
@@ -214,7 +414,11 @@ fn keeps_rules(records: [Node; RECORDS]) -> bool
         if !sound_record(n) {
             return false;
         }
-        if held_again(records, i + 1, n) {
+        if !n.present {
+            i += 1;
+            continue;
+        }
+        if stands_again(records, i + 1, n) {
             return false;
         }
         i += 1;
@@ -226,28 +430,66 @@ fn sound_record(n: Node) -> bool
     ensures { λ r. ⌜ r ≡ soundRecord n ⌝ }
 {
     if n.present {
-        return true;
+        return sound_challenge(n);
     }
-    n.name == 0
+    if n.name != 0 {
+        return false;
+    }
+    if n.challenger != 0 {
+        return false;
+    }
+    n.wait == 0
 }
 
-fn held_again(records: [Node; RECORDS], from: usize, n: Node) -> bool
+fn sound_challenge(n: Node) -> bool
+    ensures { λ r. ⌜ r ≡ soundChallenge n ⌝ }
+{
+    if !is_challenged(n) {
+        return n.wait == 0;
+    }
+    if n.challenger <= n.name {
+        return false;
+    }
+    n.wait < TAKES_AFTER
+}
+
+fn stands_again(records: [Node; RECORDS], from: usize, n: Node) -> bool
     requires { ⌜ from ≤ addresses ⌝ }
-    ensures { λ r. ⌜ r ≡ heldAgain n (drop from records) ⌝ }
+    ensures { λ r. ⌜ r ≡ standsAgain n (drop from records) ⌝ }
+{
+    if holder_again(records, from, n) {
+        return true;
+    }
+    challenger_again(records, from, n)
+}
+
+fn holder_again(records: [Node; RECORDS], from: usize, n: Node) -> bool
+    requires { ⌜ from ≤ addresses ⌝ }
+    ensures { λ r. ⌜ r ≡ holderAgain n (drop from records) ⌝ }
 {
     if n.present {
-        return held_from(records, from, n.name);
+        return stands_from(records, from, n.name);
     }
     false
 }
 
-fn held_from(records: [Node; RECORDS], from: usize, name: u64) -> bool
+fn challenger_again(records: [Node; RECORDS], from: usize, n: Node) -> bool
     requires { ⌜ from ≤ addresses ⌝ }
-    ensures { λ r. ⌜ r ≡ heldIn name (drop from records) ⌝ }
+    ensures { λ r. ⌜ r ≡ challengerAgain n (drop from records) ⌝ }
+{
+    if is_challenged(n) {
+        return stands_from(records, from, n.challenger);
+    }
+    false
+}
+
+fn stands_from(records: [Node; RECORDS], from: usize, name: u64) -> bool
+    requires { ⌜ from ≤ addresses ⌝ }
+    ensures { λ r. ⌜ r ≡ standsIn name (drop from records) ⌝ }
 {
     let mut i = from;
     while i < RECORDS {
-        if has_name(records[i], name) {
+        if stands(records[i], name) {
             return true;
         }
         i += 1;

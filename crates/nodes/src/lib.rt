@@ -1,32 +1,49 @@
-// The node table (RULES 9): which NAME holds which address. The table is a slice of records that the caller lends;
-// record a stands for address a.
+// The node table (RULES 9): which NAME holds which address, and which NAME challenges it there. The table is a slice of
+// records that the caller lends; record a stands for address a.
 mod flat; // the work on values
 
 ghost use mathlib.Core.Path.{_≡_};
 ghost use Prim.Native.Nat.{_≤_};
 ghost use lib.ListN.{length};
-ghost use Rattle.nodes.specs.Promises.{Empty, Hear, LookUp, FindAddress, HeardRefusal, LookedUpRefusal, FoundAddressRefusal};
-ghost use Rattle.nodes.specs.Inside.{afterOf, eachFrom, recordsOf};
+ghost use Rattle.nodes.specs.Promises.{Empty, Hear, Pause, LookUp, FindAddress, FindChallenger, HeardRefusal, PausingRefusal, LookedUpRefusal, FoundAddressRefusal, FoundChallengerRefusal};
+ghost use Rattle.nodes.specs.Table.{eachFrom};
+ghost use Rattle.nodes.specs.Inside.{afterOf, recordsOf};
 
 // A table has a record for each of the addresses 0 to 253; what stands past them is neither read nor written.
 pub const RECORDS: usize = 254;
 
-// A record: whether a node holds the address, and its NAME. Where nobody holds it the NAME is 0.
+// A challenger takes its record after so many milliseconds.
+pub const TAKES_AFTER: u16 = 250;
+
+// A record: whether a node holds the address, and its NAME; the NAME that challenges it, 0 for none, and for how many
+// milliseconds it has, up to 249. A challenger has a higher NAME than the holder, and so is never 0. Where nobody holds
+// the address, or nobody challenges the holder, what is missing is all zeros.
 pub struct Node {
     pub present: bool,
     pub name: u64,
+    pub challenger: u64,
+    pub wait: u16,
 }
 
-// What came of a frame: a claim's record took the NAME, or stays with a lower one; a claim from 254, whose sender has
-// no address; or refusal 1, 2, or 3 to 6.
+// What came of a frame: a claim's record took the NAME; or stays with a lower one, which the NAME now challenges; or
+// which a lower NAME than this one challenges already, so that the claimer stands nowhere; a claim from 254, whose
+// sender has no address; or refusal 1, 2, or 3 to 6.
 pub enum Heard {
     Taken(u8),
+    Challenges(u8),
     HeldByLower(u8),
     Silent,
     NothingToDo,
     TableTooShort,
     BrokenTable,
     BadFrame(frame::BadFrame),
+}
+
+// In how many records the challenger took the address, or refusal 1 or 2.
+pub enum Pausing {
+    Replaced(u8),
+    TableTooShort,
+    BrokenTable,
 }
 
 // Who has an address, or refusal 1 or 2.
@@ -45,6 +62,14 @@ pub enum FoundAddress {
     BrokenTable,
 }
 
+// Which NAME challenges the holder of an address, and for how many milliseconds it has; or refusal 1 or 2.
+pub enum FoundChallenger {
+    Waits(u64, u16),
+    NoChallenger,
+    TableTooShort,
+    BrokenTable,
+}
+
 impl Heard {
     // The number of the refusal; 0 where the frame is heard.
     pub fn refusal(self) -> u8
@@ -53,12 +78,27 @@ impl Heard {
         let answer = self;
         match answer {
             Heard::Taken(_) => 0,
+            Heard::Challenges(_) => 0,
             Heard::HeldByLower(_) => 0,
             Heard::Silent => 0,
             Heard::NothingToDo => 0,
             Heard::TableTooShort => 1,
             Heard::BrokenTable => 2,
             Heard::BadFrame(why) => why.refusal(),
+        }
+    }
+}
+
+impl Pausing {
+    // The number of the refusal; 0 where the pause is passed on.
+    pub fn refusal(self) -> u8
+        ensures { λ r. ⌜ PausingRefusal self r ⌝ }
+    {
+        let answer = self;
+        match answer {
+            Pausing::Replaced(_) => 0,
+            Pausing::TableTooShort => 1,
+            Pausing::BrokenTable => 2,
         }
     }
 }
@@ -93,6 +133,21 @@ impl FoundAddress {
     }
 }
 
+impl FoundChallenger {
+    // The number of the refusal; 0 where a challenger is looked for.
+    pub fn refusal(self) -> u8
+        ensures { λ r. ⌜ FoundChallengerRefusal self r ⌝ }
+    {
+        let answer = self;
+        match answer {
+            FoundChallenger::Waits(_, _) => 0,
+            FoundChallenger::NoChallenger => 0,
+            FoundChallenger::TableTooShort => 1,
+            FoundChallenger::BrokenTable => 2,
+        }
+    }
+}
+
 // A table to start from: nobody has an address.
 pub fn empty() -> [Node; RECORDS]
     ensures { λ r. ⌜ Empty r ⌝ }
@@ -100,10 +155,15 @@ pub fn empty() -> [Node; RECORDS]
     [Node {
         present: false,
         name: 0,
+        challenger: 0,
+        wait: 0,
     }; RECORDS]
 }
 
-// Hears a frame: a claim clears its NAME from every record, and then takes the record of its source.
+// Hears a frame; one that is no claim is nothing to do. A claim clears its NAME from the records of all other
+// addresses: one that it held goes to its challenger, or to nobody. At its own address the holder's claim ends a
+// challenge; another NAME takes the record from a higher one or from nobody, and challenges a lower one, unless a lower
+// NAME than its own does. Refusals 1, 2 and 3 to 6 leave the table as it is.
 pub fn hear(table: &mut [Node], id: u32, bytes: &[u8]) -> Heard
     ensures { λ r. ⌜ Hear (now (table .entry)) id (now (bytes .entry)) r (now (table .exit)) ⌝ }
 {
@@ -112,18 +172,35 @@ pub fn hear(table: &mut [Node], id: u32, bytes: &[u8]) -> Heard
     judged.answer
 }
 
-// Looks up who has an address. Above 253 nobody has.
+// Passes time: every challenger waits so much longer, and one that has waited 250 ms takes its record. The answer is in
+// how many records that was so. Refusals 1 and 2 leave the table as it is.
+pub fn pause(table: &mut [Node], ms: u16) -> Pausing
+    ensures { λ r. ⌜ Pause (now (table .entry)) ms r (now (table .exit)) ⌝ }
+{
+    let judged = flat::judge_pause(table.len(), records(table), ms);
+    changed(table, judged.turns, judged.change);
+    judged.answer
+}
+
+// Looks up who has an address: the holder, until a challenger takes the record. Above 253 nobody has one.
 pub fn look_up(table: &[Node], address: u8) -> LookedUp
     ensures { λ r. ⌜ LookUp (now (table .entry)) address r ⌝ }
 {
     flat::looked_up(table.len(), records(table), address)
 }
 
-// Finds the address that a NAME has: that of the one record present with it.
+// Finds the address that a NAME has: that of the one record present with it. A challenger has none yet.
 pub fn find_address(table: &[Node], name: u64) -> FoundAddress
     ensures { λ r. ⌜ FindAddress (now (table .entry)) name r ⌝ }
 {
     flat::found_address(table.len(), records(table), name)
+}
+
+// Finds out who challenges the holder of an address, and for how long it has. Above 253 nobody does.
+pub fn find_challenger(table: &[Node], address: u8) -> FoundChallenger
+    ensures { λ r. ⌜ FindChallenger (now (table .entry)) address r ⌝ }
+{
+    flat::found_challenger(table.len(), records(table), address)
 }
 
 // A claim: who sends it, and its NAME.
@@ -136,11 +213,19 @@ struct Claim {
 enum Change {
     Nothing,
     Claims(Claim),
+    Pauses(u16),
 }
 
 // A call judged: its answer, over how many records its change goes, and the change.
 struct Judged {
     answer: Heard,
+    turns: usize,
+    change: Change,
+}
+
+// A pause judged in the same way.
+struct JudgedPause {
+    answer: Pausing,
     turns: usize,
     change: Change,
 }

@@ -188,11 +188,11 @@ fn hear_frame(panel: Panel, id: u32, bytes: [u8; 8], storage: &mut [u8]) -> Pane
 // Each part of the panel hears every sound frame, and leaves those that are not meant for it. What a frame can change
 // is what its part returns.
 fn hear_sound(panel: Panel, parts: Parts, id: u32, bytes: [u8; 8], storage: &mut [u8]) -> Panel {
-    let before = panel.claim;
-    let claim = network::contest(before, id, bytes);
+    let contested = network::contest(panel.claim, id, bytes);
+    let claim = contested.claim;
     let nodes = panel.nodes;
     let nodes = names::hear_claim(nodes, id, bytes);
-    let nodes = network::hear_own_claim(nodes, before, claim);
+    let nodes = network::hear_own_claim(nodes, contested);
     let receiver = network::join(panel.receiver, id, bytes, storage);
     let host = panel.host;
     replies::answer_request(host, claim, id, bytes);

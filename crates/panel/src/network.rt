@@ -5,6 +5,7 @@ use crate::show;
 use crate::state;
 use crate::state::Panel;
 use rvc::claims::Claim;
+use rvc::claims::Heard;
 use rvc::claims::Hearing;
 use rvc::claims::Standing;
 use rvc::claims::Starting;
@@ -36,9 +37,11 @@ pub fn start() -> Panel {
     state::new(claim, nodes, replies::start())
 }
 
-// Time passes for the claim, for the open messages, and for what the panel shows.
+// Time passes for the claim, for the node table, for the open messages, and for what the panel shows.
 pub fn pause(panel: Panel, gap: u16) -> Panel {
     let claim = pause_claim(panel.claim, gap);
+    let nodes = panel.nodes;
+    let nodes = names::pause_nodes(nodes, gap);
     let receiver = pause_receiver(panel.receiver, gap);
     let tanks = panel.tanks;
     let chargers = panel.chargers;
@@ -46,6 +49,7 @@ pub fn pause(panel: Panel, gap: u16) -> Panel {
     let chargers = state::pause_chargers(chargers, gap);
     let mut panel = panel;
     panel.claim = claim;
+    panel.nodes = nodes;
     panel.receiver = receiver;
     panel.tanks = tanks;
     panel.chargers = chargers;
@@ -84,7 +88,7 @@ fn pause_receiver(receiver: Receiver, gap: u16) -> Receiver {
 }
 
 // A rival's claim at our address: a lower NAME wins it, and we go on to the next (3.3).
-pub fn contest(claim: Claim, id: u32, bytes: [u8; 8]) -> Claim {
+pub fn contest(claim: Claim, id: u32, bytes: [u8; 8]) -> Heard {
     let heard = claim.hear(id, &bytes);
     let answer = heard.answer;
     let to_send = heard.bytes;
@@ -100,28 +104,21 @@ pub fn contest(claim: Claim, id: u32, bytes: [u8; 8]) -> Claim {
         Hearing::BrokenState | Hearing::BadFrame(_) | Hearing::ListMalformed =>
             show::refused(answer.refusal()),
     }
-    after
+    heard
 }
 
-// The node table hears what we claim anew, as every other node does.
-pub fn hear_own_claim(nodes: [Node; RECORDS], before: Claim, after: Claim) -> [Node; RECORDS] {
-    if address_of(before) == address_of(after) {
-        return nodes;
-    }
-    let ours = after.our_claim();
-    let answer = ours.answer;
-    let bytes = ours.bytes;
-    show::refused(answer.refusal());
-    names::hear_claim(nodes, ours.id, bytes)
-}
-
-// The address that we have or claim; 254, which nobody has, where there is none.
-fn address_of(claim: Claim) -> u8 {
-    let standing = claim.stands();
-    match standing {
-        Standing::Held(address) => address,
-        Standing::Claiming(address) => address,
-        Standing::Silent | Standing::BrokenState | Standing::ListMalformed => 254,
+// The node table hears what we claim, as every other node does. A claim that we send again ends a challenge.
+pub fn hear_own_claim(nodes: [Node; RECORDS], contested: Heard) -> [Node; RECORDS] {
+    let answer = contested.answer;
+    let bytes = contested.bytes;
+    match answer {
+        Hearing::SendClaimAgain | Hearing::SendNextClaim | Hearing::SendCannotClaim =>
+            names::hear_claim(nodes, contested.id, bytes),
+        Hearing::NothingToDo
+        | Hearing::OwnName
+        | Hearing::BrokenState
+        | Hearing::BadFrame(_)
+        | Hearing::ListMalformed => nodes,
     }
 }
 

@@ -45,10 +45,23 @@ fn show_address(address: u8, standing: &[u8]) {
 
 // A node, by its address and its NAME.
 pub fn show_name(address: u8, name: u64) {
-    let bytes = rvc::identifiers::bytes_of(name);
     say(b"node ");
     hex(address);
     say(b": NAME ");
+    end_name(name);
+}
+
+// Who challenges the node at an address.
+pub fn show_challenger(address: u8, name: u64) {
+    say(b"node ");
+    hex(address);
+    say(b": challenged by NAME ");
+    end_name(name);
+}
+
+// The end of a line with a NAME.
+fn end_name(name: u64) {
+    let bytes = rvc::identifiers::bytes_of(name);
     hex(bytes[7]);
     hex(bytes[6]);
     hex(bytes[5]);

@@ -50,8 +50,8 @@ use denote.Triple.Table.{entered, cited}
 use denote.Triple.Walked.{says, needs, Stays, stay-slice, stay-dropped, walkOf, goes-slice, goes-dropped, Walks, ends-at, walked, walk-meets}
 use denote.Exit.{yes}
 use Rattle.nodes.specs.declared.Node.{Node}
-use Rattle.nodes.specs.Table.{absent}
-use Rattle.nodes.specs.Inside.{afterOf, eachFrom}
+use Rattle.nodes.specs.Table.{absent, eachFrom}
+use Rattle.nodes.specs.Inside.{afterOf}
 use Rattle.nodes.specs.declared.Change.{Change}
 use Rattle.nodes.proofs.Each.{each-length, each-at, each-step}
 use Rattle.nodes.proofs.Node as T

@@ -46,10 +46,10 @@ use denote.Exit.{yes}
 use Rattle.nodes.specs.declared.Node.{Node}
 use Rattle.nodes.specs.declared.Heard.{Heard}
 use Rattle.nodes.specs.declared.Judged.{Judged}
-use Rattle.nodes.specs.Table.{addresses}
+use Rattle.nodes.specs.Table.{addresses, eachFrom}
 use Rattle.nodes.specs.Call.{askedOf}
 use Rattle.nodes.specs.Promises.{Hear}
-use Rattle.nodes.specs.Inside.{afterOf, eachFrom, recordsOf, JudgedAs}
+use Rattle.nodes.specs.Inside.{afterOf, recordsOf, JudgedAs}
 use Rattle.nodes.proofs.Array.{arrayTy, array-told, array-made, array-law}
 use Rattle.nodes.proofs.Calls.{Records, Changed, calls-records, calls-changed}
 use Rattle.nodes.proofs.Each.{each-length}

@@ -21,5 +21,25 @@ returns-2 : tie.Need-returns-2
 unfolding afterOf
 returns-2 c = rw (c .before .before .change .given .1) (c .claimed .ensures)
 
+enum-known-change-2 : tie.Need-enum-known-change-2
+enum-known-change-2 c = search needs
+
+paused-requires : tie.Need-paused-requires
+paused-requires c κs = search needs
+
+returns-3 : tie.Need-returns-3
+unfolding afterOf
+returns-3 c = rw (c .before .before .change2 .given .1) (c .paused .ensures)
+
 pub after-spec : {M : Type 1} → statement M
-after-spec = tie.close (tie.spec enum-told enum-known-change claimed-requires returns returns-2)
+after-spec =
+    tie.close
+    (tie.spec
+    enum-told
+    enum-known-change
+    claimed-requires
+    enum-known-change-2
+    paused-requires
+    returns
+    returns-2
+    returns-3)

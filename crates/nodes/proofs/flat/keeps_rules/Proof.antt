@@ -4,9 +4,9 @@ use Prim.Native.Nat.{_-_, _≤_, _<_}
 use native.Mathlib.Omega.{arith}
 use borrow.Author.Tests.{not-true, not-false}
 use borrow.Author.Needs.{needs}
-use lib.ListN.{length, drop}
-use Rattle.nodes.specs.Table.{keepsRules}
-use Rattle.nodes.proofs.Rules.{length-field, rules-end, rules-unsound, rules-again, rules-turn}
+use lib.ListN.{length, getD, drop}
+use Rattle.nodes.specs.Table.{absent, keepsRules}
+use Rattle.nodes.proofs.Rules.{length-field, rules-end, rules-unsound, rules-again, rules-turn, rules-absent}
 use Rattle.nodes.proofs.flat.keeps_rules.Statement.{statement}
 use Rattle.nodes.proofs.flat.keeps_rules.Tie as tie
 
@@ -38,21 +38,6 @@ returns c =
     let s = sym (c .before .sound-record .ensures) ∙ not-true (c .before .sound-record .result) (c .if1 .taken) in
     sym (rules-unsound ns (l .i) h s) ∙ l .inv .2
 
-add-held-again : tie.Need-add-held-again Inv-loop μ-loop
-add-held-again c = search needs
-
-held-again-requires : tie.Need-held-again-requires Inv-loop μ-loop
-held-again-requires c κs = search needs
-
-returns-2 : tie.Need-returns-2 Inv-loop μ-loop
-returns-2 c =
-    let s′ = c .before .before in
-    let l = s′ .before .before .before .before .loop in
-    let ns = s′ .before .before .before .before .before .args .t1 in
-    let h : l .i < length ns = omega arith in
-    let s = sym (s′ .before .sound-record .ensures) ∙ not-false (s′ .before .sound-record .result) (s′ .if1 .left) in
-    sym (rules-again ns (l .i) h s (sym (c .before .held-again .ensures) ∙ c .if2 .taken)) ∙ l .inv .2
-
 add-i : tie.Need-add-i Inv-loop μ-loop
 add-i c = search needs
 
@@ -66,7 +51,42 @@ loop-again c =
     let ns = s′ .before .before .before .before .before .args .t1 in
     let h : l .i < length ns = omega arith in
     let s = sym (s′ .before .sound-record .ensures) ∙ not-false (s′ .before .sound-record .result) (s′ .if1 .left) in
-    (omega arith, l .inv .1, sym (rules-turn ns (l .i) h s (sym (c .before .held-again .ensures) ∙ c .if2 .left)) ∙ l .inv .2)
+    let p = not-true (getD ns (l .i) absent .present) (c .if2 .taken) in
+    (omega arith, l .inv .1, sym (rules-absent ns (l .i) h s p) ∙ l .inv .2)
+
+add-stands-again : tie.Need-add-stands-again Inv-loop μ-loop
+add-stands-again c = search needs
+
+stands-again-requires : tie.Need-stands-again-requires Inv-loop μ-loop
+stands-again-requires c κs = search needs
+
+returns-2 : tie.Need-returns-2 Inv-loop μ-loop
+returns-2 c =
+    let s′ = c .before .before .before .before in
+    let l = s′ .before .before .before .before .loop in
+    let ns = s′ .before .before .before .before .before .args .t1 in
+    let h : l .i < length ns = omega arith in
+    let s = sym (s′ .before .sound-record .ensures) ∙ not-false (s′ .before .sound-record .result) (s′ .if1 .left) in
+    sym (rules-again ns (l .i) h s (sym (c .before .stands-again .ensures) ∙ c .if3 .taken)) ∙ l .inv .2
+
+add-i-2 : tie.Need-add-i-2 Inv-loop μ-loop
+add-i-2 c = search needs
+
+loop-less-2 : tie.Need-loop-less-2 Inv-loop μ-loop
+loop-less-2 c = search needs
+
+loop-again-2 : tie.Need-loop-again-2 Inv-loop μ-loop
+loop-again-2 c =
+    let s′ = c .before .before .before .before in
+    let l = s′ .before .before .before .before .loop in
+    let ns = s′ .before .before .before .before .before .args .t1 in
+    let h : l .i < length ns = omega arith in
+    let s = sym (s′ .before .sound-record .ensures) ∙ not-false (s′ .before .sound-record .result) (s′ .if1 .left) in (
+      omega arith,
+      l .inv .1,
+      sym (rules-turn ns (l .i) h s (sym (c .before .stands-again .ensures) ∙ c .if3 .left))
+          ∙ l .inv .2,
+    )
 
 returns-3 : tie.Need-returns-3 Inv-loop μ-loop
 returns-3 c =
@@ -86,10 +106,13 @@ keeps-rules-spec =
     array-copy-out-n
     sound-record-requires
     returns
-    add-held-again
-    held-again-requires
-    returns-2
     add-i
     loop-less
     loop-again
+    add-stands-again
+    stands-again-requires
+    returns-2
+    add-i-2
+    loop-less-2
+    loop-again-2
     returns-3)

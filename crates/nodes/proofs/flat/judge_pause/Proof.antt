@@ -1,0 +1,50 @@
+-- `nodes::flat::judge_pause` meets its contract. Assumes nothing.
+use mathlib.Core.Path.{refl, sym, ap, _∙_}
+use Prim.Native.Nat.{ℕ}
+use borrow.Author.Tests.{not-true, not-false}
+use borrow.Author.Needs.{needs}
+use Rattle.frame.specs.Words.{gives}
+use Rattle.nodes.specs.Call.{replaced}
+use Rattle.nodes.proofs.Call.{pause-refused, pause-passed, pause-short, pause-broken, pause-sound}
+use Rattle.nodes.proofs.flat.judge_pause.Statement.{statement}
+use Rattle.nodes.proofs.flat.judge_pause.Tie as tie
+
+unpaused-requires : tie.Need-unpaused-requires
+unpaused-requires c κs = search needs
+
+returns : tie.Need-returns
+returns c = pause-refused _ _ _ 1 _ (pause-short _ _ _ (c .before .if1 .taken)) refl (c .unpaused .ensures)
+
+keeps-rules-requires : tie.Need-keeps-rules-requires
+keeps-rules-requires c κs = search needs
+
+unpaused-requires-2 : tie.Need-unpaused-requires-2
+unpaused-requires-2 c κs = search needs
+
+returns-2 : tie.Need-returns-2
+returns-2 c =
+    let k = c .before .before in
+    let e = sym (k .keeps-rules .ensures) ∙ not-true (k .keeps-rules .result) (c .before .if2 .taken) in
+    pause-refused _ _ _ 2 _ (pause-broken _ _ _ (k .before .if1 .left) e) refl (c .unpaused2 .ensures)
+
+replaced-requires : tie.Need-replaced-requires
+replaced-requires c κs = search needs
+
+returns-3 : tie.Need-returns-3
+returns-3 c =
+    let k = c .before .before in
+    let e = sym (k .keeps-rules .ensures) ∙ not-false (k .keeps-rules .result) (c .before .if2 .left) in
+    pause-passed _ _ _ _ (pause-sound _ _ _ (k .before .if1 .left) e)
+    (ap (λ (n : ℕ). gives (replaced n)) (c .replaced .ensures)) refl refl
+
+pub judge-pause-spec : {M : Type 1} → statement M
+judge-pause-spec =
+    tie.close
+    (tie.spec
+    unpaused-requires
+    returns
+    keeps-rules-requires
+    unpaused-requires-2
+    returns-2
+    replaced-requires
+    returns-3)
