@@ -1,7 +1,6 @@
 -- Fields of a number: the new code is read back, and every other bit is as it was.
 -- Assumes nothing.
 use mathlib.Core.Path.{_≡_, sym, ap, _∙_, subst}
-use mathlib.Core.Bool.{false}
 use mathlib.Core.List.{List, [], _∷_}
 use mathlib.Core.Logic.{_⊎_, ⊎-elim}
 use Prim.Native.Nat.{ℕ, zero, suc, _+_, _*_, _-_, _/_, _%_, _^_, _≤_, _<_}
@@ -11,11 +10,8 @@ use lib.Arith.{digits-lt}
 use lib.Dec.{lit<}
 use lib.ListN.{getD}
 use lib.Pow.{pow-pos, pow-mono, pow-add, split, high, low, field, mod-mod-pow, shr-shr, shl-exact, shl-lt, shr-lt}
-use borrow.Author.Tests.{ne-eqb}
-use Rattle.frame.specs.Words.{_=?_}
 use Rattle.frame.specs.Bytes.{numberOf, AreBytes}
 use Rattle.catalogue.specs.Field.{fieldOf, withField}
-use Rattle.catalogue.specs.Classes.{greatestCode}
 
 -- the number in three parts: above the field, the field, below it
 abbrev joined : ℕ → ℕ → ℕ → ℕ → ℕ → ℕ
@@ -104,10 +100,6 @@ new-below f w v h b = lt-of-lt-of-le (shl-lt w f b) (pow-mono {i = w + f} {j = 6
 pub field-below : (f w n : ℕ) → fieldOf f w n < 2 ^ w
 unfolding fieldOf
 field-below f w n = mod-lt (n / 2 ^ f) (pow-pos w)
-
--- a code of 64 bits is not all ones at a greater width
-pub ones-past : (w c : ℕ) → 64 < w → c < 2 ^ 64 → false ≡ (c =? greatestCode w)
-ones-past w c h g = sym (ne-eqb c (greatestCode w) (λ e. omega (arith, pow-mono {i = 65} {j = w} h)))
 
 -- bit 8b+k of a frame is bit k of byte b
 pub bit-of-byte : (bytes : List ℕ) (b k : ℕ) → AreBytes bytes → k < 8 → fieldOf (8 * b + k) 1 (numberOf bytes) ≡ fieldOf k 1 (getD bytes b 0)

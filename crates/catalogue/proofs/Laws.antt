@@ -6,7 +6,7 @@ use mathlib.Core.List.{List}
 use mathlib.Core.Logic.{_⊎_, inl, inr, ⊎-elim}
 use Prim.Native.Nat.{ℕ, _+_, _-_, _^_, _≤_, _<_}
 use native.Mathlib.Omega.{arith}
-use borrow.Author.Tests.{eq-eqb, ne-eqb, lt-ltb, le-ltb, le-leb, ltb-true, ltb-false, leb-true, leb-false, eqb-true}
+use borrow.Author.Tests.{eq-eqb, le-ltb, le-leb, ltb-true, ltb-false, leb-true, leb-false}
 use lib.ListN.{length, List·getD-eq-default}
 use Rattle.frame.specs.Words.{if_then_else_, given_then_, _<?_, _≤?_, _=?_, Told, refused, gives}
 use Rattle.frame.specs.Bytes.{numberOf, AreBytes}
@@ -14,13 +14,13 @@ use Rattle.frame.specs.Frame.{frameBytes}
 use Rattle.frame.specs.Promises.{refusalOf}
 use Rattle.frame.specs.declared.BadFrame.{BadFrame}
 use Rattle.frame.specs.declared.BadFrame.the-variants.{IdentifierTooLarge, NotEightBytes, ReservedBitSet, SourceNotAllowed}
-use Rattle.frame.proofs.Words.{by-test, true-false, refused-gives, gives-same}
+use Rattle.frame.proofs.Words.{by-test, refused-gives, gives-same}
 use Rattle.frame.proofs.Bytes.{number-below, number-of-bytes, length-bytes, bytes-small}
 use Rattle.frame.proofs.Laws.{badBack, bad-back}
 use Rattle.catalogue.specs.Rows.{rows, rowCount}
 use Rattle.catalogue.specs.Table.{noRow, having, liesInFrame, rowAt, spanOf}
 use Rattle.catalogue.specs.Field.{fieldOf, withField, widest, frameBits, InFrame}
-use Rattle.catalogue.specs.Classes.{greatestCode, hasThree, ofThree, classAt, classIn, belowGreatest}
+use Rattle.catalogue.specs.Classes.{greatestCode, classIn, belowGreatest}
 use Rattle.catalogue.specs.Scale.{scaledOf, valueAs, valueOf}
 use Rattle.catalogue.specs.Codes.{codeWhere, classCode, codeOf}
 use Rattle.catalogue.specs.Catalogue.{fieldIn, openedFor, readRowOf, scaledRowOf, writtenRowOf, readOf, scaledReadOf, replaced, writtenOf}
@@ -42,6 +42,8 @@ use Rattle.catalogue.specs.declared.Writing.the-variants as Writing
 use Rattle.catalogue.proofs.Rule as Rule
 use Rattle.catalogue.proofs.Packing as Packing
 use Rattle.catalogue.proofs.Bits as Bits
+use Rattle.catalogue.proofs.Classed as Classed
+use Rattle.catalogue.proofs.Classed.{Placed, placed}
 use Rattle.catalogue.proofs.Found as Found
 use Rattle.catalogue.proofs.Codes.{scaled-of, code-given}
 use Rattle.catalogue.proofs.Found.{given-then, found, found-frame, for-bad, for-sound, read-none, read-row, scaled-none, scaled-row, write-none, write-uncoded}
@@ -315,87 +317,17 @@ three-rows = refl
 
 -- classes
 
--- a width of three classes has four codes at least
-wide-three : (w : ℕ) → hasThree w ≡ true → 3 ≤ greatestCode w
-wide-three w t =
-    by-test (w =? 8) (λ e. rw (eqb-true w 8 e) (omega arith))
-    (λ e. by-test (w =? 16) (λ f. rw (eqb-true w 16 f) (omega arith))
-    (λ f. by-test (w =? 32) (λ g. rw (eqb-true w 32 g) (omega arith)) (λ g. true-false (sym (rw (e, f, g) at t)))))
-
-of-three : (g c : ℕ) → 3 ≤ g → (c ≡ g → ⊥) → (c ≡ g - 1 → ⊥) → (c ≡ g - 2 → ⊥) → ofThree g c ≡ Number
-unfolding ofThree
-of-three g c h a b d = rw (ne-eqb c g a, ne-eqb c (g - 1) b, ne-eqb c (g - 2) d)
-
-class-three : (row : Row) (c : ℕ) → row .plain ≡ false → hasThree (row .width) ≡ true → classIn row c ≡ ofThree (greatestCode (row .width)) c
-unfolding classIn classAt
-class-three row c p t = rw (p, t)
-
 pub three-classes : Laws.ThreeClasses
-unfolding ofThree
-three-classes row p t =
-    let g = greatestCode (row .width) in
-    let h = wide-three (row .width) t in
-    record {
-      greatest = class-three row g p t ∙ rw (eq-eqb g g refl);
-      one-less = class-three row (g - 1) p t ∙ rw (ne-eqb (g - 1) g (λ e. omega arith), eq-eqb (g - 1) (g - 1) refl);
-      two-less = class-three row (g - 2) p t ∙ rw (ne-eqb (g - 2) g (λ e. omega arith), ne-eqb (g - 2) (g - 1) (λ e. omega arith), eq-eqb (g - 2) (g - 2) refl);
-      all-else = λ c l. class-three row c p t ∙ of-three g c h (λ e. omega arith) (λ e. omega arith) (λ e. omega arith);
-    }
-
-class-one : (row : Row) (c : ℕ) → row .plain ≡ false → hasThree (row .width) ≡ false → 2 ≤ row .width
-    → classIn row c ≡ (if c =? greatestCode (row .width) then NoData else Number)
-unfolding classIn classAt
-class-one row c p t h = rw (p, t, le-ltb (row .width) 2 h)
+three-classes = Classed.three-of
 
 pub one-class : Laws.OneClass
-one-class row p t h =
-    let g = greatestCode (row .width) in
-    record {
-      greatest = class-one row g p t h ∙ rw (eq-eqb g g refl);
-      all-else = λ c l. class-one row c p t h ∙ rw (ne-eqb c g (λ e. omega arith));
-    }
-
-narrow : (w : ℕ) → w < 2 → hasThree w ≡ false
-narrow w h = rw (ne-eqb w 8 (λ e. omega arith), ne-eqb w 16 (λ e. omega arith), ne-eqb w 32 (λ e. omega arith))
-
-class-narrow : (row : Row) (c : ℕ) → row .plain ≡ false → row .width < 2 → classIn row c ≡ Number
-unfolding classIn classAt
-class-narrow row c p h = rw (p, narrow (row .width) h, lt-ltb (row .width) 2 h)
-
-class-plain : (row : Row) (c : ℕ) → row .plain ≡ true → classIn row c ≡ Number
-unfolding classIn
-class-plain row c p = rw p
+one-class = Classed.one-of
 
 pub always-numbers : Laws.AlwaysNumbers
-always-numbers row c a =
-    ⊎-elim (class-plain row c) (λ h. by-test (row .plain) (class-plain row c) (λ p. class-narrow row c p h)) a
-
--- a code of another class stands where that class has its code
-abbrev Placed : Row → ℕ → Class → Type 0
-Placed row c k = (k ≡ Number) ⊎ ((belowGreatest k ≤ greatestCode (row .width)) × (c ≡ greatestCode (row .width) - belowGreatest k))
+always-numbers = Classed.numbers-of
 
 pub bit-of-byte : Laws.BitOfByte
 bit-of-byte = Bits.bit-of-byte
-
-placed : (row : Row) (c : ℕ) → Placed row c (classIn row c)
-unfolding ofThree
-placed row c =
-    let g = greatestCode (row .width) in
-    by-test (row .plain) (λ p. inl (class-plain row c p))
-    (λ p. by-test (hasThree (row .width))
-    (λ t. let h = wide-three (row .width) t in rw (class-three row c p t) (in-three g c h))
-    (λ t. by-test (row .width <? 2)
-    (λ n. inl (class-narrow row c p (ltb-true (row .width) 2 n)))
-    (λ n. rw (class-one row c p t (ltb-false (row .width) 2 n)) (in-one g c))))
-  where
-    in-three : (g c : ℕ) → 3 ≤ g → (ofThree g c ≡ Number) ⊎ ((belowGreatest (ofThree g c) ≤ g) × (c ≡ g - belowGreatest (ofThree g c)))
-    in-three g c h =
-        by-test (c =? g) (λ e. rw e (inr (omega arith, omega (arith, eqb-true c g e))))
-        (λ e. by-test (c =? g - 1) (λ f. rw (e, f) (inr (omega arith, eqb-true c (g - 1) f)))
-        (λ f. by-test (c =? g - 2) (λ k. rw (e, f, k) (inr (omega arith, eqb-true c (g - 2) k))) (λ k. rw (e, f, k) (inl refl))))
-
-    in-one : (g c : ℕ) → ((if c =? g then NoData else Number) ≡ Number) ⊎ ((belowGreatest (if c =? g then NoData else Number) ≤ g) × (c ≡ g - belowGreatest (if c =? g then NoData else Number)))
-    in-one g c = by-test (c =? g) (λ e. rw e (inr (omega arith, omega (arith, eqb-true c g e)))) (λ e. rw e (inl refl))
 
 -- codes and values
 
@@ -576,8 +508,7 @@ reads-others n m id bytes new value a d e =
 -- examples
 
 pub example-eight : Laws.ExampleEight
-unfolding classAt ofThree
-example-eight = (refl, refl)
+example-eight = Classed.eight-bits
 
 pub example-nine : Laws.ExampleNine
 unfolding scaledOf

@@ -2,6 +2,7 @@ pub mod Rule
 pub mod Halving
 pub mod Packing
 pub mod Bits
+pub mod Classed
 pub mod Scales
 pub mod Codes
 pub mod Found

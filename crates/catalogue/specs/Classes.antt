@@ -17,7 +17,7 @@ abbrev pub hasThree : ℕ → Bool
 hasThree width = width =? 8 or width =? 16 or width =? 32
 
 -- counted down from the greatest code
-unfoldable pub ofThree : ℕ → ℕ → Class
+abbrev pub ofThree : ℕ → ℕ → Class
 ofThree greatest code =
     if code =? greatest then NoData else
     if code =? greatest - 1 then OutOfRange else

@@ -22,7 +22,7 @@ use Rattle.message.specs.Receiver.{placeCount, room, freePlace, layout, idled, 
 use Rattle.message.specs.Splitter.{splits, announcementBytes, announcementOf}
 use Rattle.message.specs.Calls.{Held, Starts, Keeps, openIn}
 use Rattle.message.specs.declared.Place.{Place}
-use Rattle.catalogue.specs.Classes.{ofThree, classAt}
+use Rattle.catalogue.specs.Classes.{classAt}
 use Rattle.catalogue.specs.Scale.{scaledOf}
 use Rattle.demands.proofs.LongReceiver.{paused-places, seat-idled, frame-agrees, heardBy, heard-kept-rules, restedBy, rested-kept-rules, starts-keep}
 use Rattle.claim.specs.Candidates.{isWellFormed, areAddresses, isAbsent, areDistinct}
@@ -87,7 +87,7 @@ eleven : sent (acknowledgedOf holding9C slideReply)
 eleven = ap sent (example-eleven holding9C sound holds)
 
 pub all-as-printed : AllAsPrinted
-unfolding priorityOf reservedOf dgnOf sourceOf identifierOf numberOf bytesOf sourceAllowed checkedOf formedOf bytesTo announced meant meaningOf isZero placeKeepsRules keepsRules closes pausedAnswer splits announcementBytes announcementOf ofThree classAt scaledOf
+unfolding priorityOf reservedOf dgnOf sourceOf identifierOf numberOf bytesOf sourceAllowed checkedOf formedOf bytesTo announced meant meaningOf isZero placeKeepsRules keepsRules closes pausedAnswer splits announcementBytes announcementOf classAt scaledOf
 all-as-printed =
     refl ▸ refl ▸ refl ▸ refl ▸ refl ▸ refl ▸ refl ▸ refl ▸ refl ▸ refl ▸ refl ▸ refl ▸
     (told 9 (eightSenders ++ (Examples.announces 9 nineBytes ∷ [])) ∙ ninth) ▸

@@ -3,7 +3,8 @@ use Prim.Native.Nat.{_<_}
 use borrow.Author.Needs.{needs}
 use lib.Pow.{pow-pos}
 use lib.Arith.{lt-of-le-ne}
-use Rattle.catalogue.proofs.Bits.{one-shl, ones-past}
+use Rattle.catalogue.proofs.Bits.{one-shl}
+use Rattle.catalogue.proofs.Classed.{ones-past}
 use Rattle.catalogue.proofs.classes.all_ones.Statement.{statement}
 use Rattle.catalogue.proofs.classes.all_ones.Tie as tie
 

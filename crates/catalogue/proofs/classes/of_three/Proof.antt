@@ -1,30 +1,25 @@
 -- `catalogue::classes::of_three` meets its contract. Assumes nothing.
 use borrow.Author.Needs.{needs}
-use Rattle.catalogue.specs.Classes.{ofThree}
 use Rattle.frame.proofs.Tests.{tests}
 use Rattle.catalogue.proofs.classes.of_three.Statement.{statement}
 use Rattle.catalogue.proofs.classes.of_three.Tie as tie
 
 returns : tie.Need-returns
-unfolding ofThree
 returns c = search tests
 
 sub-if2 : tie.Need-sub-if2
 sub-if2 c = search needs
 
 returns-2 : tie.Need-returns-2
-unfolding ofThree
 returns-2 c = search tests
 
 sub-if3 : tie.Need-sub-if3
 sub-if3 c = search needs
 
 returns-3 : tie.Need-returns-3
-unfolding ofThree
 returns-3 c = search tests
 
 returns-4 : tie.Need-returns-4
-unfolding ofThree
 returns-4 c = search tests
 
 pub of-three-spec : {M : Type 1} → statement M
