@@ -1,19 +1,27 @@
 -- The classes of codes, from their definition; no proof beside this file and proofs/classes reads its text.
 -- Assumes nothing.
-use mathlib.Core.Path.{_≡_, refl, sym, _∙_}
-use mathlib.Core.Bool.{true, false}
+use mathlib.Core.Path.{_≡_, refl, sym, ap, _∙_}
+use mathlib.Core.Bool.{Bool, true, false, not}
 use mathlib.Core.Logic.{_⊎_, inl, inr, ⊎-elim}
-use Prim.Native.Nat.{ℕ, _-_, _^_, _≤_, _<_}
+use Prim.Native.Nat.{ℕ, _+_, _*_, _-_, _/_, _^_, _≤_, _<_}
 use native.Mathlib.Omega.{arith}
-use borrow.Author.Tests.{eq-eqb, ne-eqb, lt-ltb, le-ltb, ltb-true, ltb-false, eqb-true}
-use lib.Pow.{pow-mono}
-use Rattle.frame.specs.Words.{if_then_else_, _<?_, _=?_}
-use Rattle.frame.proofs.Words.{by-test, true-false}
-use Rattle.catalogue.specs.Classes.{greatestCode, hasThree, ofThree, classAt, classIn, belowGreatest}
+use borrow.Author.Tests.{eq-eqb, ne-eqb, lt-leb, le-leb, ltb-true, ltb-false, leb-false, eqb-true}
+use lib.Pow.{pow-pos, pow-mono, pow-add, high}
+use Rattle.frame.specs.Words.{if_then_else_, _<?_, _≤?_, _=?_}
+use Rattle.frame.proofs.Words.{by-test, true-false, not-flips}
+use Rattle.catalogue.specs.Classes.{greatestCode, hasNoData, hasThree, classAt, classIn, belowGreatest}
 use Rattle.catalogue.specs.Laws as Laws
 use Rattle.catalogue.specs.declared.Row.{Row}
 use Rattle.catalogue.specs.declared.Class.{Class}
-use Rattle.catalogue.specs.declared.Class.the-variants.{Number, NoData}
+use Rattle.catalogue.specs.declared.Class.the-variants.{Number, NoData, OutOfRange, Reserved}
+
+-- all three, counted down from the greatest code
+abbrev ofThree : ℕ → ℕ → Class
+ofThree greatest code =
+    if code =? greatest then NoData else
+    if code =? greatest - 1 then OutOfRange else
+    if code =? greatest - 2 then Reserved else
+    Number
 
 -- the widths
 
@@ -27,19 +35,32 @@ four-codes w t =
 narrow : (w : ℕ) → w < 2 → hasThree w ≡ false
 narrow w h = rw (ne-eqb w 8 (λ e. omega arith), ne-eqb w 16 (λ e. omega arith), ne-eqb w 32 (λ e. omega arith))
 
+-- and it has no-data
+no-data-too : (w : ℕ) → hasThree w ≡ true → hasNoData w ≡ true
+no-data-too w t = by-test (2 ≤? w) (λ h. h) (λ h. true-false (sym t ∙ narrow w (leb-false 2 w h)))
+
 -- the class at each kind of width
 
 at-three : (w c : ℕ) → hasThree w ≡ true → classAt w c ≡ ofThree (greatestCode w) c
 unfolding classAt
-at-three w c t = rw t
+at-three w c t = rw (no-data-too w t, t)
 
 at-one : (w c : ℕ) → hasThree w ≡ false → 2 ≤ w → classAt w c ≡ (if c =? greatestCode w then NoData else Number)
 unfolding classAt
-at-one w c t h = rw (t, le-ltb w 2 h)
+at-one w c t h = rw (t, le-leb 2 w h)
 
-at-none : (w c : ℕ) → w < 2 → classAt w c ≡ Number
+pub at-none : (w c : ℕ) → w < 2 → classAt w c ≡ Number
 unfolding classAt
-at-none w c h = rw (narrow w h, lt-ltb w 2 h)
+at-none w c h = rw (narrow w h, lt-leb 2 w h)
+
+pub by-width : Laws.ClassByWidth
+by-width w c =
+    let e₁ : greatestCode w - 1 ≡ 2 ^ w - 2 = omega arith in
+    let e₂ : greatestCode w - 2 ≡ 2 ^ w - 3 = omega arith in
+    by-test (hasThree w) (λ t. rw (t, ← e₁, ← e₂) (at-three w c t))
+    (λ t. by-test (w <? 2)
+    (λ n. rw (t, n) (at-none w c (ltb-true w 2 n)))
+    (λ n. rw (t, n) (at-one w c t (ltb-false w 2 n))))
 
 -- the class of a code in a row
 
@@ -109,9 +130,40 @@ placed row c =
     in-one : (g c : ℕ) → ((if c =? g then NoData else Number) ≡ Number) ⊎ ((belowGreatest (if c =? g then NoData else Number) ≤ g) × (c ≡ g - belowGreatest (if c =? g then NoData else Number)))
     in-one g c = by-test (c =? g) (λ e. rw e (inr (omega arith, omega (arith, eqb-true c g e)))) (λ e. rw e (inl refl))
 
--- a code of 64 bits is not all ones at a greater width
-pub ones-past : (w c : ℕ) → 64 < w → c < 2 ^ 64 → false ≡ (c =? greatestCode w)
-ones-past w c h g = sym (ne-eqb c (greatestCode w) (λ e. omega (arith, pow-mono {i = 65} {j = w} h)))
+-- all ones of 64 bits, shifted down
+pub ones-shifted : (w : ℕ) → w ≤ 64 → (2 ^ 64 - 1) / 2 ^ (64 - w) ≡ greatestCode w
+ones-shifted w h =
+    let k = 64 - w in
+    let e : 64 ≡ w + k = omega arith in
+    let p : 2 ^ 64 ≡ 2 ^ w * 2 ^ k = ap (λ (m : ℕ). 2 ^ m) e ∙ pow-add 2 w k in
+    let g = greatestCode w in
+    let a : 2 ^ w ≡ g + 1 = omega (arith, pow-pos w) in
+    let s : 2 ^ w * 2 ^ k ≡ g * 2 ^ k + 2 ^ k = ap (λ (m : ℕ). m * 2 ^ k) a ∙ omega arith in
+    let o : 2 ^ 64 - 1 ≡ g * 2 ^ k + (2 ^ k - 1) = omega (arith, p, s, pow-pos k) in
+    rw o (high g k (omega (arith, pow-pos k)))
+
+-- no code of 64 bits is the greatest of a width above 64
+pub none-past : (w c : ℕ) → 64 < w → c < 2 ^ 64 → classAt w c ≡ Number
+unfolding classAt
+none-past w c h g =
+    rw (
+      ne-eqb w 8 (λ e. omega arith),
+      ne-eqb w 16 (λ e. omega arith),
+      ne-eqb w 32 (λ e. omega arith),
+      le-leb 2 w (omega arith),
+      ne-eqb c (greatestCode w) (λ e. omega (arith, pow-mono {i = 65} {j = w} h)),
+    )
+
+-- as the code counts down: from a number that is the greatest code, with an answer to whether the width has three
+pub counted : (w c g : ℕ) (t : Bool) → 2 ≤ w → g ≡ greatestCode w → t ≡ hasThree w
+    → classAt w c ≡ (if c =? g then NoData else if not t then Number else if c =? g - 1 then OutOfRange else if c =? g - 2 then Reserved else Number)
+unfolding classAt
+counted w c g true h e s = rw (e, ← s, le-leb 2 w h)
+counted w c g false h e s = rw (e, ← s, le-leb 2 w h)
+
+-- and one and two less are codes too
+pub three-below : (w g : ℕ) (t : Bool) → g ≡ greatestCode w → t ≡ hasThree w → not t ≡ false → 3 ≤ g
+three-below w g t e s f = rw e (four-codes w (sym s ∙ not-flips t f))
 
 pub eight-bits : Laws.ExampleEight
 unfolding classAt

@@ -326,6 +326,9 @@ one-class = Classed.one-of
 pub always-numbers : Laws.AlwaysNumbers
 always-numbers = Classed.numbers-of
 
+pub class-by-width : Laws.ClassByWidth
+class-by-width = Classed.by-width
+
 pub bit-of-byte : Laws.BitOfByte
 bit-of-byte = Bits.bit-of-byte
 

@@ -1,9 +1,9 @@
--- Classes of codes (RULES 7.1 to 7.4; 000, Table 3.2.3b). They are counted down from the greatest code: no-data,
--- out-of-range and reserved at widths 8, 16 and 32, no-data alone at any other width above 1. In a plain row every code
--- is a number.
+-- Classes of codes (RULES 7.1 to 7.4; 000, Table 3.2.3b), counted down: the greatest code is no-data, one less is
+-- out-of-range, two less is reserved, where the width has them; all others are numbers. In a plain row every code is a
+-- number.
 use mathlib.Core.Bool.{Bool}
 use Prim.Native.Nat.{ℕ, _-_, _^_}
-use Rattle.frame.specs.Words.{if_then_else_, _<?_, _=?_, _or_}
+use Rattle.frame.specs.Words.{if_then_else_, _≤?_, _=?_, _and_, _or_}
 use Rattle.catalogue.specs.declared.Row.{Row}
 use Rattle.catalogue.specs.declared.Class.{Class}
 use Rattle.catalogue.specs.declared.Class.the-variants.{Number, NoData, OutOfRange, Reserved}
@@ -12,24 +12,19 @@ use Rattle.catalogue.specs.declared.Class.the-variants.{Number, NoData, 
 abbrev pub greatestCode : ℕ → ℕ
 greatestCode width = 2 ^ width - 1
 
--- the widths that have all three classes
+-- the widths that have no-data, and those that have all three classes
+abbrev pub hasNoData : ℕ → Bool
+hasNoData width = 2 ≤? width
+
 abbrev pub hasThree : ℕ → Bool
 hasThree width = width =? 8 or width =? 16 or width =? 32
 
--- counted down from the greatest code
-abbrev pub ofThree : ℕ → ℕ → Class
-ofThree greatest code =
-    if code =? greatest then NoData else
-    if code =? greatest - 1 then OutOfRange else
-    if code =? greatest - 2 then Reserved else
-    Number
-
--- the class by the width alone
+-- the class by the width alone, counted down from the greatest code
 unfoldable pub classAt : ℕ → ℕ → Class
 classAt width code =
-    if hasThree width then ofThree (greatestCode width) code else
-    if width <? 2 then Number else
-    if code =? greatestCode width then NoData else
+    if hasNoData width and code =? greatestCode width then NoData else
+    if hasThree width and code =? greatestCode width - 1 then OutOfRange else
+    if hasThree width and code =? greatestCode width - 2 then Reserved else
     Number
 
 -- the class of a code in a row: the one place that reads a row's marks

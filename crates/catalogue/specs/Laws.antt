@@ -7,7 +7,7 @@ use mathlib.Core.Logic.{_↔_, _⊎_}
 use Prim.Native.Nat.{ℕ, _+_, _*_, _-_, _^_, _≤_, _<_}
 use lib.IntN.{pos, negsuc}
 use lib.ListN.{length, getD}
-use Rattle.frame.specs.Words.{refused, gives}
+use Rattle.frame.specs.Words.{if_then_else_, _<?_, _=?_, _or_, refused, gives}
 use Rattle.frame.specs.Bytes.{numberOf, AreBytes}
 use Rattle.frame.specs.Frame.{checkedOf, frameBytes}
 use Rattle.frame.specs.declared.Parts.{Parts}
@@ -24,6 +24,7 @@ use Rattle.catalogue.specs.declared.Row.{Row}
 use Rattle.catalogue.specs.declared.Unit.the-variants.{Ampere, Celsius}
 use Rattle.catalogue.specs.declared.Span.{Span}
 use Rattle.catalogue.specs.declared.Field.{Field}
+use Rattle.catalogue.specs.declared.Class.{Class}
 use Rattle.catalogue.specs.declared.Class.the-variants.{Number, NoData, OutOfRange, Reserved}
 use Rattle.catalogue.specs.declared.Value.{Value}
 use Rattle.catalogue.specs.declared.Looked.{Looked}
@@ -295,6 +296,27 @@ OneClass = (row : Row) → row .plain ≡ false → hasThree (row .width) ≡ fa
 
 abbrev pub AlwaysNumbers : Type 0
 AlwaysNumbers = (row : Row) (code : ℕ) → (row .plain ≡ true) ⊎ (row .width < 2) → classIn row code ≡ Number
+
+-- The table of RULES 7.2 read row by row, the width first, as the class was defined before request #103: the same at
+-- every width, for every code.
+
+-- its first row
+abbrev pub amongThree : ℕ → ℕ → Class
+amongThree width code =
+    if code =? 2 ^ width - 1 then NoData else
+    if code =? 2 ^ width - 2 then OutOfRange else
+    if code =? 2 ^ width - 3 then Reserved else
+    Number
+
+abbrev pub classByWidth : ℕ → ℕ → Class
+classByWidth width code =
+    if width =? 8 or width =? 16 or width =? 32 then amongThree width code else
+    if width <? 2 then Number else
+    if code =? 2 ^ width - 1 then NoData else
+    Number
+
+abbrev pub ClassByWidth : Type 0
+ClassByWidth = (width code : ℕ) → classAt width code ≡ classByWidth width code
 
 -- Bit 8b+k of a frame is bit k of byte b.
 

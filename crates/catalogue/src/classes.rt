@@ -1,18 +1,10 @@
 // Classes: which codes of a row are no numbers.
 ghost use mathlib.Core.Path.{_≡_};
 ghost use Prim.Native.Nat.{_≤_};
-ghost use Rattle.frame.specs.Words.{_=?_};
-ghost use Rattle.catalogue.specs.Classes.{greatestCode, ofThree, classAt, classIn, belowGreatest};
+ghost use Rattle.catalogue.specs.Classes.{greatestCode, hasThree, classAt, classIn, belowGreatest};
 use crate::Class;
 use crate::Row;
 use crate::fields;
-
-// The greatest codes of the widths that have all three classes.
-const GREATEST_UINT8: u64 = 0xFF;
-
-const GREATEST_UINT16: u64 = 0xFFFF;
-
-const GREATEST_UINT32: u64 = 0xFFFFFFFF;
 
 // The least width at which all ones is no number.
 const LEAST_CLASSED: u8 = 2;
@@ -38,33 +30,23 @@ pub fn below_greatest(class: Class) -> u64
     }
 }
 
+// The class by the width alone, counted down from the greatest code: that one is no-data, one less is out-of-range, two
+// less is reserved, where the width has them. At a width above 64 no code is the greatest.
 fn class_at(width: u8, code: u64) -> Class
     ensures { λ r. ⌜ r ≡ classAt width code ⌝ }
 {
-    if width == fields::UINT8 {
-        return of_three(GREATEST_UINT8, code);
-    }
-    if width == fields::UINT16 {
-        return of_three(GREATEST_UINT16, code);
-    }
-    if width == fields::UINT32 {
-        return of_three(GREATEST_UINT32, code);
-    }
     if width < LEAST_CLASSED {
         return Class::Number;
     }
-    if all_ones(width, code) {
-        return Class::NoData;
+    if fields::FRAME_BITS < width {
+        return Class::Number;
     }
-    Class::Number
-}
-
-fn of_three(greatest: u64, code: u64) -> Class
-    requires { ⌜ 2 ≤ greatest ⌝ }
-    ensures { λ r. ⌜ r ≡ ofThree greatest code ⌝ }
-{
+    let greatest = greatest_code(width);
     if code == greatest {
         return Class::NoData;
+    }
+    if !has_three(width) {
+        return Class::Number;
     }
     if code == greatest - 1 {
         return Class::OutOfRange;
@@ -75,14 +57,23 @@ fn of_three(greatest: u64, code: u64) -> Class
     Class::Number
 }
 
-fn all_ones(width: u8, code: u64) -> bool
-    ensures { λ r. ⌜ r ≡ (code =? greatestCode width) ⌝ }
+// All ones.
+fn greatest_code(width: u8) -> u64
+    requires { ⌜ (1 ≤ width) × (width ≤ 64) ⌝ }
+    ensures { λ r. ⌜ r ≡ greatestCode width ⌝ }
 {
-    if fields::FRAME_BITS < width {
-        return false;
+    u64::MAX >> (fields::FRAME_BITS - width)
+}
+
+// Whether the width has all three classes.
+fn has_three(width: u8) -> bool
+    ensures { λ r. ⌜ r ≡ hasThree width ⌝ }
+{
+    if width == fields::UINT8 {
+        return true;
     }
-    if width == fields::FRAME_BITS {
-        return code == u64::MAX;
+    if width == fields::UINT16 {
+        return true;
     }
-    code == (1u64 << width) - 1
+    width == fields::UINT32
 }

@@ -290,6 +290,7 @@ catalogue-laws =
       three-classes = Catalogue.three-classes;
       one-class = Catalogue.one-class;
       always-numbers = Catalogue.always-numbers;
+      class-by-width = Catalogue.class-by-width;
       bit-of-byte = Catalogue.bit-of-byte;
       code-back = Catalogue.code-back;
       value-back = Catalogue.value-back;

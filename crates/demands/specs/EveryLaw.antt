@@ -266,6 +266,7 @@ pub record CatalogueLaws : Type 0 where
   pub three-classes : Catalogue.ThreeClasses
   pub one-class : Catalogue.OneClass
   pub always-numbers : Catalogue.AlwaysNumbers
+  pub class-by-width : Catalogue.ClassByWidth
   pub bit-of-byte : Catalogue.BitOfByte
   pub code-back : Catalogue.CodeBack
   pub value-back : Catalogue.ValueBack
