@@ -1,4 +1,4 @@
--- The classes of codes, from their definition; no proof beside this file and proofs/classes reads its text.
+-- The classes of codes, from their definition; of this crate only this file and proofs/classes read its text.
 -- Assumes nothing.
 use mathlib.Core.Path.{_≡_, refl, sym, ap, _∙_}
 use mathlib.Core.Bool.{Bool, true, false, not}
