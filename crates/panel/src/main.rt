@@ -1,6 +1,6 @@
-// A tank and charger panel: it claims an address, answers requests, shows who has which address and what the tanks and
-// chargers of a coach said last, and says when that is stale. It hears a recorded exchange on standard input, a line
-// for each frame; a frame that it would send is printed behind the word `send`.
+// A panel for tanks, chargers and slides: it claims an address, answers requests, shows who has which address and what
+// the tanks, chargers and slides of a coach said last, and says when that is stale. It hears a recorded exchange on
+// standard input, a line for each frame; a frame that it would send is printed behind the word `send`.
 ghost use mathlib.Core.Path.{_≡_};
 ghost use Prim.Native.Nat.{_<_};
 ghost use lib.ListN.{length};
@@ -199,6 +199,7 @@ fn hear_sound(panel: Panel, parts: Parts, id: u32, bytes: [u8; 8], storage: &mut
     replies::answer_command(host, claim, parts.source, id, bytes);
     let tanks = panel.tanks;
     let chargers = panel.chargers;
+    let slides = panel.slides;
     Panel {
         claim,
         nodes,
@@ -206,5 +207,6 @@ fn hear_sound(panel: Panel, parts: Parts, id: u32, bytes: [u8; 8], storage: &mut
         receiver,
         tanks: state::hear_tank(tanks, parts.dgn, id, bytes),
         chargers: state::hear_charger(chargers, parts.dgn, id, bytes),
+        slides: state::hear_slide(slides, parts.dgn, id, bytes),
     }
 }

@@ -5,6 +5,7 @@ use crate::state::Charger;
 use crate::state::Missing;
 use crate::state::Panel;
 use crate::state::Shown;
+use crate::state::Slide;
 use crate::state::Tank;
 use libc::STDOUT_FILENO;
 use rvc::claims::Claim;
@@ -25,6 +26,11 @@ pub fn show_panel(panel: Panel) {
     let chargers = panel.chargers;
     show_charger(1, chargers[0]);
     show_charger(2, chargers[1]);
+    let slides = panel.slides;
+    show_slide(1, slides[0]);
+    show_slide(2, slides[1]);
+    show_slide(3, slides[2]);
+    show_slide(4, slides[3]);
 }
 
 pub fn show_standing(claim: Claim) {
@@ -108,6 +114,19 @@ pub fn show_charger(instance: u64, charger: Charger) {
     end_value(charger.silence);
 }
 
+pub fn show_slide(instance: u64, slide: Slide) {
+    say(b"slide ");
+    decimal(instance);
+    if !slide.heard {
+        say(b": not heard\n");
+        return;
+    }
+    let lock = slide.lock;
+    say(b": lock ");
+    show_lock(lock);
+    say(b"\n");
+}
+
 // The end of a value's line, which says so where the value is stale.
 fn end_value(silence: u32) {
     if state::is_stale(silence) {
@@ -168,6 +187,21 @@ fn show_twentieths(shown: Shown, unit: &[u8]) {
             say(unit);
         }
         Shown::Not(missing) => show_missing(missing),
+    }
+}
+
+// A lock's status, in 000's words. A sensor in error is no position of the lock.
+fn show_lock(shown: Shown) {
+    match shown {
+        Shown::Is(number) => match number {
+            0 => say(b"secured"),
+            1 => say(b"not secured"),
+            _ => show_count(shown),
+        },
+        Shown::Not(missing) => match missing {
+            Missing::OutOfRange => say(b"error"),
+            Missing::NoData | Missing::Reserved | Missing::Refused(_) => show_missing(missing),
+        },
     }
 }
 

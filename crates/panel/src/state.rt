@@ -1,4 +1,4 @@
-// What the panel keeps, and how a tank's or a charger's status changes it.
+// What the panel keeps, and how the status of a tank, a charger or a slide changes it.
 use crate::show;
 use rvc::claims::Claim;
 use rvc::commands::Host;
@@ -7,8 +7,10 @@ use rvc::fields::Row;
 use rvc::fields::ScaledReading;
 use rvc::fields::Value;
 use rvc::fields::dgns::CHARGER_STATUS;
+use rvc::fields::dgns::SLIDE_STATUS;
 use rvc::fields::dgns::TANK_STATUS;
 use rvc::fields::names::charger_status;
+use rvc::fields::names::slide_status;
 use rvc::fields::names::tank_status;
 use rvc::messages::Receiver;
 use rvc::node_table::Node;
@@ -50,7 +52,14 @@ pub struct Charger {
     pub state: Shown,
 }
 
-// Tanks 0 to 3 (fresh, black, gray, LPG), and chargers 1 and 2.
+// Whether the slide's lock is secured: 0 if it is, 1 if it is not. A slide speaks when something changes (6.14.1), so
+// its silence makes nothing stale.
+pub struct Slide {
+    pub heard: bool,
+    pub lock: Shown,
+}
+
+// Tanks 0 to 3 (fresh, black, gray, LPG), chargers 1 and 2, and the slides of rooms 1 to 4.
 pub struct Panel {
     pub claim: Claim,
     pub nodes: [Node; RECORDS],
@@ -58,9 +67,10 @@ pub struct Panel {
     pub receiver: Receiver,
     pub tanks: [Tank; 4],
     pub chargers: [Charger; 2],
+    pub slides: [Slide; 4],
 }
 
-// A panel that has heard no tank and no charger.
+// A panel that has heard no tank, no charger and no slide.
 pub fn new(claim: Claim, nodes: [Node; RECORDS], host: Host) -> Panel {
     let nothing = Shown::Not(Missing::NoData);
     let tank = Tank {
@@ -76,6 +86,10 @@ pub fn new(claim: Claim, nodes: [Node; RECORDS], host: Host) -> Panel {
         current: nothing,
         state: nothing,
     };
+    let slide = Slide {
+        heard: false,
+        lock: nothing,
+    };
     Panel {
         claim,
         nodes,
@@ -83,6 +97,7 @@ pub fn new(claim: Claim, nodes: [Node; RECORDS], host: Host) -> Panel {
         receiver: Receiver::new(),
         tanks: [tank; 4],
         chargers: [charger; 2],
+        slides: [slide; 4],
     }
 }
 
@@ -127,6 +142,29 @@ pub fn hear_charger(chargers: [Charger; 2], dgn: u32, id: u32, bytes: [u8; 8]) -
     let mut chargers = chargers;
     chargers[position] = new;
     chargers
+}
+
+// A slide's status, likewise; rooms are counted from 1 (6.14.1).
+pub fn hear_slide(slides: [Slide; 4], dgn: u32, id: u32, bytes: [u8; 8]) -> [Slide; 4] {
+    if dgn != SLIDE_STATUS {
+        return slides;
+    }
+    let instance = instance_of(slide_status::INSTANCE, id, bytes);
+    if instance == 0 {
+        return slides;
+    }
+    if 4 < instance {
+        return slides;
+    }
+    let position = instance as usize - 1;
+    let old = slides[position];
+    let new = read_slide(id, bytes);
+    if !same_slide(old, new) {
+        show::show_slide(instance, new);
+    }
+    let mut slides = slides;
+    slides[position] = new;
+    slides
 }
 
 // Time passes for the tanks, and one that it makes stale is shown.
@@ -202,6 +240,13 @@ fn read_charger(id: u32, bytes: [u8; 8]) -> Charger {
     }
 }
 
+fn read_slide(id: u32, bytes: [u8; 8]) -> Slide {
+    Slide {
+        heard: true,
+        lock: read(slide_status::LOCK_STATUS, id, bytes),
+    }
+}
+
 // The instance that a status names; FFh, which is none, where it cannot be read.
 fn instance_of(row: Row, id: u32, bytes: [u8; 8]) -> u64 {
     let reading = rvc::fields::read_row(row, id, &bytes);
@@ -268,6 +313,15 @@ fn same_charger(old: Charger, new: Charger) -> bool {
         return false;
     }
     same(old_state, new_state)
+}
+
+fn same_slide(old: Slide, new: Slide) -> bool {
+    let old_lock = old.lock;
+    let new_lock = new.lock;
+    if !old.heard {
+        return false;
+    }
+    same(old_lock, new_lock)
 }
 
 fn same(old: Shown, new: Shown) -> bool {
