@@ -3,7 +3,7 @@
 use mathlib.Core.Path.{_≡_, sym, ap, _∙_}
 use mathlib.Core.Bool.{true}
 use mathlib.Core.List.{List, [], _∷_, _++_, append-assoc, append-nil}
-use Prim.Native.Nat.{ℕ, _+_, _/_, _%_, _^_, _≤_, _<_}
+use Prim.Native.Nat.{ℕ, _+_, _*_, _/_, _%_, _^_, _≤_, _<_}
 use native.Mathlib.Nat.{mod-lt}
 use native.Mathlib.Numerals.{add-one}
 use native.Mathlib.Omega.{arith}
@@ -26,6 +26,7 @@ use Rattle.catalogue.specs.declared.Field.{Field}
 use Rattle.catalogue.specs.declared.Looked.{Looked}
 use Rattle.catalogue.specs.declared.Looked.the-variants as Looked
 use Rattle.catalogue.proofs.Laws.{row-count, ends, within, row-in-packed, rows-in-packed}
+use Rattle.busread.specs.Step.{lineRoom}
 use Rattle.busread.specs.Report.{fieldText, fieldsText, rowsOf}
 
 -- a row that is there is found in the catalogue's table
@@ -64,6 +65,11 @@ code-fits n number h =
 pub field-fits : {table : List ℕ} {n number : ℕ} {r : Looked} {row : Row} {field : Field}
     → table ≡ packedRows → RowIn table n r → r ≡ Looked.Is row → Classify row number field → n < 375 → field .code < 2 ^ 32
 field-fits {n = n} {number} t h e c k = rw (c .answer, row-there t h e k) (code-fits n number k)
+
+-- a line more of the fields' lines, of which there are at most 375
+pub room-left : (at i start : ℕ) {next count before after : ℕ} → next ≤ at + 128 * i → i < count → start + count ≤ 375
+    → at + lineRoom ≤ before → after ≡ before → next + 128 ≤ after
+room-left at i start n l s r e = omega arith
 
 -- the rows of a span
 abbrev pub rowsIn : Span → List Row

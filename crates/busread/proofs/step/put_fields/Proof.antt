@@ -8,7 +8,7 @@ use Rattle.frame.specs.Identifier.{sourceOf, dgnOf}
 use Rattle.busread.specs.Text.{Wrote}
 use Rattle.busread.specs.Report.{headText, fieldsText}
 use Rattle.busread.proofs.Writing.{behind, nothing}
-use Rattle.busread.proofs.Fields.{row-there, row-missing, span-there, span-fits, field-fits, rowsIn, fields-turn, whole-span}
+use Rattle.busread.proofs.Fields.{row-there, row-missing, span-there, span-fits, field-fits, room-left, rowsIn, fields-turn, whole-span}
 use borrow.Author.Needs.{needs}
 use native.Mathlib.Omega.{arith}
 use Rattle.busread.proofs.step.put_fields.Statement.{statement}
@@ -68,7 +68,10 @@ slice-aggregate-put-field c = sym (length-take-le (c .before .before .before .be
 
 put-field-requires : tie.Need-put-field-requires Inv-loop μ-loop
 put-field-requires c κs = (
-  omega arith,
+  let start = c .before .before .before .before .before .before .before .before .before .before .before .before .before .before .before .before .before .before in
+      let span = c .before .before .before .before .before .before .before .before .before .before .before .before .before .before .rows-in .result in
+      let l = c .before .before .before .before .before .before .before .before .before .before .loop in
+      room-left (start .args .at) (l .i) (span .start) (l .inv .2) (omega arith) (l .inv .1) (start .pre .0) (l .inv .3 .room),
   rw (length-take-le (c .before .before .before .before .before .before .before .before .before .before .before .before .put-head .result) (c .before .before .before .before .before .before .before .before .before .before .before .before .put-head .last .0) (c .before .before .before .before .before .before .before .before .before .before .before .before .put-head .ensures .0 .fits)) (c .before .before .before .before .before .before .before .before .before .before .before .before .put-head .ensures .1),
   field-fits (c .before .before .before .before .before .before .before .before .before .before .before .before .before .before .before .before .before .before .pre .1) (c .before .before .before .before .before .before .row-in .ensures) (c .before .before .before .before .looked .given .1) (c .before .before .classify .ensures) (omega arith),
 )
