@@ -4,7 +4,7 @@
 #include <string.h>
 #include <unistd.h>
 
-struct row { uint32_t dgn; uint8_t first, width, plain; };
+struct row { uint32_t dgn; uint8_t first, width, plain, two_state; };
 static const struct row rows[] = {
 #include "rows.h"
 };
@@ -117,6 +117,7 @@ static void fields(uint32_t source, uint32_t dgn, const uint8_t *data)
         WORD(" width="); decimal(r->width);
         if (r->plain || r->width < 2) WORD(" class=number");
         else if (code == greatest) WORD(" class=no-data");
+        else if (r->two_state && code == 2) WORD(" class=out-of-range");
         else if (r->width != 8 && r->width != 16 && r->width != 32) WORD(" class=number");
         else if (code == greatest - 1) WORD(" class=out-of-range");
         else if (code == greatest - 2) WORD(" class=reserved");

@@ -7,9 +7,10 @@ use Prim.Native.Nat.{ℕ, _+_, _*_, _-_, _/_, _^_, _≤_, _<_}
 use native.Mathlib.Omega.{arith}
 use borrow.Author.Tests.{eq-eqb, ne-eqb, lt-leb, le-leb, ltb-true, ltb-false, leb-false, eqb-true}
 use lib.Pow.{pow-pos, pow-mono, pow-add, high}
-use Rattle.frame.specs.Words.{if_then_else_, _<?_, _≤?_, _=?_}
-use Rattle.frame.proofs.Words.{by-test, true-false, not-flips}
+use Rattle.frame.specs.Words.{if_then_else_, _<?_, _≤?_, _=?_, _and_}
+use Rattle.frame.proofs.Words.{by-test, both-true, true-false, not-flips}
 use Rattle.catalogue.specs.Classes.{greatestCode, hasNoData, hasThree, classAt, classIn, belowGreatest}
+use Rattle.catalogue.specs.Classes.{hasTwoStates, errorCode, isError}
 use Rattle.catalogue.specs.Laws as Laws
 use Rattle.catalogue.specs.declared.Row.{Row}
 use Rattle.catalogue.specs.declared.Class.{Class}
@@ -64,12 +65,37 @@ by-width w c =
 
 -- the class of a code in a row
 
+-- where the row is not plain, and the code is not 10b in a row of two states
+class-width : (row : Row) (c : ℕ) → row .plain ≡ false → isError row c ≡ false → classIn row c ≡ classAt (row .width) c
+unfolding classIn
+class-width row c p s = rw (p, s)
+
+-- which is so where the row has not two states, and so where its width is not 2
+one-false : (a b : Bool) → a ≡ false → a and b ≡ false
+one-false a b e = rw e
+
+other-width : (row : Row) → (row .width ≡ 2 → ⊥) → hasTwoStates row ≡ false
+other-width row n = rw (ne-eqb (row .width) 2 n) (and-false (row .«two_state»))
+  where
+    and-false : (a : Bool) → a and false ≡ false
+    and-false true = refl
+    and-false false = refl
+
+class-unstated : (row : Row) (c : ℕ) → row .plain ≡ false → hasTwoStates row ≡ false
+    → classIn row c ≡ classAt (row .width) c
+class-unstated row c p s = class-width row c p (one-false (hasTwoStates row) (c =? errorCode) s)
+
+class-other : (row : Row) (c : ℕ) → row .plain ≡ false → (row .width ≡ 2 → ⊥) → classIn row c ≡ classAt (row .width) c
+class-other row c p n = class-unstated row c p (other-width row n)
+
+three-not-two : (w : ℕ) → hasThree w ≡ true → w ≡ 2 → ⊥
+three-not-two w t e = true-false (sym (rw e at t))
+
 of-three : (g c : ℕ) → 3 ≤ g → (c ≡ g → ⊥) → (c ≡ g - 1 → ⊥) → (c ≡ g - 2 → ⊥) → ofThree g c ≡ Number
 of-three g c h a b d = rw (ne-eqb c g a, ne-eqb c (g - 1) b, ne-eqb c (g - 2) d)
 
 class-three : (row : Row) (c : ℕ) → row .plain ≡ false → hasThree (row .width) ≡ true → classIn row c ≡ ofThree (greatestCode (row .width)) c
-unfolding classIn
-class-three row c p t = rw p (at-three (row .width) c t)
+class-three row c p t = class-other row c p (three-not-two (row .width) t) ∙ at-three (row .width) c t
 
 pub three-of : Laws.ThreeClasses
 three-of row p t =
@@ -82,22 +108,22 @@ three-of row p t =
       all-else = λ c l. class-three row c p t ∙ of-three g c h (λ e. omega arith) (λ e. omega arith) (λ e. omega arith);
     }
 
-class-one : (row : Row) (c : ℕ) → row .plain ≡ false → hasThree (row .width) ≡ false → 2 ≤ row .width
+class-one : (row : Row) (c : ℕ) → row .plain ≡ false → isError row c ≡ false → hasThree (row .width) ≡ false
+    → 2 ≤ row .width
     → classIn row c ≡ (if c =? greatestCode (row .width) then NoData else Number)
-unfolding classIn
-class-one row c p t h = rw p (at-one (row .width) c t h)
+class-one row c p s t h = class-width row c p s ∙ at-one (row .width) c t h
 
 pub one-of : Laws.OneClass
-one-of row p t h =
+one-of row p s t h =
     let g = greatestCode (row .width) in
+    let u : (c : ℕ) → isError row c ≡ false = λ c. one-false (hasTwoStates row) (c =? errorCode) s in
     record {
-      greatest = class-one row g p t h ∙ rw (eq-eqb g g refl);
-      all-else = λ c l. class-one row c p t h ∙ rw (ne-eqb c g (λ e. omega arith));
+      greatest = class-one row g p (u g) t h ∙ rw (eq-eqb g g refl);
+      all-else = λ c l. class-one row c p (u c) t h ∙ rw (ne-eqb c g (λ e. omega arith));
     }
 
 class-narrow : (row : Row) (c : ℕ) → row .plain ≡ false → row .width < 2 → classIn row c ≡ Number
-unfolding classIn
-class-narrow row c p h = rw p (at-none (row .width) c h)
+class-narrow row c p h = class-other row c p (λ e. omega arith) ∙ at-none (row .width) c h
 
 class-plain : (row : Row) (c : ℕ) → row .plain ≡ true → classIn row c ≡ Number
 unfolding classIn
@@ -106,6 +132,48 @@ class-plain row c p = rw p
 pub numbers-of : Laws.AlwaysNumbers
 numbers-of row c a =
     ⊎-elim (class-plain row c) (λ h. by-test (row .plain) (class-plain row c) (λ p. class-narrow row c p h)) a
+
+-- two states
+
+pub two-bits : (row : Row) → hasTwoStates row ≡ true → row .width ≡ 2
+two-bits row s = eqb-true (row .width) 2 (both-true (row .«two_state») (row .width =? 2) s .1)
+
+-- as the code asks whether a code is 10b in a row of two states
+
+pub error-unmarked : (row : Row) (c : ℕ) → not (row .«two_state») ≡ true → false ≡ isError row c
+error-unmarked row c m = by-test (row .«two_state») (λ t. true-false (sym (rw t at m))) (λ t. rw t)
+
+pub error-elsewhere : (row : Row) (c : ℕ) → (row .width ≡ 2 → ⊥) → false ≡ isError row c
+error-elsewhere row c n = sym (one-false (hasTwoStates row) (c =? errorCode) (other-width row n))
+
+pub error-here : (row : Row) (c : ℕ) → not (row .«two_state») ≡ false → row .width ≡ 2
+    → (c =? errorCode) ≡ isError row c
+error-here row c m w = rw (not-flips (row .«two_state») m, w)
+
+pub two-of : Laws.TwoStates
+unfolding classIn classAt
+two-of row p s =
+    let w = two-bits row s in
+    record { one-state = rw (p, s, w); other-state = rw (p, s, w); error = rw (p, s); no-data = rw (p, s, w) }
+
+pub unmarked-of : Laws.UnmarkedAsBefore
+unfolding classIn
+unmarked-of row c m = rw m
+
+-- a row and the same row without the mark differ at most at 10b
+pub unmarked-same : (row : Row) (c : ℕ) → isError row c ≡ false → classIn row c ≡ classIn (Laws.unmarked row) c
+unfolding classIn
+unmarked-same row c s = rw s
+
+pub plain-same : (row : Row) (c : ℕ) → row .plain ≡ true → classIn row c ≡ classIn (Laws.unmarked row) c
+unfolding classIn
+plain-same row c l = rw l
+
+-- without it, 10b is a number at two bits
+pub unmarked-number : (row : Row) → row .plain ≡ false → hasTwoStates row ≡ true
+    → classIn (Laws.unmarked row) errorCode ≡ Number
+unfolding classIn classAt
+unmarked-number row l s = rw (l, two-bits row s)
 
 -- a code of another class stands where that class has its code
 abbrev pub Placed : Row → ℕ → Class → Type 0
@@ -119,7 +187,10 @@ placed row c =
     (λ t. let h = four-codes (row .width) t in rw (class-three row c p t) (in-three g c h))
     (λ t. by-test (row .width <? 2)
     (λ n. inl (class-narrow row c p (ltb-true (row .width) 2 n)))
-    (λ n. rw (class-one row c p t (ltb-false (row .width) 2 n)) (in-one g c))))
+    (λ n. by-test (isError row c)
+    (λ s. let b = both-true (hasTwoStates row) (c =? errorCode) s in
+    rw (eqb-true c errorCode (b .1), two-of row p (b .0) .error, two-bits row (b .0)) (inr (omega arith, refl)))
+    (λ s. rw (class-one row c p s t (ltb-false (row .width) 2 n)) (in-one g c)))))
   where
     in-three : (g c : ℕ) → 3 ≤ g → (ofThree g c ≡ Number) ⊎ ((belowGreatest (ofThree g c) ≤ g) × (c ≡ g - belowGreatest (ofThree g c)))
     in-three g c h =

@@ -45,6 +45,7 @@ use Rattle.catalogue.proofs.Bits as Bits
 use Rattle.catalogue.proofs.Classed as Classed
 use Rattle.catalogue.proofs.Classed.{Placed, placed}
 use Rattle.catalogue.proofs.Found as Found
+use Rattle.catalogue.proofs.TwoStates as TwoStates
 use Rattle.catalogue.proofs.Codes.{scaled-of, code-given}
 use Rattle.catalogue.proofs.Found.{given-then, found, found-frame, for-bad, for-sound, read-none, read-row, scaled-none, scaled-row, write-none, write-uncoded}
 
@@ -328,6 +329,30 @@ always-numbers = Classed.numbers-of
 
 pub class-by-width : Laws.ClassByWidth
 class-by-width = Classed.by-width
+
+pub two-states : Laws.TwoStates
+two-states = Classed.two-of
+
+pub two-states-answered : Laws.TwoStatesAnswered
+two-states-answered = TwoStates.answered
+
+pub unmarked-as-before : Laws.UnmarkedAsBefore
+unmarked-as-before = Classed.unmarked-of
+
+pub mark-reads : Laws.MarkReads
+mark-reads = TwoStates.reads-unmarked
+
+pub mark-writes : Laws.MarkWrites
+mark-writes = TwoStates.writes-unmarked
+
+pub two-state-rows : Laws.TwoStateRows
+two-state-rows = TwoStates.rows-marked
+
+pub two-state-count : Laws.TwoStateCount
+two-state-count = TwoStates.marked-count
+
+pub no-third-state : Laws.NoThirdState
+no-third-state = TwoStates.never-third
 
 pub bit-of-byte : Laws.BitOfByte
 bit-of-byte = Bits.bit-of-byte

@@ -6,4 +6,5 @@ pub mod Classed
 pub mod Scales
 pub mod Codes
 pub mod Found
+pub mod TwoStates
 pub mod Laws

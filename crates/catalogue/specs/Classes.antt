@@ -1,6 +1,6 @@
--- Classes of codes (RULES 7.1 to 7.4; 000, Table 3.2.3b), counted down: the greatest code is no-data, one less is
--- out-of-range, two less is reserved, where the width has them; all others are numbers. In a plain row every code is a
--- number.
+-- Classes of codes (RULES 7.1 to 7.4 and 7.13; 000, Table 3.2.3b), counted down: the greatest code is no-data, one less
+-- is out-of-range, two less is reserved, where the width has them; all others are numbers. In a plain row every code is
+-- a number. In a row of two states 10b is an error, out-of-range.
 use mathlib.Core.Bool.{Bool}
 use Prim.Native.Nat.{ℕ, _-_, _^_}
 use Rattle.frame.specs.Words.{if_then_else_, _≤?_, _=?_, _and_, _or_}
@@ -27,9 +27,24 @@ classAt width code =
     if hasThree width and code =? greatestCode width - 2 then Reserved else
     Number
 
+-- a row of two states: marked so, and of two bits
+abbrev pub hasTwoStates : Row → Bool
+hasTwoStates row = row .«two_state» and row .width =? 2
+
+-- 10b, which is neither of the two states
+abbrev pub errorCode : ℕ
+errorCode = 2
+
+-- whether a code is that error in its row
+abbrev pub isError : Row → ℕ → Bool
+isError row code = hasTwoStates row and code =? errorCode
+
 -- the class of a code in a row: the one place that reads a row's marks
 unfoldable pub classIn : Row → ℕ → Class
-classIn row code = if row .plain then Number else classAt (row .width) code
+classIn row code =
+    if row .plain then Number else
+    if isError row code then OutOfRange else
+    classAt (row .width) code
 
 -- how far below the greatest code a class stands; numbers stand below the three
 abbrev pub belowGreatest : Class → ℕ

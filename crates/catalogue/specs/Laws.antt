@@ -12,10 +12,11 @@ use Rattle.frame.specs.Bytes.{numberOf, AreBytes}
 use Rattle.frame.specs.Frame.{checkedOf, frameBytes}
 use Rattle.frame.specs.declared.Parts.{Parts}
 use Rattle.catalogue.specs.Rows.{rows, rowCount}
-use Rattle.catalogue.specs.Table.{nth, rowIn, spanIn, rowWith, liesInFrame, KeepsRule, rowAt, rowOf, spanOf}
+use Rattle.catalogue.specs.Table.{nth, rowIn, howMany, spanIn, rowWith, liesInFrame, KeepsRule}
+use Rattle.catalogue.specs.Table.{rowAt, rowOf, spanOf}
 use Rattle.catalogue.specs.Packed.{packedRows, tableRows, tableRow, tableRowWith, tableSpan}
 use Rattle.catalogue.specs.Field.{fieldOf, InFrame}
-use Rattle.catalogue.specs.Classes.{greatestCode, hasThree, classAt, classIn}
+use Rattle.catalogue.specs.Classes.{greatestCode, hasThree, classAt, hasTwoStates, errorCode, classIn}
 use Rattle.catalogue.specs.Scale.{scaledOf, valueOf}
 use Rattle.catalogue.specs.Codes.{codeOf}
 use Rattle.catalogue.specs.Catalogue.{matching, openedFor, readRowOf, scaledRowOf, writtenRowOf, rowOfDgn, rowFor, readOf, scaledReadOf, replaced, writtenOf}
@@ -27,6 +28,7 @@ use Rattle.catalogue.specs.declared.Field.{Field}
 use Rattle.catalogue.specs.declared.Class.{Class}
 use Rattle.catalogue.specs.declared.Class.the-variants.{Number, NoData, OutOfRange, Reserved}
 use Rattle.catalogue.specs.declared.Value.{Value}
+use Rattle.catalogue.specs.declared.Value.the-variants as Value
 use Rattle.catalogue.specs.declared.Looked.{Looked}
 use Rattle.catalogue.specs.declared.Reading.{Reading}
 use Rattle.catalogue.specs.declared.ScaledReading.{ScaledReading}
@@ -292,7 +294,9 @@ pub record OfOne (row : Row) : Type 0 where
   pub all-else : (code : ℕ) → code < greatestCode (row .width) → classIn row code ≡ Number
 
 abbrev pub OneClass : Type 0
-OneClass = (row : Row) → row .plain ≡ false → hasThree (row .width) ≡ false → 2 ≤ row .width → OfOne row
+OneClass =
+    (row : Row) → row .plain ≡ false → hasTwoStates row ≡ false → hasThree (row .width) ≡ false → 2 ≤ row .width
+    → OfOne row
 
 abbrev pub AlwaysNumbers : Type 0
 AlwaysNumbers = (row : Row) (code : ℕ) → (row .plain ≡ true) ⊎ (row .width < 2) → classIn row code ≡ Number
@@ -317,6 +321,98 @@ classByWidth width code =
 
 abbrev pub ClassByWidth : Type 0
 ClassByWidth = (width code : ℕ) → classAt width code ≡ classByWidth width code
+
+-- Two states (RULES 7.13): 00b and 01b are numbers, 10b is out-of-range, 11b is no-data. No other code of two bits is
+-- there.
+
+pub record OfTwoStates (row : Row) : Type 0 where
+  pub one-state : classIn row 0 ≡ Number
+  pub other-state : classIn row 1 ≡ Number
+  pub error : classIn row 2 ≡ OutOfRange
+  pub no-data : classIn row 3 ≡ NoData
+
+abbrev pub TwoStates : Type 0
+TwoStates = (row : Row) → row .plain ≡ false → hasTwoStates row ≡ true → OfTwoStates row
+
+-- What the calls answer in such a row, for a frame that they open it for: reading by the code that stands in the frame,
+-- writing by the value. Any unit gives the code itself at two bits.
+pub record TwoStateAnswers (row : Row) (id : ℕ) (bytes : List ℕ) : Type 0 where
+  pub read-state :
+      (code : ℕ) → code < errorCode → fieldOf (row .first) 2 (numberOf bytes) ≡ code
+      → (readRowOf row id bytes ≡ gives (record { class = Number; code = code }))
+      × (scaledRowOf row id bytes ≡ gives (Value.Scaled (pos code)))
+  pub read-error :
+      fieldOf (row .first) 2 (numberOf bytes) ≡ errorCode
+      → (readRowOf row id bytes ≡ gives (record { class = OutOfRange; code = errorCode }))
+      × (scaledRowOf row id bytes ≡ gives Value.OutOfRange)
+  pub read-no-data :
+      fieldOf (row .first) 2 (numberOf bytes) ≡ 3
+      → (readRowOf row id bytes ≡ gives (record { class = NoData; code = 3 }))
+      × (scaledRowOf row id bytes ≡ gives Value.NoData)
+  pub write-state :
+      (code : ℕ) → code < errorCode
+      → writtenRowOf row id bytes (Value.Scaled (pos code)) ≡ gives (replaced row code bytes)
+  pub write-error : writtenRowOf row id bytes Value.OutOfRange ≡ gives (replaced row errorCode bytes)
+  pub write-no-data : writtenRowOf row id bytes Value.NoData ≡ gives (replaced row 3 bytes)
+  pub no-third-state : writtenRowOf row id bytes (Value.Scaled (pos errorCode)) ≡ refused 12
+  pub no-reserved : writtenRowOf row id bytes Value.Reserved ≡ refused 12
+
+abbrev pub TwoStatesAnswered : Type 0
+TwoStatesAnswered =
+    (row opened : Row) (id : ℕ) (bytes : List ℕ) → row .plain ≡ false → hasTwoStates row ≡ true
+    → openedFor row id (length bytes) ≡ gives opened
+    → TwoStateAnswers row id bytes
+
+-- A row without the mark has the classes that every row had before request #106.
+
+abbrev pub classUnmarked : Row → ℕ → Class
+classUnmarked row code = if row .plain then Number else classAt (row .width) code
+
+abbrev pub UnmarkedAsBefore : Type 0
+UnmarkedAsBefore = (row : Row) (code : ℕ) → row .«two_state» ≡ false → classIn row code ≡ classUnmarked row code
+
+-- And the mark speaks of 10b alone: but for that code the calls answer as they do for the same row without the mark.
+
+abbrev pub unmarked : Row → Row
+unmarked row =
+    record {
+      dgn = row .dgn;
+      first = row .first;
+      width = row .width;
+      unit = row .unit;
+      plain = row .plain;
+      «two_state» = false;
+    }
+
+abbrev pub MarkReads : Type 0
+MarkReads =
+    (row : Row) (id : ℕ) (bytes : List ℕ)
+    → (hasTwoStates row ≡ true → fieldOf (row .first) (row .width) (numberOf bytes) ≡ errorCode → ⊥)
+    → (readRowOf row id bytes ≡ readRowOf (unmarked row) id bytes)
+    × (scaledRowOf row id bytes ≡ scaledRowOf (unmarked row) id bytes)
+
+abbrev pub MarkWrites : Type 0
+MarkWrites =
+    (row : Row) (id : ℕ) (bytes : List ℕ) (value : Value)
+    → (hasTwoStates row ≡ true → codeOf row value ≡ gives errorCode → ⊥)
+    → (hasTwoStates row ≡ true → codeOf (unmarked row) value ≡ gives errorCode → ⊥)
+    → writtenRowOf row id bytes value ≡ writtenRowOf (unmarked row) id bytes value
+
+-- In the catalogue a marked row has two bits and is not plain, and 114 are marked. A number that is read from a row of
+-- two bits is 0 or 1.
+
+abbrev pub TwoStateRows : Type 0
+TwoStateRows =
+    (n : ℕ) → n < rowCount → rowAt n .«two_state» ≡ true → (rowAt n .width ≡ 2) × (rowAt n .plain ≡ false)
+
+abbrev pub TwoStateCount : Type 0
+TwoStateCount = howMany (λ r. r .«two_state») rows ≡ 114
+
+abbrev pub NoThirdState : Type 0
+NoThirdState =
+    (n id : ℕ) (bytes : List ℕ) (field : Field) → rowAt n .width ≡ 2 → readOf n id bytes ≡ gives field
+    → field .class ≡ Number
+    → field .code < errorCode
 
 -- Bit 8b+k of a frame is bit k of byte b.
 

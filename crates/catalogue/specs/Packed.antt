@@ -1,5 +1,5 @@
 -- A table of packed rows (RULES 6.5 and 6.14). A row is one number, in hexadecimal digits DGN (5), first bit (2), width
--- (2), unit (1), plain mark (1).
+-- (2), unit (1), mark (1).
 use mathlib.Core.Bool.{not}
 use mathlib.Core.List.{List, map}
 use Prim.Native.Nat.{ℕ, zero, suc, _+_, _*_, _-_, _/_, _%_}
@@ -29,6 +29,7 @@ unpacked n =
       width = n / 256 % 256;
       unit = unitOf (n / 16 % 16);
       plain = n % 16 =? 1;
+      «two_state» = n % 16 =? 2;
     }
 
 abbrev pub unitDigit : Unit → ℕ
@@ -39,9 +40,15 @@ unitDigit Volt = 3
 unitDigit Ampere = 4
 unitDigit Hertz = 5
 
+-- 1 is plain, 2 is two-state
+abbrev pub markDigit : Row → ℕ
+markDigit r =
+    if r .plain then 1 else
+    if r .«two_state» then 2 else
+    0
+
 unfoldable pub pack : Row → ℕ
-pack r =
-    r .dgn * 0x1000000 + r .first * 0x10000 + r .width * 256 + unitDigit (r .unit) * 16 + (if r .plain then 1 else 0)
+pack r = r .dgn * 0x1000000 + r .first * 0x10000 + r .width * 256 + unitDigit (r .unit) * 16 + markDigit r
 
 -- the catalogue, packed
 unfoldable pub packedRows : List ℕ

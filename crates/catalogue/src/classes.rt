@@ -1,7 +1,7 @@
 // Classes: which codes of a row are no numbers.
 ghost use mathlib.Core.Path.{_≡_};
 ghost use Prim.Native.Nat.{_≤_};
-ghost use Rattle.catalogue.specs.Classes.{greatestCode, hasThree, classAt, classIn, belowGreatest};
+ghost use Rattle.catalogue.specs.Classes.{greatestCode, hasThree, classAt, isError, classIn, belowGreatest};
 use crate::Class;
 use crate::Row;
 use crate::fields;
@@ -9,13 +9,34 @@ use crate::fields;
 // The least width at which all ones is no number.
 const LEAST_CLASSED: u8 = 2;
 
+// The width of a field of two states, and the code that is neither: 10b.
+const TWO_STATES: u8 = 2;
+
+const ERROR_CODE: u64 = 2;
+
 pub fn class_in(row: Row, code: u64) -> Class
     ensures { λ r. ⌜ r ≡ classIn row code ⌝ }
 {
     if row.plain {
         return Class::Number;
     }
+    if is_error(row, code) {
+        return Class::OutOfRange;
+    }
     class_at(row.width, code)
+}
+
+// Whether a code is 10b in a row of two states.
+fn is_error(row: Row, code: u64) -> bool
+    ensures { λ r. ⌜ r ≡ isError row code ⌝ }
+{
+    if !row.two_state {
+        return false;
+    }
+    if row.width != TWO_STATES {
+        return false;
+    }
+    code == ERROR_CODE
 }
 
 // How far below the greatest code a class stands.

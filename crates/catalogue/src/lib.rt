@@ -23,13 +23,15 @@ pub enum Unit {
     Hertz,
 }
 
-// A field of a DGN (RULES 6.1): its bits are counted over the bytes, 8 to each; a plain row is always a number.
+// A field of a DGN (RULES 6.1): its bits are counted over the bytes, 8 to each. A plain row is always a number; in a
+// two-state row, which has two bits, 10b is out-of-range (RULES 7.13).
 pub struct Row {
     pub dgn: u32,
     pub first: u8,
     pub width: u8,
     pub unit: Unit,
     pub plain: bool,
+    pub two_state: bool,
 }
 
 // A row, or refusal 11.

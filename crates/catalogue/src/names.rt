@@ -12,6 +12,7 @@ pub mod waterheater_configuration_command {
         width: 8,
         unit: Unit::Other,
         plain: false,
+        two_state: false,
     };
 
     pub const SYSTEM_TIMER_STARTING_VALUE: Row = Row {
@@ -20,6 +21,7 @@ pub mod waterheater_configuration_command {
         width: 16,
         unit: Unit::Other,
         plain: true,
+        two_state: false,
     };
 
     pub const DOMESTIC_WATER_TIMER_STARTING_VALUE: Row = Row {
@@ -28,6 +30,7 @@ pub mod waterheater_configuration_command {
         width: 16,
         unit: Unit::Other,
         plain: false,
+        two_state: false,
     };
 }
 
@@ -42,6 +45,7 @@ pub mod waterheater_configuration_status {
         width: 8,
         unit: Unit::Other,
         plain: false,
+        two_state: false,
     };
 
     pub const SYSTEM_TIMER_STARTING_VALUE: Row = Row {
@@ -50,6 +54,7 @@ pub mod waterheater_configuration_status {
         width: 16,
         unit: Unit::Other,
         plain: true,
+        two_state: false,
     };
 
     pub const DOMESTIC_WATER_TIMER_STARTING_VALUE: Row = Row {
@@ -58,6 +63,7 @@ pub mod waterheater_configuration_status {
         width: 16,
         unit: Unit::Other,
         plain: false,
+        two_state: false,
     };
 }
 
@@ -72,6 +78,7 @@ pub mod waterheater_timer_status {
         width: 8,
         unit: Unit::Other,
         plain: false,
+        two_state: false,
     };
 
     pub const SYSTEM_TIMER: Row = Row {
@@ -80,6 +87,7 @@ pub mod waterheater_timer_status {
         width: 16,
         unit: Unit::Other,
         plain: false,
+        two_state: false,
     };
 
     pub const DOMESTIC_WATER_TIMER: Row = Row {
@@ -88,6 +96,7 @@ pub mod waterheater_timer_status {
         width: 16,
         unit: Unit::Other,
         plain: false,
+        two_state: false,
     };
 }
 
@@ -102,6 +111,7 @@ pub mod circulation_pump_timer_status {
         width: 8,
         unit: Unit::Other,
         plain: false,
+        two_state: false,
     };
 
     pub const PUMP_OVERRIDE_TIMER: Row = Row {
@@ -110,6 +120,7 @@ pub mod circulation_pump_timer_status {
         width: 16,
         unit: Unit::Other,
         plain: false,
+        two_state: false,
     };
 }
 
@@ -124,6 +135,7 @@ pub mod charger_properties {
         width: 8,
         unit: Unit::Other,
         plain: false,
+        two_state: false,
     };
 
     pub const CHARGING_CURRENT_MAX_SETTING: Row = Row {
@@ -132,6 +144,7 @@ pub mod charger_properties {
         width: 8,
         unit: Unit::Ampere,
         plain: false,
+        two_state: false,
     };
 
     pub const EQUALIZATION_TIME: Row = Row {
@@ -140,6 +153,7 @@ pub mod charger_properties {
         width: 8,
         unit: Unit::Ampere,
         plain: false,
+        two_state: false,
     };
 
     pub const CHARGING_CURRENT_RESOLUTION: Row = Row {
@@ -148,6 +162,7 @@ pub mod charger_properties {
         width: 8,
         unit: Unit::Ampere,
         plain: true,
+        two_state: false,
     };
 
     pub const SUPPORTED_BATTERY_TYPES: Row = Row {
@@ -156,6 +171,7 @@ pub mod charger_properties {
         width: 8,
         unit: Unit::Other,
         plain: false,
+        two_state: false,
     };
 
     pub const SUPPORTED_BATTERY_TYPES_CONTINUED: Row = Row {
@@ -164,6 +180,7 @@ pub mod charger_properties {
         width: 8,
         unit: Unit::Other,
         plain: false,
+        two_state: false,
     };
 
     pub const VENDOR_DEFINED_PROPRIETARY_TYPE_1_USER_DEFINED_CHARGE_PARAMETERS: Row = Row {
@@ -172,6 +189,7 @@ pub mod charger_properties {
         width: 2,
         unit: Unit::Other,
         plain: false,
+        two_state: true,
     };
 
     pub const VENDOR_DEFINED_PROPRIETARY_TYPE_2_USER_DEFINED_CHARGE_PARAMETERS: Row = Row {
@@ -180,6 +198,7 @@ pub mod charger_properties {
         width: 2,
         unit: Unit::Other,
         plain: false,
+        two_state: true,
     };
 }
 
@@ -194,6 +213,7 @@ pub mod air_conditioner_component_status_2 {
         width: 8,
         unit: Unit::Other,
         plain: false,
+        two_state: false,
     };
 
     pub const SECONDARY_INSTANCE: Row = Row {
@@ -202,6 +222,7 @@ pub mod air_conditioner_component_status_2 {
         width: 8,
         unit: Unit::Other,
         plain: false,
+        two_state: false,
     };
 
     pub const CURRENT: Row = Row {
@@ -210,6 +231,7 @@ pub mod air_conditioner_component_status_2 {
         width: 16,
         unit: Unit::Ampere,
         plain: false,
+        two_state: false,
     };
 
     pub const VOLTAGE: Row = Row {
@@ -218,6 +240,7 @@ pub mod air_conditioner_component_status_2 {
         width: 16,
         unit: Unit::Volt,
         plain: false,
+        two_state: false,
     };
 
     pub const POWER: Row = Row {
@@ -226,6 +249,7 @@ pub mod air_conditioner_component_status_2 {
         width: 16,
         unit: Unit::Other,
         plain: false,
+        two_state: false,
     };
 }
 
@@ -240,6 +264,7 @@ pub mod air_conditioner_component_command {
         width: 8,
         unit: Unit::Other,
         plain: false,
+        two_state: false,
     };
 
     pub const SECONDARY_INSTANCE: Row = Row {
@@ -248,6 +273,7 @@ pub mod air_conditioner_component_command {
         width: 8,
         unit: Unit::Other,
         plain: false,
+        two_state: false,
     };
 
     pub const OPERATING_DIRECTION_MODE: Row = Row {
@@ -256,6 +282,7 @@ pub mod air_conditioner_component_command {
         width: 4,
         unit: Unit::Other,
         plain: false,
+        two_state: false,
     };
 
     pub const OUTPUT_LEVEL: Row = Row {
@@ -264,6 +291,7 @@ pub mod air_conditioner_component_command {
         width: 8,
         unit: Unit::Percent,
         plain: false,
+        two_state: false,
     };
 }
 
@@ -278,6 +306,7 @@ pub mod air_conditioner_component_status {
         width: 8,
         unit: Unit::Other,
         plain: false,
+        two_state: false,
     };
 
     pub const SECONDARY_INSTANCE: Row = Row {
@@ -286,6 +315,7 @@ pub mod air_conditioner_component_status {
         width: 8,
         unit: Unit::Other,
         plain: false,
+        two_state: false,
     };
 
     pub const OPERATING_DIRECTION_MODE: Row = Row {
@@ -294,6 +324,7 @@ pub mod air_conditioner_component_status {
         width: 4,
         unit: Unit::Other,
         plain: false,
+        two_state: false,
     };
 
     pub const DE_ICING_STATUS: Row = Row {
@@ -302,6 +333,7 @@ pub mod air_conditioner_component_status {
         width: 2,
         unit: Unit::Other,
         plain: false,
+        two_state: true,
     };
 
     pub const OUTPUT_LEVEL: Row = Row {
@@ -310,6 +342,7 @@ pub mod air_conditioner_component_status {
         width: 8,
         unit: Unit::Percent,
         plain: false,
+        two_state: false,
     };
 
     pub const OUTPUT_RESOLUTION: Row = Row {
@@ -318,6 +351,7 @@ pub mod air_conditioner_component_status {
         width: 4,
         unit: Unit::Other,
         plain: false,
+        two_state: false,
     };
 
     pub const A_C_COMPONENT_STATE: Row = Row {
@@ -326,6 +360,7 @@ pub mod air_conditioner_component_status {
         width: 4,
         unit: Unit::Other,
         plain: false,
+        two_state: false,
     };
 
     pub const DELAY_TIMER: Row = Row {
@@ -334,6 +369,7 @@ pub mod air_conditioner_component_status {
         width: 8,
         unit: Unit::Other,
         plain: false,
+        two_state: false,
     };
 }
 
@@ -348,6 +384,7 @@ pub mod air_conditioner_status_2 {
         width: 8,
         unit: Unit::Other,
         plain: false,
+        two_state: false,
     };
 
     pub const COMPRESSOR_STATUS: Row = Row {
@@ -356,6 +393,7 @@ pub mod air_conditioner_status_2 {
         width: 4,
         unit: Unit::Other,
         plain: false,
+        two_state: false,
     };
 
     pub const REDUCED_NOISE_MODE: Row = Row {
@@ -364,6 +402,7 @@ pub mod air_conditioner_status_2 {
         width: 2,
         unit: Unit::Other,
         plain: false,
+        two_state: true,
     };
 
     pub const EXTERIOR_TEMPERATURE: Row = Row {
@@ -372,6 +411,7 @@ pub mod air_conditioner_status_2 {
         width: 16,
         unit: Unit::Celsius,
         plain: false,
+        two_state: false,
     };
 
     pub const COIL_TEMPERATURE: Row = Row {
@@ -380,6 +420,7 @@ pub mod air_conditioner_status_2 {
         width: 16,
         unit: Unit::Celsius,
         plain: false,
+        two_state: false,
     };
 
     pub const COIL_TEMP_ERROR: Row = Row {
@@ -388,6 +429,7 @@ pub mod air_conditioner_status_2 {
         width: 2,
         unit: Unit::Other,
         plain: false,
+        two_state: true,
     };
 
     pub const COIL_FREEZE_DETECTED: Row = Row {
@@ -396,6 +438,7 @@ pub mod air_conditioner_status_2 {
         width: 2,
         unit: Unit::Other,
         plain: false,
+        two_state: true,
     };
 
     pub const EXTERIOR_TEMP_ERROR: Row = Row {
@@ -404,6 +447,7 @@ pub mod air_conditioner_status_2 {
         width: 2,
         unit: Unit::Other,
         plain: false,
+        two_state: true,
     };
 
     pub const DEFROST_CYCLE_ACTIVE: Row = Row {
@@ -412,6 +456,7 @@ pub mod air_conditioner_status_2 {
         width: 2,
         unit: Unit::Other,
         plain: false,
+        two_state: true,
     };
 }
 
@@ -426,6 +471,7 @@ pub mod charger_status_3 {
         width: 8,
         unit: Unit::Other,
         plain: false,
+        two_state: false,
     };
 
     pub const DERATING_STATUS: Row = Row {
@@ -434,6 +480,7 @@ pub mod charger_status_3 {
         width: 2,
         unit: Unit::Other,
         plain: false,
+        two_state: true,
     };
 
     pub const DERATING_REASON: Row = Row {
@@ -442,6 +489,7 @@ pub mod charger_status_3 {
         width: 8,
         unit: Unit::Other,
         plain: false,
+        two_state: false,
     };
 }
 
@@ -456,6 +504,7 @@ pub mod circulation_pump_command {
         width: 8,
         unit: Unit::Other,
         plain: false,
+        two_state: false,
     };
 
     pub const OUTPUT_MODE: Row = Row {
@@ -464,6 +513,7 @@ pub mod circulation_pump_command {
         width: 4,
         unit: Unit::Other,
         plain: false,
+        two_state: false,
     };
 }
 
@@ -478,6 +528,7 @@ pub mod circulation_pump_status {
         width: 8,
         unit: Unit::Other,
         plain: false,
+        two_state: false,
     };
 
     pub const OUTPUT_STATUS: Row = Row {
@@ -486,6 +537,7 @@ pub mod circulation_pump_status {
         width: 4,
         unit: Unit::Other,
         plain: false,
+        two_state: false,
     };
 
     pub const PUMP_OVERCURRENT_STATUS: Row = Row {
@@ -494,6 +546,7 @@ pub mod circulation_pump_status {
         width: 2,
         unit: Unit::Other,
         plain: false,
+        two_state: true,
     };
 
     pub const PUMP_UNDERCURRENT_STATUS: Row = Row {
@@ -502,6 +555,7 @@ pub mod circulation_pump_status {
         width: 2,
         unit: Unit::Other,
         plain: false,
+        two_state: true,
     };
 
     pub const PUMP_TEMPERATURE_STATUS: Row = Row {
@@ -510,6 +564,7 @@ pub mod circulation_pump_status {
         width: 2,
         unit: Unit::Other,
         plain: false,
+        two_state: true,
     };
 }
 
@@ -524,6 +579,7 @@ pub mod waterheater_command_2 {
         width: 8,
         unit: Unit::Other,
         plain: false,
+        two_state: false,
     };
 
     pub const ENGINE_PREHEAT: Row = Row {
@@ -532,6 +588,7 @@ pub mod waterheater_command_2 {
         width: 4,
         unit: Unit::Other,
         plain: false,
+        two_state: false,
     };
 
     pub const COMMAND: Row = Row {
@@ -540,6 +597,7 @@ pub mod waterheater_command_2 {
         width: 8,
         unit: Unit::Other,
         plain: false,
+        two_state: false,
     };
 
     pub const HOT_WATER_PRIORITY: Row = Row {
@@ -548,6 +606,7 @@ pub mod waterheater_command_2 {
         width: 2,
         unit: Unit::Other,
         plain: false,
+        two_state: true,
     };
 }
 
@@ -562,6 +621,7 @@ pub mod waterheater_status_2 {
         width: 8,
         unit: Unit::Other,
         plain: false,
+        two_state: false,
     };
 
     pub const ELECTRIC_ELEMENT_LEVEL: Row = Row {
@@ -570,6 +630,7 @@ pub mod waterheater_status_2 {
         width: 4,
         unit: Unit::Other,
         plain: false,
+        two_state: false,
     };
 
     pub const MAX_ELECTRIC_ELEMENT_LEVEL: Row = Row {
@@ -578,6 +639,7 @@ pub mod waterheater_status_2 {
         width: 4,
         unit: Unit::Other,
         plain: false,
+        two_state: false,
     };
 
     pub const ENGINE_PREHEAT: Row = Row {
@@ -586,6 +648,7 @@ pub mod waterheater_status_2 {
         width: 4,
         unit: Unit::Other,
         plain: false,
+        two_state: false,
     };
 
     pub const COOLANT_LEVEL_WARNING: Row = Row {
@@ -594,6 +657,7 @@ pub mod waterheater_status_2 {
         width: 2,
         unit: Unit::Other,
         plain: false,
+        two_state: true,
     };
 
     pub const HOT_WATER_PRIORITY: Row = Row {
@@ -602,6 +666,7 @@ pub mod waterheater_status_2 {
         width: 2,
         unit: Unit::Other,
         plain: false,
+        two_state: true,
     };
 
     pub const OUTPUT_STATUS_BURNER: Row = Row {
@@ -610,6 +675,7 @@ pub mod waterheater_status_2 {
         width: 2,
         unit: Unit::Other,
         plain: false,
+        two_state: true,
     };
 
     pub const OUTPUT_STATUS_BURNER_INDICATOR: Row = Row {
@@ -618,6 +684,7 @@ pub mod waterheater_status_2 {
         width: 2,
         unit: Unit::Other,
         plain: false,
+        two_state: true,
     };
 
     pub const OUTPUT_STATUS_ELECTRIC_LOW: Row = Row {
@@ -626,6 +693,7 @@ pub mod waterheater_status_2 {
         width: 2,
         unit: Unit::Other,
         plain: false,
+        two_state: true,
     };
 
     pub const OUTPUT_STATUS_ELECTRIC_HIGH: Row = Row {
@@ -634,6 +702,7 @@ pub mod waterheater_status_2 {
         width: 2,
         unit: Unit::Other,
         plain: false,
+        two_state: true,
     };
 
     pub const BURNER_OVERCURRENT_STATUS: Row = Row {
@@ -642,6 +711,7 @@ pub mod waterheater_status_2 {
         width: 2,
         unit: Unit::Other,
         plain: false,
+        two_state: true,
     };
 
     pub const BURNER_UNDERCURRENT_STATUS: Row = Row {
@@ -650,6 +720,7 @@ pub mod waterheater_status_2 {
         width: 2,
         unit: Unit::Other,
         plain: false,
+        two_state: true,
     };
 
     pub const BURNER_TEMPERATURE_STATUS: Row = Row {
@@ -658,6 +729,7 @@ pub mod waterheater_status_2 {
         width: 2,
         unit: Unit::Other,
         plain: false,
+        two_state: true,
     };
 
     pub const BURNER_INPUT_STATUS: Row = Row {
@@ -666,6 +738,7 @@ pub mod waterheater_status_2 {
         width: 2,
         unit: Unit::Other,
         plain: false,
+        two_state: true,
     };
 
     pub const BURNER_INDICATOR_OVERCURRENT_STATUS: Row = Row {
@@ -674,6 +747,7 @@ pub mod waterheater_status_2 {
         width: 2,
         unit: Unit::Other,
         plain: false,
+        two_state: true,
     };
 
     pub const BURNER_INDICATOR_UNDERCURRENT_STATUS: Row = Row {
@@ -682,6 +756,7 @@ pub mod waterheater_status_2 {
         width: 2,
         unit: Unit::Other,
         plain: false,
+        two_state: true,
     };
 
     pub const BURNER_INDICATOR_TEMPERATURE_STATUS: Row = Row {
@@ -690,6 +765,7 @@ pub mod waterheater_status_2 {
         width: 2,
         unit: Unit::Other,
         plain: false,
+        two_state: true,
     };
 
     pub const ELECTRIC_LOW_ELEMENT_OVERCURRENT_STATUS: Row = Row {
@@ -698,6 +774,7 @@ pub mod waterheater_status_2 {
         width: 2,
         unit: Unit::Other,
         plain: false,
+        two_state: true,
     };
 
     pub const ELECTRIC_LOW_ELEMENT_UNDERCURRENT_STATUS: Row = Row {
@@ -706,6 +783,7 @@ pub mod waterheater_status_2 {
         width: 2,
         unit: Unit::Other,
         plain: false,
+        two_state: true,
     };
 
     pub const ELECTRIC_LOW_ELEMENT_TEMPERATURE_STATUS: Row = Row {
@@ -714,6 +792,7 @@ pub mod waterheater_status_2 {
         width: 2,
         unit: Unit::Other,
         plain: false,
+        two_state: true,
     };
 
     pub const ELECTRIC_LOW_ELEMENT_INPUT_STATUS: Row = Row {
@@ -722,6 +801,7 @@ pub mod waterheater_status_2 {
         width: 2,
         unit: Unit::Other,
         plain: false,
+        two_state: true,
     };
 
     pub const ELECTRIC_HIGH_ELEMENT_OVERCURRENT_STATUS: Row = Row {
@@ -730,6 +810,7 @@ pub mod waterheater_status_2 {
         width: 2,
         unit: Unit::Other,
         plain: false,
+        two_state: true,
     };
 
     pub const ELECTRIC_HIGH_ELEMENT_UNDERCURRENT_STATUS: Row = Row {
@@ -738,6 +819,7 @@ pub mod waterheater_status_2 {
         width: 2,
         unit: Unit::Other,
         plain: false,
+        two_state: true,
     };
 
     pub const ELECTRIC_HIGH_ELEMENT_TEMPERATURE_STATUS: Row = Row {
@@ -746,6 +828,7 @@ pub mod waterheater_status_2 {
         width: 2,
         unit: Unit::Other,
         plain: false,
+        two_state: true,
     };
 
     pub const ELECTRIC_HIGH_ELEMENT_INPUT_STATUS: Row = Row {
@@ -754,6 +837,7 @@ pub mod waterheater_status_2 {
         width: 2,
         unit: Unit::Other,
         plain: false,
+        two_state: true,
     };
 }
 
@@ -768,6 +852,7 @@ pub mod charger_status_2 {
         width: 8,
         unit: Unit::Other,
         plain: false,
+        two_state: false,
     };
 
     pub const DC_SOURCE_INSTANCE_DEPRECATED: Row = Row {
@@ -776,6 +861,7 @@ pub mod charger_status_2 {
         width: 8,
         unit: Unit::Other,
         plain: false,
+        two_state: false,
     };
 
     pub const CHARGER_PRIORITY: Row = Row {
@@ -784,6 +870,7 @@ pub mod charger_status_2 {
         width: 8,
         unit: Unit::Other,
         plain: false,
+        two_state: false,
     };
 
     pub const CHARGING_VOLTAGE: Row = Row {
@@ -792,6 +879,7 @@ pub mod charger_status_2 {
         width: 16,
         unit: Unit::Volt,
         plain: false,
+        two_state: false,
     };
 
     pub const CHARGING_CURRENT: Row = Row {
@@ -800,6 +888,7 @@ pub mod charger_status_2 {
         width: 16,
         unit: Unit::Ampere,
         plain: false,
+        two_state: false,
     };
 
     pub const CHARGER_TEMPERATURE: Row = Row {
@@ -808,6 +897,7 @@ pub mod charger_status_2 {
         width: 8,
         unit: Unit::Celsius,
         plain: false,
+        two_state: false,
     };
 }
 
@@ -822,6 +912,7 @@ pub mod charger_configuration_command_4 {
         width: 8,
         unit: Unit::Other,
         plain: false,
+        two_state: false,
     };
 
     pub const BULK_TIME: Row = Row {
@@ -830,6 +921,7 @@ pub mod charger_configuration_command_4 {
         width: 16,
         unit: Unit::Other,
         plain: false,
+        two_state: false,
     };
 
     pub const ABSORPTION_TIME: Row = Row {
@@ -838,6 +930,7 @@ pub mod charger_configuration_command_4 {
         width: 16,
         unit: Unit::Other,
         plain: false,
+        two_state: false,
     };
 
     pub const FLOAT_TIME: Row = Row {
@@ -846,6 +939,7 @@ pub mod charger_configuration_command_4 {
         width: 16,
         unit: Unit::Other,
         plain: false,
+        two_state: false,
     };
 }
 
@@ -860,6 +954,7 @@ pub mod charger_configuration_status_4 {
         width: 8,
         unit: Unit::Other,
         plain: false,
+        two_state: false,
     };
 
     pub const BULK_TIME: Row = Row {
@@ -868,6 +963,7 @@ pub mod charger_configuration_status_4 {
         width: 16,
         unit: Unit::Other,
         plain: false,
+        two_state: false,
     };
 
     pub const ABSORPTION_TIME: Row = Row {
@@ -876,6 +972,7 @@ pub mod charger_configuration_status_4 {
         width: 16,
         unit: Unit::Other,
         plain: false,
+        two_state: false,
     };
 
     pub const FLOAT_TIME: Row = Row {
@@ -884,6 +981,7 @@ pub mod charger_configuration_status_4 {
         width: 16,
         unit: Unit::Other,
         plain: false,
+        two_state: false,
     };
 }
 
@@ -898,6 +996,7 @@ pub mod charger_configuration_command_3 {
         width: 8,
         unit: Unit::Other,
         plain: false,
+        two_state: false,
     };
 
     pub const BULK_VOLTAGE: Row = Row {
@@ -906,6 +1005,7 @@ pub mod charger_configuration_command_3 {
         width: 16,
         unit: Unit::Volt,
         plain: false,
+        two_state: false,
     };
 
     pub const ABSORPTION_VOLTAGE: Row = Row {
@@ -914,6 +1014,7 @@ pub mod charger_configuration_command_3 {
         width: 16,
         unit: Unit::Volt,
         plain: false,
+        two_state: false,
     };
 
     pub const FLOAT_VOLTAGE: Row = Row {
@@ -922,6 +1023,7 @@ pub mod charger_configuration_command_3 {
         width: 16,
         unit: Unit::Volt,
         plain: false,
+        two_state: false,
     };
 
     pub const TEMPERATURE_COMPENSATION_CONSTANT: Row = Row {
@@ -930,6 +1032,7 @@ pub mod charger_configuration_command_3 {
         width: 8,
         unit: Unit::Other,
         plain: false,
+        two_state: false,
     };
 }
 
@@ -944,6 +1047,7 @@ pub mod charger_configuration_status_3 {
         width: 8,
         unit: Unit::Other,
         plain: false,
+        two_state: false,
     };
 
     pub const BULK_VOLTAGE: Row = Row {
@@ -952,6 +1056,7 @@ pub mod charger_configuration_status_3 {
         width: 16,
         unit: Unit::Volt,
         plain: false,
+        two_state: false,
     };
 
     pub const ABSORPTION_VOLTAGE: Row = Row {
@@ -960,6 +1065,7 @@ pub mod charger_configuration_status_3 {
         width: 16,
         unit: Unit::Volt,
         plain: false,
+        two_state: false,
     };
 
     pub const FLOAT_VOLTAGE: Row = Row {
@@ -968,6 +1074,7 @@ pub mod charger_configuration_status_3 {
         width: 16,
         unit: Unit::Volt,
         plain: false,
+        two_state: false,
     };
 
     pub const TEMPERATURE_COMPENSATION_CONSTANT: Row = Row {
@@ -976,6 +1083,7 @@ pub mod charger_configuration_status_3 {
         width: 8,
         unit: Unit::Other,
         plain: false,
+        two_state: false,
     };
 }
 
@@ -990,6 +1098,7 @@ pub mod thermostat_schedule_command_2 {
         width: 8,
         unit: Unit::Other,
         plain: false,
+        two_state: false,
     };
 
     pub const SCHEDULE_MODE_INSTANCE: Row = Row {
@@ -998,6 +1107,7 @@ pub mod thermostat_schedule_command_2 {
         width: 8,
         unit: Unit::Other,
         plain: false,
+        two_state: false,
     };
 
     pub const SUNDAY: Row = Row {
@@ -1006,6 +1116,7 @@ pub mod thermostat_schedule_command_2 {
         width: 2,
         unit: Unit::Other,
         plain: false,
+        two_state: true,
     };
 
     pub const MONDAY: Row = Row {
@@ -1014,6 +1125,7 @@ pub mod thermostat_schedule_command_2 {
         width: 2,
         unit: Unit::Other,
         plain: false,
+        two_state: true,
     };
 
     pub const TUESDAY: Row = Row {
@@ -1022,6 +1134,7 @@ pub mod thermostat_schedule_command_2 {
         width: 2,
         unit: Unit::Other,
         plain: false,
+        two_state: true,
     };
 
     pub const WEDNESDAY: Row = Row {
@@ -1030,6 +1143,7 @@ pub mod thermostat_schedule_command_2 {
         width: 2,
         unit: Unit::Other,
         plain: false,
+        two_state: true,
     };
 
     pub const SATURDAY: Row = Row {
@@ -1038,6 +1152,7 @@ pub mod thermostat_schedule_command_2 {
         width: 2,
         unit: Unit::Other,
         plain: false,
+        two_state: true,
     };
 }
 
@@ -1052,6 +1167,7 @@ pub mod thermostat_schedule_command_1 {
         width: 8,
         unit: Unit::Other,
         plain: false,
+        two_state: false,
     };
 
     pub const SCHEDULE_MODE_INSTANCE: Row = Row {
@@ -1060,6 +1176,7 @@ pub mod thermostat_schedule_command_1 {
         width: 8,
         unit: Unit::Other,
         plain: false,
+        two_state: false,
     };
 
     pub const START_HOUR: Row = Row {
@@ -1068,6 +1185,7 @@ pub mod thermostat_schedule_command_1 {
         width: 8,
         unit: Unit::Other,
         plain: false,
+        two_state: false,
     };
 
     pub const START_MINUTE: Row = Row {
@@ -1076,6 +1194,7 @@ pub mod thermostat_schedule_command_1 {
         width: 8,
         unit: Unit::Other,
         plain: false,
+        two_state: false,
     };
 
     pub const SETPOINT_TEMP_HEAT: Row = Row {
@@ -1084,6 +1203,7 @@ pub mod thermostat_schedule_command_1 {
         width: 16,
         unit: Unit::Celsius,
         plain: false,
+        two_state: false,
     };
 
     pub const SETPOINT_TEMP_COOL: Row = Row {
@@ -1092,6 +1212,7 @@ pub mod thermostat_schedule_command_1 {
         width: 16,
         unit: Unit::Celsius,
         plain: false,
+        two_state: false,
     };
 }
 
@@ -1106,6 +1227,7 @@ pub mod thermostat_schedule_status_2 {
         width: 8,
         unit: Unit::Other,
         plain: false,
+        two_state: false,
     };
 
     pub const SCHEDULE_MODE_INSTANCE: Row = Row {
@@ -1114,6 +1236,7 @@ pub mod thermostat_schedule_status_2 {
         width: 8,
         unit: Unit::Other,
         plain: false,
+        two_state: false,
     };
 
     pub const SUNDAY: Row = Row {
@@ -1122,6 +1245,7 @@ pub mod thermostat_schedule_status_2 {
         width: 2,
         unit: Unit::Other,
         plain: false,
+        two_state: true,
     };
 
     pub const MONDAY: Row = Row {
@@ -1130,6 +1254,7 @@ pub mod thermostat_schedule_status_2 {
         width: 2,
         unit: Unit::Other,
         plain: false,
+        two_state: true,
     };
 
     pub const TUESDAY: Row = Row {
@@ -1138,6 +1263,7 @@ pub mod thermostat_schedule_status_2 {
         width: 2,
         unit: Unit::Other,
         plain: false,
+        two_state: true,
     };
 
     pub const WEDNESDAY: Row = Row {
@@ -1146,6 +1272,7 @@ pub mod thermostat_schedule_status_2 {
         width: 2,
         unit: Unit::Other,
         plain: false,
+        two_state: true,
     };
 
     pub const SATURDAY: Row = Row {
@@ -1154,6 +1281,7 @@ pub mod thermostat_schedule_status_2 {
         width: 2,
         unit: Unit::Other,
         plain: false,
+        two_state: true,
     };
 }
 
@@ -1168,6 +1296,7 @@ pub mod thermostat_schedule_status_1 {
         width: 8,
         unit: Unit::Other,
         plain: false,
+        two_state: false,
     };
 
     pub const SCHEDULE_MODE_INSTANCE: Row = Row {
@@ -1176,6 +1305,7 @@ pub mod thermostat_schedule_status_1 {
         width: 8,
         unit: Unit::Other,
         plain: false,
+        two_state: false,
     };
 
     pub const START_HOUR: Row = Row {
@@ -1184,6 +1314,7 @@ pub mod thermostat_schedule_status_1 {
         width: 8,
         unit: Unit::Other,
         plain: false,
+        two_state: false,
     };
 
     pub const START_MINUTE: Row = Row {
@@ -1192,6 +1323,7 @@ pub mod thermostat_schedule_status_1 {
         width: 8,
         unit: Unit::Other,
         plain: false,
+        two_state: false,
     };
 
     pub const SETPOINT_TEMP_HEAT: Row = Row {
@@ -1200,6 +1332,7 @@ pub mod thermostat_schedule_status_1 {
         width: 16,
         unit: Unit::Celsius,
         plain: false,
+        two_state: false,
     };
 
     pub const SETPOINT_TEMP_COOL: Row = Row {
@@ -1208,6 +1341,7 @@ pub mod thermostat_schedule_status_1 {
         width: 16,
         unit: Unit::Celsius,
         plain: false,
+        two_state: false,
     };
 }
 
@@ -1222,6 +1356,7 @@ pub mod thermostat_command_2 {
         width: 8,
         unit: Unit::Other,
         plain: false,
+        two_state: false,
     };
 
     pub const CURRENT_SCHEDULE_INSTANCE: Row = Row {
@@ -1230,6 +1365,7 @@ pub mod thermostat_command_2 {
         width: 8,
         unit: Unit::Other,
         plain: false,
+        two_state: false,
     };
 
     pub const REDUCED_NOISE_MODE: Row = Row {
@@ -1238,6 +1374,7 @@ pub mod thermostat_command_2 {
         width: 2,
         unit: Unit::Other,
         plain: false,
+        two_state: true,
     };
 }
 
@@ -1252,6 +1389,7 @@ pub mod thermostat_command_1 {
         width: 8,
         unit: Unit::Other,
         plain: false,
+        two_state: false,
     };
 
     pub const OPERATING_MODE: Row = Row {
@@ -1260,6 +1398,7 @@ pub mod thermostat_command_1 {
         width: 4,
         unit: Unit::Other,
         plain: false,
+        two_state: false,
     };
 
     pub const FAN_MODE: Row = Row {
@@ -1268,6 +1407,7 @@ pub mod thermostat_command_1 {
         width: 2,
         unit: Unit::Other,
         plain: false,
+        two_state: true,
     };
 
     pub const SCHEDULE_MODE: Row = Row {
@@ -1276,6 +1416,7 @@ pub mod thermostat_command_1 {
         width: 2,
         unit: Unit::Other,
         plain: false,
+        two_state: true,
     };
 
     pub const FAN_SPEED: Row = Row {
@@ -1284,6 +1425,7 @@ pub mod thermostat_command_1 {
         width: 8,
         unit: Unit::Percent,
         plain: false,
+        two_state: false,
     };
 
     pub const SETPOINT_TEMP_HEAT: Row = Row {
@@ -1292,6 +1434,7 @@ pub mod thermostat_command_1 {
         width: 16,
         unit: Unit::Celsius,
         plain: false,
+        two_state: false,
     };
 
     pub const SETPOINT_TEMP_COOL: Row = Row {
@@ -1300,6 +1443,7 @@ pub mod thermostat_command_1 {
         width: 16,
         unit: Unit::Celsius,
         plain: false,
+        two_state: false,
     };
 }
 
@@ -1314,6 +1458,7 @@ pub mod thermostat_status_2 {
         width: 8,
         unit: Unit::Other,
         plain: false,
+        two_state: false,
     };
 
     pub const CURRENT_SCHEDULE_INSTANCE: Row = Row {
@@ -1322,6 +1467,7 @@ pub mod thermostat_status_2 {
         width: 8,
         unit: Unit::Other,
         plain: false,
+        two_state: false,
     };
 
     pub const NUMBER_OF_SCHEDULE_INSTANCES: Row = Row {
@@ -1330,6 +1476,7 @@ pub mod thermostat_status_2 {
         width: 8,
         unit: Unit::Other,
         plain: false,
+        two_state: false,
     };
 
     pub const REDUCED_NOISE_MODE: Row = Row {
@@ -1338,6 +1485,7 @@ pub mod thermostat_status_2 {
         width: 2,
         unit: Unit::Other,
         plain: false,
+        two_state: true,
     };
 }
 
@@ -1352,6 +1500,7 @@ pub mod charger_acfault_configuration_command_2 {
         width: 8,
         unit: Unit::Other,
         plain: false,
+        two_state: false,
     };
 
     pub const HIGH_FREQUENCY_LIMIT: Row = Row {
@@ -1360,6 +1509,7 @@ pub mod charger_acfault_configuration_command_2 {
         width: 8,
         unit: Unit::Hertz,
         plain: false,
+        two_state: false,
     };
 
     pub const LOW_FREQUENCY_LIMIT: Row = Row {
@@ -1368,6 +1518,7 @@ pub mod charger_acfault_configuration_command_2 {
         width: 8,
         unit: Unit::Hertz,
         plain: false,
+        two_state: false,
     };
 }
 
@@ -1382,6 +1533,7 @@ pub mod charger_acfault_configuration_command_1 {
         width: 8,
         unit: Unit::Other,
         plain: false,
+        two_state: false,
     };
 
     pub const EXTREME_LOW_VOLTAGE_LEVEL: Row = Row {
@@ -1390,6 +1542,7 @@ pub mod charger_acfault_configuration_command_1 {
         width: 8,
         unit: Unit::Volt,
         plain: false,
+        two_state: false,
     };
 
     pub const LOW_VOLTAGE_LEVEL: Row = Row {
@@ -1398,6 +1551,7 @@ pub mod charger_acfault_configuration_command_1 {
         width: 8,
         unit: Unit::Volt,
         plain: false,
+        two_state: false,
     };
 
     pub const HIGH_VOLTAGE_LEVEL: Row = Row {
@@ -1406,6 +1560,7 @@ pub mod charger_acfault_configuration_command_1 {
         width: 8,
         unit: Unit::Volt,
         plain: false,
+        two_state: false,
     };
 
     pub const EXTREME_HIGH_VOLTAGE_LEVEL: Row = Row {
@@ -1414,6 +1569,7 @@ pub mod charger_acfault_configuration_command_1 {
         width: 8,
         unit: Unit::Volt,
         plain: false,
+        two_state: false,
     };
 
     pub const QUALIFICATION_TIME: Row = Row {
@@ -1422,6 +1578,7 @@ pub mod charger_acfault_configuration_command_1 {
         width: 8,
         unit: Unit::Other,
         plain: false,
+        two_state: false,
     };
 
     pub const BYPASS_MODE: Row = Row {
@@ -1430,6 +1587,7 @@ pub mod charger_acfault_configuration_command_1 {
         width: 2,
         unit: Unit::Other,
         plain: false,
+        two_state: true,
     };
 }
 
@@ -1444,6 +1602,7 @@ pub mod charger_acfault_configuration_status_2 {
         width: 8,
         unit: Unit::Other,
         plain: false,
+        two_state: false,
     };
 
     pub const HIGH_FREQUENCY_LIMIT: Row = Row {
@@ -1452,6 +1611,7 @@ pub mod charger_acfault_configuration_status_2 {
         width: 8,
         unit: Unit::Hertz,
         plain: false,
+        two_state: false,
     };
 
     pub const LOW_FREQUENCY_LIMIT: Row = Row {
@@ -1460,6 +1620,7 @@ pub mod charger_acfault_configuration_status_2 {
         width: 8,
         unit: Unit::Hertz,
         plain: false,
+        two_state: false,
     };
 }
 
@@ -1474,6 +1635,7 @@ pub mod charger_acfault_configuration_status_1 {
         width: 8,
         unit: Unit::Other,
         plain: false,
+        two_state: false,
     };
 
     pub const EXTREME_LOW_VOLTAGE_LEVEL: Row = Row {
@@ -1482,6 +1644,7 @@ pub mod charger_acfault_configuration_status_1 {
         width: 8,
         unit: Unit::Volt,
         plain: false,
+        two_state: false,
     };
 
     pub const LOW_VOLTAGE_LEVEL: Row = Row {
@@ -1490,6 +1653,7 @@ pub mod charger_acfault_configuration_status_1 {
         width: 8,
         unit: Unit::Volt,
         plain: false,
+        two_state: false,
     };
 
     pub const HIGH_VOLTAGE_LEVEL: Row = Row {
@@ -1498,6 +1662,7 @@ pub mod charger_acfault_configuration_status_1 {
         width: 8,
         unit: Unit::Volt,
         plain: false,
+        two_state: false,
     };
 
     pub const EXTREME_HIGH_VOLTAGE_LEVEL: Row = Row {
@@ -1506,6 +1671,7 @@ pub mod charger_acfault_configuration_status_1 {
         width: 8,
         unit: Unit::Volt,
         plain: false,
+        two_state: false,
     };
 
     pub const QUALIFICATION_TIME: Row = Row {
@@ -1514,6 +1680,7 @@ pub mod charger_acfault_configuration_status_1 {
         width: 8,
         unit: Unit::Other,
         plain: false,
+        two_state: false,
     };
 
     pub const BYPASS_MODE: Row = Row {
@@ -1522,6 +1689,7 @@ pub mod charger_acfault_configuration_status_1 {
         width: 2,
         unit: Unit::Other,
         plain: false,
+        two_state: true,
     };
 }
 
@@ -1536,6 +1704,7 @@ pub mod charger_ac_status_4 {
         width: 8,
         unit: Unit::Other,
         plain: false,
+        two_state: false,
     };
 
     pub const VOLTAGE_FAULT: Row = Row {
@@ -1544,6 +1713,7 @@ pub mod charger_ac_status_4 {
         width: 8,
         unit: Unit::Other,
         plain: false,
+        two_state: false,
     };
 
     pub const FAULT_SURGE_PROTECTION: Row = Row {
@@ -1552,6 +1722,7 @@ pub mod charger_ac_status_4 {
         width: 2,
         unit: Unit::Other,
         plain: false,
+        two_state: true,
     };
 
     pub const FAULT_HIGH_FREQUENCY: Row = Row {
@@ -1560,6 +1731,7 @@ pub mod charger_ac_status_4 {
         width: 2,
         unit: Unit::Other,
         plain: false,
+        two_state: true,
     };
 
     pub const FAULT_LOW_FREQUENCY: Row = Row {
@@ -1568,6 +1740,7 @@ pub mod charger_ac_status_4 {
         width: 2,
         unit: Unit::Other,
         plain: false,
+        two_state: true,
     };
 
     pub const BYPASS_MODE_ACTIVE: Row = Row {
@@ -1576,6 +1749,7 @@ pub mod charger_ac_status_4 {
         width: 2,
         unit: Unit::Other,
         plain: false,
+        two_state: true,
     };
 
     pub const QUALIFICATION_STATUS: Row = Row {
@@ -1584,6 +1758,7 @@ pub mod charger_ac_status_4 {
         width: 4,
         unit: Unit::Other,
         plain: false,
+        two_state: false,
     };
 }
 
@@ -1598,6 +1773,7 @@ pub mod charger_configuration_command_2 {
         width: 8,
         unit: Unit::Other,
         plain: false,
+        two_state: false,
     };
 
     pub const MAXIMUM_CHARGE_CURRENT_AS_PERCENT: Row = Row {
@@ -1606,6 +1782,7 @@ pub mod charger_configuration_command_2 {
         width: 8,
         unit: Unit::Percent,
         plain: false,
+        two_state: false,
     };
 
     pub const CHARGE_RATE_LIMIT_AS_PERCENT_OF_BANK_SIZE: Row = Row {
@@ -1614,6 +1791,7 @@ pub mod charger_configuration_command_2 {
         width: 8,
         unit: Unit::Percent,
         plain: false,
+        two_state: false,
     };
 
     pub const SHORE_BREAKER_SIZE: Row = Row {
@@ -1622,6 +1800,7 @@ pub mod charger_configuration_command_2 {
         width: 8,
         unit: Unit::Ampere,
         plain: false,
+        two_state: false,
     };
 
     pub const DEFAULT_BATTERY_TEMPERATURE: Row = Row {
@@ -1630,6 +1809,7 @@ pub mod charger_configuration_command_2 {
         width: 8,
         unit: Unit::Celsius,
         plain: false,
+        two_state: false,
     };
 
     pub const RECHARGE_VOLTAGE: Row = Row {
@@ -1638,6 +1818,7 @@ pub mod charger_configuration_command_2 {
         width: 16,
         unit: Unit::Volt,
         plain: false,
+        two_state: false,
     };
 }
 
@@ -1652,6 +1833,7 @@ pub mod charger_configuration_status_2 {
         width: 8,
         unit: Unit::Other,
         plain: false,
+        two_state: false,
     };
 
     pub const MAXIMUM_CHARGE_CURRENT_AS_PERCENT: Row = Row {
@@ -1660,6 +1842,7 @@ pub mod charger_configuration_status_2 {
         width: 8,
         unit: Unit::Percent,
         plain: false,
+        two_state: false,
     };
 
     pub const CHARGE_RATE_LIMIT_AS_PERCENT_OF_BANK_SIZE: Row = Row {
@@ -1668,6 +1851,7 @@ pub mod charger_configuration_status_2 {
         width: 8,
         unit: Unit::Percent,
         plain: false,
+        two_state: false,
     };
 
     pub const SHORE_BREAKER_SIZE: Row = Row {
@@ -1676,6 +1860,7 @@ pub mod charger_configuration_status_2 {
         width: 8,
         unit: Unit::Ampere,
         plain: false,
+        two_state: false,
     };
 
     pub const DEFAULT_BATTERY_TEMPERATURE: Row = Row {
@@ -1684,6 +1869,7 @@ pub mod charger_configuration_status_2 {
         width: 8,
         unit: Unit::Celsius,
         plain: false,
+        two_state: false,
     };
 
     pub const RECHARGE_VOLTAGE: Row = Row {
@@ -1692,6 +1878,7 @@ pub mod charger_configuration_status_2 {
         width: 16,
         unit: Unit::Volt,
         plain: false,
+        two_state: false,
     };
 }
 
@@ -1706,6 +1893,7 @@ pub mod charger_equalization_configuration_command {
         width: 8,
         unit: Unit::Other,
         plain: false,
+        two_state: false,
     };
 
     pub const EQUALIZATION_VOLTAGE: Row = Row {
@@ -1714,6 +1902,7 @@ pub mod charger_equalization_configuration_command {
         width: 16,
         unit: Unit::Volt,
         plain: false,
+        two_state: false,
     };
 
     pub const EQUALIZATION_TIME: Row = Row {
@@ -1722,6 +1911,7 @@ pub mod charger_equalization_configuration_command {
         width: 16,
         unit: Unit::Other,
         plain: false,
+        two_state: false,
     };
 }
 
@@ -1736,6 +1926,7 @@ pub mod charger_equalization_configuration_status {
         width: 8,
         unit: Unit::Other,
         plain: false,
+        two_state: false,
     };
 
     pub const EQUALIZATION_VOLTAGE: Row = Row {
@@ -1744,6 +1935,7 @@ pub mod charger_equalization_configuration_status {
         width: 16,
         unit: Unit::Volt,
         plain: false,
+        two_state: false,
     };
 
     pub const EQUALIZATION_TIME: Row = Row {
@@ -1752,6 +1944,7 @@ pub mod charger_equalization_configuration_status {
         width: 16,
         unit: Unit::Other,
         plain: false,
+        two_state: false,
     };
 }
 
@@ -1766,6 +1959,7 @@ pub mod charger_equalization_status {
         width: 8,
         unit: Unit::Other,
         plain: false,
+        two_state: false,
     };
 
     pub const TIME_REMAINING: Row = Row {
@@ -1774,6 +1968,7 @@ pub mod charger_equalization_status {
         width: 16,
         unit: Unit::Other,
         plain: false,
+        two_state: false,
     };
 
     pub const PRE_CHARGING_STATUS: Row = Row {
@@ -1782,6 +1977,7 @@ pub mod charger_equalization_status {
         width: 2,
         unit: Unit::Other,
         plain: false,
+        two_state: true,
     };
 }
 
@@ -1796,6 +1992,7 @@ pub mod heat_pump_command {
         width: 8,
         unit: Unit::Other,
         plain: false,
+        two_state: false,
     };
 
     pub const OPERATING_MODE: Row = Row {
@@ -1804,6 +2001,7 @@ pub mod heat_pump_command {
         width: 8,
         unit: Unit::Other,
         plain: false,
+        two_state: false,
     };
 
     pub const MAX_HEAT_OUTPUT_LEVEL: Row = Row {
@@ -1812,6 +2010,7 @@ pub mod heat_pump_command {
         width: 8,
         unit: Unit::Percent,
         plain: false,
+        two_state: false,
     };
 
     pub const HEAT_OUTPUT_LEVEL: Row = Row {
@@ -1820,6 +2019,7 @@ pub mod heat_pump_command {
         width: 8,
         unit: Unit::Percent,
         plain: false,
+        two_state: false,
     };
 
     pub const DEAD_BAND: Row = Row {
@@ -1828,6 +2028,7 @@ pub mod heat_pump_command {
         width: 8,
         unit: Unit::Other,
         plain: false,
+        two_state: false,
     };
 
     pub const SECOND_STAGE_DEAD_BAND: Row = Row {
@@ -1836,6 +2037,7 @@ pub mod heat_pump_command {
         width: 8,
         unit: Unit::Other,
         plain: false,
+        two_state: false,
     };
 
     pub const FAN_SPEED: Row = Row {
@@ -1844,6 +2046,7 @@ pub mod heat_pump_command {
         width: 8,
         unit: Unit::Percent,
         plain: false,
+        two_state: false,
     };
 }
 
@@ -1858,6 +2061,7 @@ pub mod heat_pump_status {
         width: 8,
         unit: Unit::Other,
         plain: false,
+        two_state: false,
     };
 
     pub const OPERATING_MODE: Row = Row {
@@ -1866,6 +2070,7 @@ pub mod heat_pump_status {
         width: 8,
         unit: Unit::Other,
         plain: false,
+        two_state: false,
     };
 
     pub const MAX_HEAT_OUTPUT_LEVEL: Row = Row {
@@ -1874,6 +2079,7 @@ pub mod heat_pump_status {
         width: 8,
         unit: Unit::Percent,
         plain: false,
+        two_state: false,
     };
 
     pub const HEAT_OUTPUT_LEVEL: Row = Row {
@@ -1882,6 +2088,7 @@ pub mod heat_pump_status {
         width: 8,
         unit: Unit::Percent,
         plain: false,
+        two_state: false,
     };
 
     pub const DEAD_BAND: Row = Row {
@@ -1890,6 +2097,7 @@ pub mod heat_pump_status {
         width: 8,
         unit: Unit::Other,
         plain: false,
+        two_state: false,
     };
 
     pub const SECOND_STAGE_DEAD_BAND: Row = Row {
@@ -1898,6 +2106,7 @@ pub mod heat_pump_status {
         width: 8,
         unit: Unit::Other,
         plain: false,
+        two_state: false,
     };
 
     pub const FAN_SPEED: Row = Row {
@@ -1906,6 +2115,7 @@ pub mod heat_pump_status {
         width: 8,
         unit: Unit::Percent,
         plain: false,
+        two_state: false,
     };
 }
 
@@ -1920,6 +2130,7 @@ pub mod thermostat_ambient_status {
         width: 8,
         unit: Unit::Other,
         plain: false,
+        two_state: false,
     };
 
     pub const AMBIENT_TEMP: Row = Row {
@@ -1928,6 +2139,7 @@ pub mod thermostat_ambient_status {
         width: 16,
         unit: Unit::Celsius,
         plain: false,
+        two_state: false,
     };
 }
 
@@ -1942,6 +2154,7 @@ pub mod water_pump_command {
         width: 2,
         unit: Unit::Other,
         plain: false,
+        two_state: true,
     };
 
     pub const PUMP_PRESSURE_SETTING: Row = Row {
@@ -1950,6 +2163,7 @@ pub mod water_pump_command {
         width: 16,
         unit: Unit::Other,
         plain: false,
+        two_state: false,
     };
 
     pub const REGULATOR_PRESSURE_SETTING: Row = Row {
@@ -1958,6 +2172,7 @@ pub mod water_pump_command {
         width: 16,
         unit: Unit::Other,
         plain: false,
+        two_state: false,
     };
 }
 
@@ -1972,6 +2187,7 @@ pub mod water_pump_status {
         width: 2,
         unit: Unit::Other,
         plain: false,
+        two_state: true,
     };
 
     pub const PUMP_STATUS: Row = Row {
@@ -1980,6 +2196,7 @@ pub mod water_pump_status {
         width: 2,
         unit: Unit::Other,
         plain: false,
+        two_state: true,
     };
 
     pub const WATER_HOOKUP_DETECTED: Row = Row {
@@ -1988,6 +2205,7 @@ pub mod water_pump_status {
         width: 2,
         unit: Unit::Other,
         plain: false,
+        two_state: true,
     };
 
     pub const CURRENT_SYSTEM_PRESSURE: Row = Row {
@@ -1996,6 +2214,7 @@ pub mod water_pump_status {
         width: 16,
         unit: Unit::Other,
         plain: false,
+        two_state: false,
     };
 
     pub const PUMP_PRESSURE_SETTING: Row = Row {
@@ -2004,6 +2223,7 @@ pub mod water_pump_status {
         width: 16,
         unit: Unit::Other,
         plain: false,
+        two_state: false,
     };
 
     pub const REGULATOR_PRESSURE_SETTING: Row = Row {
@@ -2012,6 +2232,7 @@ pub mod water_pump_status {
         width: 16,
         unit: Unit::Other,
         plain: false,
+        two_state: false,
     };
 
     pub const OPERATING_CURRENT: Row = Row {
@@ -2020,6 +2241,7 @@ pub mod water_pump_status {
         width: 8,
         unit: Unit::Ampere,
         plain: false,
+        two_state: false,
     };
 }
 
@@ -2034,6 +2256,7 @@ pub mod tank_calibration_command {
         width: 8,
         unit: Unit::Other,
         plain: false,
+        two_state: false,
     };
 
     pub const RELATIVE_LEVEL: Row = Row {
@@ -2042,6 +2265,7 @@ pub mod tank_calibration_command {
         width: 8,
         unit: Unit::Other,
         plain: false,
+        two_state: false,
     };
 
     pub const RESOLUTION: Row = Row {
@@ -2050,6 +2274,7 @@ pub mod tank_calibration_command {
         width: 8,
         unit: Unit::Other,
         plain: false,
+        two_state: false,
     };
 
     pub const ABSOLUTE_LEVEL: Row = Row {
@@ -2058,6 +2283,7 @@ pub mod tank_calibration_command {
         width: 16,
         unit: Unit::Other,
         plain: false,
+        two_state: false,
     };
 
     pub const TANK_SIZE: Row = Row {
@@ -2066,6 +2292,7 @@ pub mod tank_calibration_command {
         width: 16,
         unit: Unit::Other,
         plain: false,
+        two_state: false,
     };
 }
 
@@ -2080,6 +2307,7 @@ pub mod tank_status {
         width: 8,
         unit: Unit::Other,
         plain: false,
+        two_state: false,
     };
 
     pub const RELATIVE_LEVEL: Row = Row {
@@ -2088,6 +2316,7 @@ pub mod tank_status {
         width: 8,
         unit: Unit::Other,
         plain: false,
+        two_state: false,
     };
 
     pub const RESOLUTION: Row = Row {
@@ -2096,6 +2325,7 @@ pub mod tank_status {
         width: 8,
         unit: Unit::Other,
         plain: false,
+        two_state: false,
     };
 
     pub const ABSOLUTE_LEVEL: Row = Row {
@@ -2104,6 +2334,7 @@ pub mod tank_status {
         width: 16,
         unit: Unit::Other,
         plain: false,
+        two_state: false,
     };
 
     pub const TANK_SIZE: Row = Row {
@@ -2112,6 +2343,7 @@ pub mod tank_status {
         width: 16,
         unit: Unit::Other,
         plain: false,
+        two_state: false,
     };
 }
 
@@ -2126,6 +2358,7 @@ pub mod chargerops_status {
         width: 8,
         unit: Unit::Other,
         plain: false,
+        two_state: false,
     };
 
     pub const TOTAL_INSTANCE_COUNT: Row = Row {
@@ -2134,6 +2367,7 @@ pub mod chargerops_status {
         width: 8,
         unit: Unit::Other,
         plain: false,
+        two_state: false,
     };
 
     pub const VOLTAGE: Row = Row {
@@ -2142,6 +2376,7 @@ pub mod chargerops_status {
         width: 16,
         unit: Unit::Volt,
         plain: false,
+        two_state: false,
     };
 
     pub const CURRENT: Row = Row {
@@ -2150,6 +2385,7 @@ pub mod chargerops_status {
         width: 16,
         unit: Unit::Ampere,
         plain: false,
+        two_state: false,
     };
 
     pub const TEMPERATURE: Row = Row {
@@ -2158,6 +2394,7 @@ pub mod chargerops_status {
         width: 8,
         unit: Unit::Celsius,
         plain: false,
+        two_state: false,
     };
 }
 
@@ -2172,6 +2409,7 @@ pub mod chargerdcbus_status {
         width: 8,
         unit: Unit::Other,
         plain: false,
+        two_state: false,
     };
 
     pub const TOTAL_INSTANCE_COUNT: Row = Row {
@@ -2180,6 +2418,7 @@ pub mod chargerdcbus_status {
         width: 8,
         unit: Unit::Other,
         plain: false,
+        two_state: false,
     };
 
     pub const VOLTAGE: Row = Row {
@@ -2188,6 +2427,7 @@ pub mod chargerdcbus_status {
         width: 16,
         unit: Unit::Volt,
         plain: false,
+        two_state: false,
     };
 
     pub const CURRENT: Row = Row {
@@ -2196,6 +2436,7 @@ pub mod chargerdcbus_status {
         width: 16,
         unit: Unit::Ampere,
         plain: false,
+        two_state: false,
     };
 
     pub const TEMPERATURE: Row = Row {
@@ -2204,6 +2445,7 @@ pub mod chargerdcbus_status {
         width: 8,
         unit: Unit::Celsius,
         plain: false,
+        two_state: false,
     };
 }
 
@@ -2218,6 +2460,7 @@ pub mod charger_configuration_command {
         width: 8,
         unit: Unit::Other,
         plain: false,
+        two_state: false,
     };
 
     pub const CHARGING_ALGORITHM: Row = Row {
@@ -2226,6 +2469,7 @@ pub mod charger_configuration_command {
         width: 8,
         unit: Unit::Other,
         plain: false,
+        two_state: false,
     };
 
     pub const CHARGER_MODE: Row = Row {
@@ -2234,6 +2478,7 @@ pub mod charger_configuration_command {
         width: 8,
         unit: Unit::Other,
         plain: false,
+        two_state: false,
     };
 
     pub const BATTERY_SENSOR_PRESENT: Row = Row {
@@ -2242,6 +2487,7 @@ pub mod charger_configuration_command {
         width: 2,
         unit: Unit::Other,
         plain: false,
+        two_state: true,
     };
 
     pub const CHARGER_INSTALLATION_LINE: Row = Row {
@@ -2250,6 +2496,7 @@ pub mod charger_configuration_command {
         width: 2,
         unit: Unit::Other,
         plain: false,
+        two_state: true,
     };
 
     pub const BATTERY_BANK_SIZE: Row = Row {
@@ -2258,6 +2505,7 @@ pub mod charger_configuration_command {
         width: 16,
         unit: Unit::Other,
         plain: false,
+        two_state: false,
     };
 
     pub const BATTERY_TYPE: Row = Row {
@@ -2266,6 +2514,7 @@ pub mod charger_configuration_command {
         width: 4,
         unit: Unit::Other,
         plain: false,
+        two_state: false,
     };
 
     pub const MAXIMUM_CHARGING_CURRENT: Row = Row {
@@ -2274,6 +2523,7 @@ pub mod charger_configuration_command {
         width: 8,
         unit: Unit::Ampere,
         plain: false,
+        two_state: false,
     };
 }
 
@@ -2288,6 +2538,7 @@ pub mod charger_command {
         width: 8,
         unit: Unit::Other,
         plain: false,
+        two_state: false,
     };
 
     pub const STATUS: Row = Row {
@@ -2296,6 +2547,7 @@ pub mod charger_command {
         width: 8,
         unit: Unit::Other,
         plain: false,
+        two_state: false,
     };
 
     pub const DEFAULT_STATE_ON_POWER_UP: Row = Row {
@@ -2304,6 +2556,7 @@ pub mod charger_command {
         width: 2,
         unit: Unit::Other,
         plain: false,
+        two_state: true,
     };
 
     pub const AUTO_RECHARGE_ENABLE: Row = Row {
@@ -2312,6 +2565,7 @@ pub mod charger_command {
         width: 2,
         unit: Unit::Other,
         plain: false,
+        two_state: true,
     };
 
     pub const FORCE_CHARGE: Row = Row {
@@ -2320,6 +2574,7 @@ pub mod charger_command {
         width: 4,
         unit: Unit::Other,
         plain: false,
+        two_state: false,
     };
 
     pub const CONTROL_VOLTAGE_FOR_CC_CV_MODE: Row = Row {
@@ -2328,6 +2583,7 @@ pub mod charger_command {
         width: 16,
         unit: Unit::Volt,
         plain: false,
+        two_state: false,
     };
 
     pub const CONTROL_CURRENT_FOR_CC_CV_MODE: Row = Row {
@@ -2336,6 +2592,7 @@ pub mod charger_command {
         width: 16,
         unit: Unit::Ampere,
         plain: false,
+        two_state: false,
     };
 }
 
@@ -2350,6 +2607,7 @@ pub mod charger_configuration_status {
         width: 8,
         unit: Unit::Other,
         plain: false,
+        two_state: false,
     };
 
     pub const CHARGING_ALGORITHM: Row = Row {
@@ -2358,6 +2616,7 @@ pub mod charger_configuration_status {
         width: 8,
         unit: Unit::Other,
         plain: false,
+        two_state: false,
     };
 
     pub const CHARGER_MODE: Row = Row {
@@ -2366,6 +2625,7 @@ pub mod charger_configuration_status {
         width: 8,
         unit: Unit::Other,
         plain: false,
+        two_state: false,
     };
 
     pub const BATTERY_SENSOR_PRESENT: Row = Row {
@@ -2374,6 +2634,7 @@ pub mod charger_configuration_status {
         width: 2,
         unit: Unit::Other,
         plain: false,
+        two_state: true,
     };
 
     pub const CHARGER_INSTALLATION_LINE: Row = Row {
@@ -2382,6 +2643,7 @@ pub mod charger_configuration_status {
         width: 2,
         unit: Unit::Other,
         plain: false,
+        two_state: true,
     };
 
     pub const BATTERY_TYPE: Row = Row {
@@ -2390,6 +2652,7 @@ pub mod charger_configuration_status {
         width: 4,
         unit: Unit::Other,
         plain: false,
+        two_state: false,
     };
 
     pub const BATTERY_BANK_SIZE: Row = Row {
@@ -2398,6 +2661,7 @@ pub mod charger_configuration_status {
         width: 16,
         unit: Unit::Other,
         plain: false,
+        two_state: false,
     };
 
     pub const MAXIMUM_CHARGING_CURRENT: Row = Row {
@@ -2406,6 +2670,7 @@ pub mod charger_configuration_status {
         width: 16,
         unit: Unit::Ampere,
         plain: false,
+        two_state: false,
     };
 }
 
@@ -2420,6 +2685,7 @@ pub mod charger_status {
         width: 8,
         unit: Unit::Other,
         plain: false,
+        two_state: false,
     };
 
     pub const CHARGE_VOLTAGE: Row = Row {
@@ -2428,6 +2694,7 @@ pub mod charger_status {
         width: 16,
         unit: Unit::Volt,
         plain: false,
+        two_state: false,
     };
 
     pub const CHARGE_CURRENT: Row = Row {
@@ -2436,6 +2703,7 @@ pub mod charger_status {
         width: 16,
         unit: Unit::Ampere,
         plain: false,
+        two_state: false,
     };
 
     pub const CHARGE_CURRENT_PERCENT_OF_MAXIMUM: Row = Row {
@@ -2444,6 +2712,7 @@ pub mod charger_status {
         width: 8,
         unit: Unit::Percent,
         plain: false,
+        two_state: false,
     };
 
     pub const OPERATING_STATE: Row = Row {
@@ -2452,6 +2721,7 @@ pub mod charger_status {
         width: 8,
         unit: Unit::Other,
         plain: false,
+        two_state: false,
     };
 
     pub const DEFAULT_STATE_ON_POWER_UP: Row = Row {
@@ -2460,6 +2730,7 @@ pub mod charger_status {
         width: 2,
         unit: Unit::Other,
         plain: false,
+        two_state: true,
     };
 
     pub const AUTO_RECHARGE_ENABLE: Row = Row {
@@ -2468,6 +2739,7 @@ pub mod charger_status {
         width: 2,
         unit: Unit::Other,
         plain: false,
+        two_state: true,
     };
 
     pub const FORCE_CHARGE: Row = Row {
@@ -2476,6 +2748,7 @@ pub mod charger_status {
         width: 4,
         unit: Unit::Other,
         plain: false,
+        two_state: false,
     };
 }
 
@@ -2490,6 +2763,7 @@ pub mod charger_ac_status_3 {
         width: 8,
         unit: Unit::Other,
         plain: false,
+        two_state: false,
     };
 
     pub const WAVEFORM: Row = Row {
@@ -2498,6 +2772,7 @@ pub mod charger_ac_status_3 {
         width: 2,
         unit: Unit::Other,
         plain: false,
+        two_state: true,
     };
 
     pub const REAL_POWER: Row = Row {
@@ -2506,6 +2781,7 @@ pub mod charger_ac_status_3 {
         width: 16,
         unit: Unit::Other,
         plain: false,
+        two_state: false,
     };
 
     pub const REACTIVE_POWER: Row = Row {
@@ -2514,6 +2790,7 @@ pub mod charger_ac_status_3 {
         width: 16,
         unit: Unit::Other,
         plain: false,
+        two_state: false,
     };
 
     pub const HARMONIC_DISTORTION: Row = Row {
@@ -2522,6 +2799,7 @@ pub mod charger_ac_status_3 {
         width: 8,
         unit: Unit::Percent,
         plain: false,
+        two_state: false,
     };
 
     pub const COMPLEMENTARY_LEG: Row = Row {
@@ -2530,6 +2808,7 @@ pub mod charger_ac_status_3 {
         width: 8,
         unit: Unit::Other,
         plain: false,
+        two_state: false,
     };
 }
 
@@ -2544,6 +2823,7 @@ pub mod charger_ac_status_2 {
         width: 8,
         unit: Unit::Other,
         plain: false,
+        two_state: false,
     };
 
     pub const PEAK_VOLTAGE: Row = Row {
@@ -2552,6 +2832,7 @@ pub mod charger_ac_status_2 {
         width: 16,
         unit: Unit::Volt,
         plain: false,
+        two_state: false,
     };
 
     pub const PEAK_CURRENT: Row = Row {
@@ -2560,6 +2841,7 @@ pub mod charger_ac_status_2 {
         width: 16,
         unit: Unit::Ampere,
         plain: false,
+        two_state: false,
     };
 
     pub const GROUND_CURRENT: Row = Row {
@@ -2568,6 +2850,7 @@ pub mod charger_ac_status_2 {
         width: 16,
         unit: Unit::Ampere,
         plain: false,
+        two_state: false,
     };
 
     pub const CAPACITY: Row = Row {
@@ -2576,6 +2859,7 @@ pub mod charger_ac_status_2 {
         width: 8,
         unit: Unit::Ampere,
         plain: false,
+        two_state: false,
     };
 }
 
@@ -2590,6 +2874,7 @@ pub mod charger_ac_status_1 {
         width: 8,
         unit: Unit::Other,
         plain: false,
+        two_state: false,
     };
 
     pub const RMS_VOLTAGE: Row = Row {
@@ -2598,6 +2883,7 @@ pub mod charger_ac_status_1 {
         width: 16,
         unit: Unit::Volt,
         plain: false,
+        two_state: false,
     };
 
     pub const RMS_CURRENT: Row = Row {
@@ -2606,6 +2892,7 @@ pub mod charger_ac_status_1 {
         width: 16,
         unit: Unit::Ampere,
         plain: false,
+        two_state: false,
     };
 
     pub const FREQUENCY: Row = Row {
@@ -2614,6 +2901,7 @@ pub mod charger_ac_status_1 {
         width: 16,
         unit: Unit::Hertz,
         plain: false,
+        two_state: false,
     };
 
     pub const FAULT_OPEN_GROUND: Row = Row {
@@ -2622,6 +2910,7 @@ pub mod charger_ac_status_1 {
         width: 2,
         unit: Unit::Other,
         plain: false,
+        two_state: true,
     };
 
     pub const FAULT_OPEN_NEUTRAL: Row = Row {
@@ -2630,6 +2919,7 @@ pub mod charger_ac_status_1 {
         width: 2,
         unit: Unit::Other,
         plain: false,
+        two_state: true,
     };
 
     pub const FAULT_REVERSE_POLARITY: Row = Row {
@@ -2638,6 +2928,7 @@ pub mod charger_ac_status_1 {
         width: 2,
         unit: Unit::Other,
         plain: false,
+        two_state: true,
     };
 
     pub const FAULT_GROUND_CURRENT: Row = Row {
@@ -2646,6 +2937,7 @@ pub mod charger_ac_status_1 {
         width: 2,
         unit: Unit::Other,
         plain: false,
+        two_state: true,
     };
 }
 
@@ -2660,6 +2952,7 @@ pub mod air_conditioner_command {
         width: 8,
         unit: Unit::Other,
         plain: false,
+        two_state: false,
     };
 
     pub const OPERATING_MODE: Row = Row {
@@ -2668,6 +2961,7 @@ pub mod air_conditioner_command {
         width: 8,
         unit: Unit::Other,
         plain: false,
+        two_state: false,
     };
 
     pub const MAX_FAN_SPEED: Row = Row {
@@ -2676,6 +2970,7 @@ pub mod air_conditioner_command {
         width: 8,
         unit: Unit::Percent,
         plain: false,
+        two_state: false,
     };
 
     pub const MAX_AIR_CONDITIONING_OUTPUT_LEVEL: Row = Row {
@@ -2684,6 +2979,7 @@ pub mod air_conditioner_command {
         width: 8,
         unit: Unit::Percent,
         plain: false,
+        two_state: false,
     };
 
     pub const FAN_SPEED: Row = Row {
@@ -2692,6 +2988,7 @@ pub mod air_conditioner_command {
         width: 8,
         unit: Unit::Percent,
         plain: false,
+        two_state: false,
     };
 
     pub const AIR_CONDITIONING_OUTPUT_LEVEL: Row = Row {
@@ -2700,6 +2997,7 @@ pub mod air_conditioner_command {
         width: 8,
         unit: Unit::Percent,
         plain: false,
+        two_state: false,
     };
 
     pub const DEAD_BAND: Row = Row {
@@ -2708,6 +3006,7 @@ pub mod air_conditioner_command {
         width: 8,
         unit: Unit::Other,
         plain: false,
+        two_state: false,
     };
 
     pub const SECOND_STAGE_DEAD_BAND: Row = Row {
@@ -2716,6 +3015,7 @@ pub mod air_conditioner_command {
         width: 8,
         unit: Unit::Other,
         plain: false,
+        two_state: false,
     };
 }
 
@@ -2730,6 +3030,7 @@ pub mod air_conditioner_status {
         width: 8,
         unit: Unit::Other,
         plain: false,
+        two_state: false,
     };
 
     pub const OPERATING_MODE: Row = Row {
@@ -2738,6 +3039,7 @@ pub mod air_conditioner_status {
         width: 8,
         unit: Unit::Other,
         plain: false,
+        two_state: false,
     };
 
     pub const MAX_FAN_SPEED: Row = Row {
@@ -2746,6 +3048,7 @@ pub mod air_conditioner_status {
         width: 8,
         unit: Unit::Percent,
         plain: false,
+        two_state: false,
     };
 
     pub const MAX_AIR_CONDITIONING_OUTPUT_LEVEL: Row = Row {
@@ -2754,6 +3057,7 @@ pub mod air_conditioner_status {
         width: 8,
         unit: Unit::Percent,
         plain: false,
+        two_state: false,
     };
 
     pub const FAN_SPEED: Row = Row {
@@ -2762,6 +3066,7 @@ pub mod air_conditioner_status {
         width: 8,
         unit: Unit::Percent,
         plain: false,
+        two_state: false,
     };
 
     pub const AIR_CONDITIONING_OUTPUT_LEVEL: Row = Row {
@@ -2770,6 +3075,7 @@ pub mod air_conditioner_status {
         width: 8,
         unit: Unit::Percent,
         plain: false,
+        two_state: false,
     };
 
     pub const DEAD_BAND: Row = Row {
@@ -2778,6 +3084,7 @@ pub mod air_conditioner_status {
         width: 8,
         unit: Unit::Other,
         plain: false,
+        two_state: false,
     };
 
     pub const SECOND_STAGE_DEAD_BAND: Row = Row {
@@ -2786,6 +3093,7 @@ pub mod air_conditioner_status {
         width: 8,
         unit: Unit::Other,
         plain: false,
+        two_state: false,
     };
 }
 
@@ -2800,6 +3108,7 @@ pub mod thermostat_status_1 {
         width: 8,
         unit: Unit::Other,
         plain: false,
+        two_state: false,
     };
 
     pub const OPERATING_MODE: Row = Row {
@@ -2808,6 +3117,7 @@ pub mod thermostat_status_1 {
         width: 4,
         unit: Unit::Other,
         plain: false,
+        two_state: false,
     };
 
     pub const FAN_MODE: Row = Row {
@@ -2816,6 +3126,7 @@ pub mod thermostat_status_1 {
         width: 2,
         unit: Unit::Other,
         plain: false,
+        two_state: true,
     };
 
     pub const SCHEDULE_MODE: Row = Row {
@@ -2824,6 +3135,7 @@ pub mod thermostat_status_1 {
         width: 2,
         unit: Unit::Other,
         plain: false,
+        two_state: true,
     };
 
     pub const FAN_SPEED: Row = Row {
@@ -2832,6 +3144,7 @@ pub mod thermostat_status_1 {
         width: 8,
         unit: Unit::Percent,
         plain: false,
+        two_state: false,
     };
 
     pub const SETPOINT_TEMP_HEAT: Row = Row {
@@ -2840,6 +3153,7 @@ pub mod thermostat_status_1 {
         width: 16,
         unit: Unit::Celsius,
         plain: false,
+        two_state: false,
     };
 
     pub const SETPOINT_TEMP_COOL: Row = Row {
@@ -2848,6 +3162,7 @@ pub mod thermostat_status_1 {
         width: 16,
         unit: Unit::Celsius,
         plain: false,
+        two_state: false,
     };
 }
 
@@ -2862,6 +3177,7 @@ pub mod slide_motor_status {
         width: 8,
         unit: Unit::Other,
         plain: false,
+        two_state: false,
     };
 
     pub const VOLTAGE: Row = Row {
@@ -2870,6 +3186,7 @@ pub mod slide_motor_status {
         width: 16,
         unit: Unit::Volt,
         plain: false,
+        two_state: false,
     };
 
     pub const CURRENT_MOTOR_1: Row = Row {
@@ -2878,6 +3195,7 @@ pub mod slide_motor_status {
         width: 8,
         unit: Unit::Ampere,
         plain: false,
+        two_state: false,
     };
 
     pub const CURRENT_MOTOR_2: Row = Row {
@@ -2886,6 +3204,7 @@ pub mod slide_motor_status {
         width: 8,
         unit: Unit::Ampere,
         plain: false,
+        two_state: false,
     };
 
     pub const CURRENT_MOTOR_3: Row = Row {
@@ -2894,6 +3213,7 @@ pub mod slide_motor_status {
         width: 8,
         unit: Unit::Ampere,
         plain: false,
+        two_state: false,
     };
 
     pub const CURRENT_MOTOR_4: Row = Row {
@@ -2902,6 +3222,7 @@ pub mod slide_motor_status {
         width: 8,
         unit: Unit::Ampere,
         plain: false,
+        two_state: false,
     };
 }
 
@@ -2916,6 +3237,7 @@ pub mod slide_sensor_status {
         width: 8,
         unit: Unit::Other,
         plain: false,
+        two_state: false,
     };
 
     pub const SLIDE_LOCK_LIMIT_SWITCH_UPPER_FRONT: Row = Row {
@@ -2924,6 +3246,7 @@ pub mod slide_sensor_status {
         width: 2,
         unit: Unit::Other,
         plain: false,
+        two_state: true,
     };
 
     pub const SLIDE_LOCK_LIMIT_SWITCH_UPPER_REAR: Row = Row {
@@ -2932,6 +3255,7 @@ pub mod slide_sensor_status {
         width: 2,
         unit: Unit::Other,
         plain: false,
+        two_state: true,
     };
 
     pub const SLIDE_LOCK_LIMIT_SWITCH_LOWER_FRONT: Row = Row {
@@ -2940,6 +3264,7 @@ pub mod slide_sensor_status {
         width: 2,
         unit: Unit::Other,
         plain: false,
+        two_state: true,
     };
 
     pub const SLIDE_LOCK_LIMIT_SWITCH_LOWER_REAR: Row = Row {
@@ -2948,6 +3273,7 @@ pub mod slide_sensor_status {
         width: 2,
         unit: Unit::Other,
         plain: false,
+        two_state: true,
     };
 
     pub const SLIDE_UNLOCK_LIMIT_SWITCH_UPPER_FRONT: Row = Row {
@@ -2956,6 +3282,7 @@ pub mod slide_sensor_status {
         width: 2,
         unit: Unit::Other,
         plain: false,
+        two_state: true,
     };
 
     pub const SLIDE_UNLOCK_LIMIT_SWITCH_UPPER_REAR: Row = Row {
@@ -2964,6 +3291,7 @@ pub mod slide_sensor_status {
         width: 2,
         unit: Unit::Other,
         plain: false,
+        two_state: true,
     };
 
     pub const SLIDE_UNLOCK_LIMIT_SWITCH_LOWER_FRONT: Row = Row {
@@ -2972,6 +3300,7 @@ pub mod slide_sensor_status {
         width: 2,
         unit: Unit::Other,
         plain: false,
+        two_state: true,
     };
 
     pub const SLIDE_UNLOCK_LIMIT_SWITCH_LOWER_REAR: Row = Row {
@@ -2980,6 +3309,7 @@ pub mod slide_sensor_status {
         width: 2,
         unit: Unit::Other,
         plain: false,
+        two_state: true,
     };
 
     pub const SLIDE_RETRACTION_LIMIT_SWITCH_UPPER_FRONT: Row = Row {
@@ -2988,6 +3318,7 @@ pub mod slide_sensor_status {
         width: 2,
         unit: Unit::Other,
         plain: false,
+        two_state: true,
     };
 
     pub const SLIDE_RETRACTION_LIMIT_SWITCH_UPPER_REAR: Row = Row {
@@ -2996,6 +3327,7 @@ pub mod slide_sensor_status {
         width: 2,
         unit: Unit::Other,
         plain: false,
+        two_state: true,
     };
 
     pub const SLIDE_RETRACTION_LIMIT_SWITCH_LOWER_FRONT: Row = Row {
@@ -3004,6 +3336,7 @@ pub mod slide_sensor_status {
         width: 2,
         unit: Unit::Other,
         plain: false,
+        two_state: true,
     };
 
     pub const SLIDE_RETRACTION_LIMIT_SWITCH_LOWER_REAR: Row = Row {
@@ -3012,6 +3345,7 @@ pub mod slide_sensor_status {
         width: 2,
         unit: Unit::Other,
         plain: false,
+        two_state: true,
     };
 
     pub const SLIDE_EXTENSION_LIMIT_SWITCH_UPPER_FRONT: Row = Row {
@@ -3020,6 +3354,7 @@ pub mod slide_sensor_status {
         width: 2,
         unit: Unit::Other,
         plain: false,
+        two_state: true,
     };
 
     pub const SLIDE_EXTENSION_LIMIT_SWITCH_UPPER_REAR: Row = Row {
@@ -3028,6 +3363,7 @@ pub mod slide_sensor_status {
         width: 2,
         unit: Unit::Other,
         plain: false,
+        two_state: true,
     };
 
     pub const SLIDE_EXTENSION_LIMIT_SWITCH_LOWER_FRONT: Row = Row {
@@ -3036,6 +3372,7 @@ pub mod slide_sensor_status {
         width: 2,
         unit: Unit::Other,
         plain: false,
+        two_state: true,
     };
 
     pub const SLIDE_EXTENSION_LIMIT_SWITCH_LOWER_REAR: Row = Row {
@@ -3044,6 +3381,7 @@ pub mod slide_sensor_status {
         width: 2,
         unit: Unit::Other,
         plain: false,
+        two_state: true,
     };
 
     pub const RETRACTABLE_FLOOR_LIMIT_SWITCH_UP: Row = Row {
@@ -3052,6 +3390,7 @@ pub mod slide_sensor_status {
         width: 2,
         unit: Unit::Other,
         plain: false,
+        two_state: true,
     };
 
     pub const RETRACTABLE_FLOOR_LIMIT_SWITCH_DOWN: Row = Row {
@@ -3060,6 +3399,7 @@ pub mod slide_sensor_status {
         width: 2,
         unit: Unit::Other,
         plain: false,
+        two_state: true,
     };
 
     pub const AIR_SEAL_VACUUM_SWITCH: Row = Row {
@@ -3068,6 +3408,7 @@ pub mod slide_sensor_status {
         width: 2,
         unit: Unit::Other,
         plain: false,
+        two_state: true,
     };
 }
 
@@ -3082,6 +3423,7 @@ pub mod slide_command {
         width: 8,
         unit: Unit::Other,
         plain: false,
+        two_state: false,
     };
 
     pub const USER_LOCK: Row = Row {
@@ -3090,6 +3432,7 @@ pub mod slide_command {
         width: 2,
         unit: Unit::Other,
         plain: false,
+        two_state: true,
     };
 
     pub const AIR_SEAL_DEFLATE: Row = Row {
@@ -3098,6 +3441,7 @@ pub mod slide_command {
         width: 2,
         unit: Unit::Other,
         plain: false,
+        two_state: true,
     };
 
     pub const AIR_SEAL_VACUUM: Row = Row {
@@ -3106,6 +3450,7 @@ pub mod slide_command {
         width: 2,
         unit: Unit::Other,
         plain: false,
+        two_state: true,
     };
 
     pub const MECHANICAL_LOCK: Row = Row {
@@ -3114,6 +3459,7 @@ pub mod slide_command {
         width: 2,
         unit: Unit::Other,
         plain: false,
+        two_state: true,
     };
 
     pub const DIRECTION_OF_MOVEMENT: Row = Row {
@@ -3122,6 +3468,7 @@ pub mod slide_command {
         width: 8,
         unit: Unit::Other,
         plain: false,
+        two_state: false,
     };
 }
 
@@ -3136,6 +3483,7 @@ pub mod slide_status {
         width: 8,
         unit: Unit::Other,
         plain: false,
+        two_state: false,
     };
 
     pub const MOTION: Row = Row {
@@ -3144,6 +3492,7 @@ pub mod slide_status {
         width: 8,
         unit: Unit::Other,
         plain: false,
+        two_state: false,
     };
 
     pub const POSITION: Row = Row {
@@ -3152,6 +3501,7 @@ pub mod slide_status {
         width: 8,
         unit: Unit::Percent,
         plain: false,
+        two_state: false,
     };
 
     pub const LOCK_STATUS: Row = Row {
@@ -3160,6 +3510,7 @@ pub mod slide_status {
         width: 2,
         unit: Unit::Other,
         plain: false,
+        two_state: true,
     };
 
     pub const UNLOCK_STATUS: Row = Row {
@@ -3168,6 +3519,7 @@ pub mod slide_status {
         width: 2,
         unit: Unit::Other,
         plain: false,
+        two_state: true,
     };
 
     pub const USER_LOCK_STATUS: Row = Row {
@@ -3176,6 +3528,7 @@ pub mod slide_status {
         width: 2,
         unit: Unit::Other,
         plain: false,
+        two_state: true,
     };
 
     pub const BRAKE_STATUS: Row = Row {
@@ -3184,6 +3537,7 @@ pub mod slide_status {
         width: 2,
         unit: Unit::Other,
         plain: false,
+        two_state: true,
     };
 
     pub const PARK_BRAKE: Row = Row {
@@ -3192,6 +3546,7 @@ pub mod slide_status {
         width: 2,
         unit: Unit::Other,
         plain: false,
+        two_state: true,
     };
 
     pub const LEVELING_JACKS: Row = Row {
@@ -3200,6 +3555,7 @@ pub mod slide_status {
         width: 2,
         unit: Unit::Other,
         plain: false,
+        two_state: true,
     };
 
     pub const IGNITION_KEY: Row = Row {
@@ -3208,6 +3564,7 @@ pub mod slide_status {
         width: 2,
         unit: Unit::Other,
         plain: false,
+        two_state: true,
     };
 
     pub const AIR_SEAL: Row = Row {
@@ -3216,6 +3573,7 @@ pub mod slide_status {
         width: 2,
         unit: Unit::Other,
         plain: false,
+        two_state: true,
     };
 
     pub const LOW_VOLTAGE: Row = Row {
@@ -3224,6 +3582,7 @@ pub mod slide_status {
         width: 2,
         unit: Unit::Other,
         plain: false,
+        two_state: true,
     };
 }
 
@@ -3238,6 +3597,7 @@ pub mod waterheater_command {
         width: 8,
         unit: Unit::Other,
         plain: false,
+        two_state: false,
     };
 
     pub const OPERATING_MODES: Row = Row {
@@ -3246,6 +3606,7 @@ pub mod waterheater_command {
         width: 8,
         unit: Unit::Other,
         plain: false,
+        two_state: false,
     };
 
     pub const SET_POINT_TEMPERATURE: Row = Row {
@@ -3254,6 +3615,7 @@ pub mod waterheater_command {
         width: 16,
         unit: Unit::Celsius,
         plain: false,
+        two_state: false,
     };
 
     pub const ELECTRIC_ELEMENT_LEVEL: Row = Row {
@@ -3262,6 +3624,7 @@ pub mod waterheater_command {
         width: 4,
         unit: Unit::Other,
         plain: false,
+        two_state: false,
     };
 }
 
@@ -3276,6 +3639,7 @@ pub mod waterheater_status {
         width: 8,
         unit: Unit::Other,
         plain: false,
+        two_state: false,
     };
 
     pub const OPERATING_MODES: Row = Row {
@@ -3284,6 +3648,7 @@ pub mod waterheater_status {
         width: 8,
         unit: Unit::Other,
         plain: false,
+        two_state: false,
     };
 
     pub const SET_POINT_TEMPERATURE: Row = Row {
@@ -3292,6 +3657,7 @@ pub mod waterheater_status {
         width: 16,
         unit: Unit::Celsius,
         plain: false,
+        two_state: false,
     };
 
     pub const WATER_TEMPERATURE: Row = Row {
@@ -3300,6 +3666,7 @@ pub mod waterheater_status {
         width: 16,
         unit: Unit::Celsius,
         plain: false,
+        two_state: false,
     };
 
     pub const THERMOSTAT_STATUS: Row = Row {
@@ -3308,6 +3675,7 @@ pub mod waterheater_status {
         width: 2,
         unit: Unit::Other,
         plain: false,
+        two_state: true,
     };
 
     pub const BURNER_STATUS: Row = Row {
@@ -3316,6 +3684,7 @@ pub mod waterheater_status {
         width: 2,
         unit: Unit::Other,
         plain: false,
+        two_state: true,
     };
 
     pub const AC_ELEMENT_STATUS: Row = Row {
@@ -3324,6 +3693,7 @@ pub mod waterheater_status {
         width: 2,
         unit: Unit::Other,
         plain: false,
+        two_state: true,
     };
 
     pub const HIGH_TEMPERATURE_LIMIT_SWITCH_STATUS: Row = Row {
@@ -3332,6 +3702,7 @@ pub mod waterheater_status {
         width: 2,
         unit: Unit::Other,
         plain: false,
+        two_state: true,
     };
 
     pub const FAILURE_TO_IGNITE_STATUS: Row = Row {
@@ -3340,6 +3711,7 @@ pub mod waterheater_status {
         width: 2,
         unit: Unit::Other,
         plain: false,
+        two_state: true,
     };
 
     pub const AC_POWER_FAILURE_STATUS: Row = Row {
@@ -3348,6 +3720,7 @@ pub mod waterheater_status {
         width: 2,
         unit: Unit::Other,
         plain: false,
+        two_state: true,
     };
 
     pub const DC_POWER_FAILURE_STATUS: Row = Row {
@@ -3356,6 +3729,7 @@ pub mod waterheater_status {
         width: 2,
         unit: Unit::Other,
         plain: false,
+        two_state: true,
     };
 
     pub const DC_POWER_WARNING_STATUS: Row = Row {
@@ -3364,5 +3738,6 @@ pub mod waterheater_status {
         width: 2,
         unit: Unit::Other,
         plain: false,
+        two_state: true,
     };
 }

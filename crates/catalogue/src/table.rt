@@ -1,5 +1,5 @@
 // Rows of a table of packed rows: a row is one number, in hexadecimal digits DGN (5), first bit (2), width (2), unit
-// (1), plain mark (1).
+// (1), mark (1).
 ghost use mathlib.Core.Path.{_≡_};
 ghost use Prim.Native.Nat.{_<_};
 ghost use lib.ListN.{length};
@@ -40,6 +40,8 @@ const HERTZ: u64 = 5;
 
 const PLAIN: u64 = 1;
 
+const TWO_STATE: u64 = 2;
+
 fn unit_of(number: u64) -> Unit
     ensures { λ r. ⌜ r ≡ unitOf number ⌝ }
 {
@@ -70,6 +72,7 @@ fn unpack(number: u64) -> Row
         width: (number / WIDTH_FROM % BYTES) as u8,
         unit: unit_of(number / UNIT_FROM % DIGITS),
         plain: number % DIGITS == PLAIN,
+        two_state: number % DIGITS == TWO_STATE,
     }
 }
 
@@ -83,6 +86,7 @@ fn none() -> Row
         width: 0,
         unit: Unit::Other,
         plain: false,
+        two_state: false,
     }
 }
 

@@ -285,6 +285,7 @@ fn row(notes: &[u64]) -> Row {
         width: field_u8(notes, notes::ROW, 2),
         unit: unit_of(field(notes, notes::ROW, 3)),
         plain: field(notes, notes::ROW, 4) != 0,
+        two_state: field(notes, notes::ROW, 5) != 0,
     }
 }
 
@@ -308,6 +309,7 @@ fn keep(notes: &mut [u64], row: Row) {
         row.width as u64,
         number_of_unit(unit),
         row.plain as u64,
+        row.two_state as u64,
     ];
     put_all(notes, notes::ROW, &fields);
 }
@@ -333,5 +335,5 @@ pub fn show(notes: &[u64]) {
         b"Other Percent Celsius Volt Ampere Hertz",
         field(notes, notes::ROW, 3) as usize,
     );
-    say::form(b" plain=?\n", notes, notes::ROW + 4);
+    say::form(b" plain=? two_state=?\n", notes, notes::ROW + 4);
 }

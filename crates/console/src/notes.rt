@@ -121,7 +121,7 @@ pub const MOST_NUMBERS: usize = 32;
 
 // State that is a number each, in the order in which `state` names them: of the receiver of fast packets how many DGNs
 // are named; of the claim its name, candidates, position, wait, silent; of the host how many entries it has; of the
-// cutter its length and lines; of the row its dgn, first, width, unit, plain.
+// cutter its length and lines; of the row its dgn, first, width, unit, plain, two_state.
 pub const SINGLE: usize = 100;
 
 pub const FAST_NAMED: usize = 100;

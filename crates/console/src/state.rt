@@ -55,12 +55,13 @@ pub fn set(notes: &mut [u64]) {
           claim.name claim.candidates claim.position claim.wait claim.silent \
           command.host.count \
           capture.cutter.length capture.cutter.lines \
-          catalogue.row.dgn catalogue.row.first catalogue.row.width catalogue.row.unit catalogue.row.plain",
+          catalogue.row.dgn catalogue.row.first catalogue.row.width catalogue.row.unit catalogue.row.plain \
+          catalogue.row.two_state",
     );
     if n == NONE {
         return set_lent(notes);
     }
-    let letter = byte_at(b"88882t884411ut", n);
+    let letter = byte_at(b"88882t884411utt", n);
     set_number(notes, 2, letter, wrapping_add_usize(notes::SINGLE, n));
 }
 

@@ -65,6 +65,12 @@ pub record DemandTwo : Type 0 where
   pub reads-back : Catalogue.ReadsBack
   pub reads-others : Catalogue.ReadsOthers
   pub bits-kept : Catalogue.BitsKept
+  -- fields of two states: what is read and written in them, 10b being an error; but for 10b the mark changes no answer;
+  -- and a number read from two bits is 0 or 1
+  pub two-states-answered : Catalogue.TwoStatesAnswered
+  pub mark-reads : Catalogue.MarkReads
+  pub mark-writes : Catalogue.MarkWrites
+  pub no-third-state : Catalogue.NoThirdState
   -- long messages: every message and DGN within the limits of RULES 5.15 is split, and is joined again in any run of
   -- calls
   pub splitter-announces : Message.SplitterAnnounces

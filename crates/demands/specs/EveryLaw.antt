@@ -267,6 +267,14 @@ pub record CatalogueLaws : Type 0 where
   pub one-class : Catalogue.OneClass
   pub always-numbers : Catalogue.AlwaysNumbers
   pub class-by-width : Catalogue.ClassByWidth
+  pub two-states : Catalogue.TwoStates
+  pub two-states-answered : Catalogue.TwoStatesAnswered
+  pub unmarked-as-before : Catalogue.UnmarkedAsBefore
+  pub mark-reads : Catalogue.MarkReads
+  pub mark-writes : Catalogue.MarkWrites
+  pub two-state-rows : Catalogue.TwoStateRows
+  pub two-state-count : Catalogue.TwoStateCount
+  pub no-third-state : Catalogue.NoThirdState
   pub bit-of-byte : Catalogue.BitOfByte
   pub code-back : Catalogue.CodeBack
   pub value-back : Catalogue.ValueBack

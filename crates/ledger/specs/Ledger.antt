@@ -60,6 +60,10 @@ pub record FieldsOfTwo : Type 0 where
   pub reads-back : Catalogue.ReadsBack
   pub reads-others : Catalogue.ReadsOthers
   pub bits-kept : Catalogue.BitsKept
+  pub two-states-answered : Catalogue.TwoStatesAnswered
+  pub mark-reads : Catalogue.MarkReads
+  pub mark-writes : Catalogue.MarkWrites
+  pub no-third-state : Catalogue.NoThirdState
   pub splitter-announces : Message.SplitterAnnounces
   pub splitter-cuts : Message.SplitterCuts
   pub split-and-join : SplitAndJoin
