@@ -74,12 +74,12 @@ class-width row c p s = rw (p, s)
 one-false : (a b : Bool) → a ≡ false → a and b ≡ false
 one-false a b e = rw e
 
+and-false : (a : Bool) → a and false ≡ false
+and-false true = refl
+and-false false = refl
+
 other-width : (row : Row) → (row .width ≡ 2 → ⊥) → hasTwoStates row ≡ false
 other-width row n = rw (ne-eqb (row .width) 2 n) (and-false (row .«two_state»))
-  where
-    and-false : (a : Bool) → a and false ≡ false
-    and-false true = refl
-    and-false false = refl
 
 class-unstated : (row : Row) (c : ℕ) → row .plain ≡ false → hasTwoStates row ≡ false
     → classIn row c ≡ classAt (row .width) c
@@ -140,15 +140,17 @@ two-bits row s = eqb-true (row .width) 2 (both-true (row .«two_state») (row .w
 
 -- as the code asks whether a code is 10b in a row of two states
 
-pub error-unmarked : (row : Row) (c : ℕ) → not (row .«two_state») ≡ true → false ≡ isError row c
-error-unmarked row c m = by-test (row .«two_state») (λ t. true-false (sym (rw t at m))) (λ t. rw t)
-
 pub error-elsewhere : (row : Row) (c : ℕ) → (row .width ≡ 2 → ⊥) → false ≡ isError row c
 error-elsewhere row c n = sym (one-false (hasTwoStates row) (c =? errorCode) (other-width row n))
 
-pub error-here : (row : Row) (c : ℕ) → not (row .«two_state») ≡ false → row .width ≡ 2
-    → (c =? errorCode) ≡ isError row c
-error-here row c m w = rw (not-flips (row .«two_state») m, w)
+pub error-other : (row : Row) (c : ℕ) → (c ≡ errorCode → ⊥) → false ≡ isError row c
+error-other row c n = sym (rw (ne-eqb c errorCode n) (and-false (hasTwoStates row)))
+
+pub error-marked : (row : Row) (c : ℕ) → row .width ≡ 2 → c ≡ errorCode → row .«two_state» ≡ isError row c
+error-marked row c w e =
+    by-test (row .«two_state»)
+    (λ t. rw (t, eq-eqb (row .width) 2 w, eq-eqb c errorCode e))
+    (λ t. rw t)
 
 pub two-of : Laws.TwoStates
 unfolding classIn classAt

@@ -30,13 +30,13 @@ pub fn class_in(row: Row, code: u64) -> Class
 fn is_error(row: Row, code: u64) -> bool
     ensures { λ r. ⌜ r ≡ isError row code ⌝ }
 {
-    if !row.two_state {
-        return false;
-    }
     if row.width != TWO_STATES {
         return false;
     }
-    code == ERROR_CODE
+    if code != ERROR_CODE {
+        return false;
+    }
+    row.two_state
 }
 
 // How far below the greatest code a class stands.
