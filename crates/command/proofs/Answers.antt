@@ -28,9 +28,10 @@ use Rattle.command.specs.Acknowledgment.{claimFrame, acknowledgmentFrame
 use Rattle.command.specs.Commands as Commands
 use Rattle.command.specs.Commands.{hasCommand, isMeant, isElsewhere, Outcome, picks, routeOf, routedOf}
 use Rattle.command.specs.Requests as Requests
-use Rattle.command.specs.Requests.{requestedDgn, Asked, askedOf, supports, isOurs, nakTo, Reply, claims, supported, nak, unsupported, statusOf, replyOf, answerOf, requestedOf}
+use Rattle.command.specs.Requests.{requestedDgn, instanceAsked, Asked, askedOf, supports, isOurs, nakTo, Reply, claims, supported, nak, unsupported, statusOf, replyOf, answerOf, requestedOf}
 use Rattle.command.specs.Promises.{toldRouting, pickedIn, RoutedBy, toldRequesting, supportedIn, sentIn, RequestedBy, toldAcknowledging, formedIn, AcknowledgedBy}
 use Rattle.command.specs.Private.{bareRouted, bareRequested, bareAcknowledged}
+use Rattle.command.specs.declared.Edition.{Edition}
 use Rattle.command.specs.declared.Entry.{Entry}
 use Rattle.command.specs.declared.Host.{Host}
 use Rattle.command.specs.declared.Positions.{Positions}
@@ -203,21 +204,21 @@ module _ (asked : Asked) (es : List Entry) where
     unfolding replyOf
     reply-unheld o d a = rw (sym s, o, ne-eqb (asked .dgn) addressClaimed d, a)
 
-module _ (parts : Parts) (bytes : List ℕ) (es : List Entry) (c : Claim) where
+module _ (edition : Edition) (parts : Parts) (bytes : List ℕ) (es : List Entry) (c : Claim) where
   pub answer-other : (catalogueForm (parts .dgn) ≡ requestDgn → ⊥)
-      → answerOf parts bytes es c ≡ gives Requests.nothingToDo
+      → answerOf edition parts bytes es c ≡ gives Requests.nothingToDo
   unfolding answerOf
   answer-other n = rw (ne-eqb _ _ n)
 
-  pub answer-large : (asked : Asked) → catalogueForm (parts .dgn) ≡ requestDgn → asked ≡ askedOf parts bytes
-      → greatestDgn < asked .dgn → answerOf parts bytes es c ≡ refused 17
+  pub answer-large : (asked : Asked) → catalogueForm (parts .dgn) ≡ requestDgn → asked ≡ askedOf edition parts bytes
+      → greatestDgn < asked .dgn → answerOf edition parts bytes es c ≡ refused 17
   unfolding answerOf
   answer-large asked e a l =
       let d : requestedDgn bytes ≡ asked .dgn = ap (λ (x : Asked). x .dgn) (sym a) in
       rw (eq-eqb _ _ e, d, lt-ltb _ _ l)
 
-  pub answer-reply : (asked : Asked) → catalogueForm (parts .dgn) ≡ requestDgn → asked ≡ askedOf parts bytes
-      → asked .dgn ≤ greatestDgn → answerOf parts bytes es c ≡ replyOf asked es c
+  pub answer-reply : (asked : Asked) → catalogueForm (parts .dgn) ≡ requestDgn → asked ≡ askedOf edition parts bytes
+      → asked .dgn ≤ greatestDgn → answerOf edition parts bytes es c ≡ replyOf asked es c
   unfolding answerOf
   answer-reply asked e a l =
       let d : requestedDgn bytes ≤ greatestDgn = rw (ap (λ (x : Asked). x .dgn) a) at l in
@@ -232,14 +233,15 @@ dgn-read (a ∷ []) = omega arith
 dgn-read (a ∷ b ∷ []) = omega arith
 dgn-read (a ∷ b ∷ d ∷ bytes) = refl
 
-pub asked-read : (parts : Parts) (bytes : List ℕ) (dgn : ℕ)
-    → dgn ≡ numberOf (getD bytes 0 0 ∷ getD bytes 1 0 ∷ getD bytes 2 0 ∷ [])
-    → record { destination = parts .dgn % 256; source = parts .source; dgn = dgn } ≡ askedOf parts bytes
+pub asked-read : (edition : Edition) (parts : Parts) (bytes : List ℕ) (dgn instance : ℕ)
+    → dgn ≡ numberOf (getD bytes 0 0 ∷ getD bytes 1 0 ∷ getD bytes 2 0 ∷ []) → instance ≡ instanceAsked edition bytes
+    → record { destination = parts .dgn % 256; source = parts .source; dgn = dgn; instance = instance }
+    ≡ askedOf edition parts bytes
 unfolding destinationOf
-asked-read parts bytes dgn e =
+asked-read edition parts bytes dgn instance e n =
     let d = e ∙ dgn-read bytes in
     let t : parts .dgn % 256 ≡ destinationOf (parts .dgn) = sym (rw (div-one (parts .dgn))) in
-    λ i. record { destination = t i; source = parts .source; dgn = d i }
+    λ i. record { destination = t i; source = parts .source; dgn = d i; instance = n i }
 
 -- what was handed in goes on
 
@@ -258,6 +260,6 @@ module _ (id : ℕ) (bytes : List ℕ) (h : Host) (c : Claim) where
   requested-refused n e = rw e
 
   pub requested-given : (parts : Parts) (eight : List ℕ) → handedIn id bytes h c ≡ gives parts → eight ≡ bytes
-      → requestedOf id bytes h c ≡ answerOf parts eight (hosted h) c
+      → requestedOf id bytes h c ≡ answerOf (h .edition) parts eight (hosted h) c
   unfolding requestedOf
   requested-given parts eight e b = rw (e, b)

@@ -2,13 +2,13 @@
 -- Assumes nothing.
 use mathlib.Core.Path.{_≡_, refl, sym, ap, _∙_}
 use mathlib.Core.Bool.{Bool, true, false, not}
-use mathlib.Core.List.{List}
+use mathlib.Core.List.{List, [], _∷_}
 use Prim.Native.Nat.{ℕ, _-_, _/_, _≤_}
 use native.Mathlib.Nat.{div-one}
 use native.Mathlib.Omega.{arith}
 use borrow.Author.Tests.{ne-eqb, eqb-true}
-use lib.ListN.{length, getD, replicate}
-use lib.Seq.{take-at, length-take-le}
+use lib.ListN.{length, take, getD, replicate}
+use lib.Seq.{take-at, length-take-le, getD-take}
 use Rattle.frame.specs.Words.{if_then_else_, _≤?_, _=?_, _and_, Told, refused, gives, given_then_}
 use Rattle.frame.specs.Identifier.{greatestDgn, destinationOf, catalogueForm}
 use Rattle.frame.specs.Frame.{checkedOf}
@@ -28,9 +28,12 @@ use Rattle.command.specs.Commands as Commands
 use Rattle.command.specs.Commands.{hasCommand, isElsewhere, Outcome, picks, routeOf, routedOf}
 use Rattle.command.specs.Acknowledgment.{acknowledgedOf}
 use Rattle.command.specs.Requests as Requests
-use Rattle.command.specs.Requests.{requestedDgn, Reply, claims, supported, nak, unsupported, askedOf, answerOf, requestedOf}
+use Rattle.command.specs.Requests.{requestedDgn, instanceAsked, Reply, claims, supported, nak, unsupported, askedOf, answerOf, requestedOf}
 use Rattle.command.specs.Promises.{toldStarting, startedOf, toldRouting, toldRequesting, toldAcknowledging}
 use Rattle.command.specs.Laws as the
+use Rattle.command.specs.declared.Edition.{Edition}
+use Rattle.command.specs.declared.Edition.the-variants.{One, Two}
+use Rattle.command.specs.declared.Entry.{Entry}
 use Rattle.command.specs.declared.Host.{Host}
 use Rattle.command.specs.declared.Starting.{Starting}
 use Rattle.command.specs.declared.Starting.the-variants as Starting
@@ -138,7 +141,7 @@ told-acknowledging-same r s f g e = sym (acknowledging-back r f) ∙ ap acknowle
 -- no second answer
 
 pub start-only : the.StartOnly
-start-only entries count r s p q =
+start-only entries count edition r s p q =
     let a = told-starting-same (r .answer) (s .answer) (p .answer ∙ sym (q .answer)) in
     let h = p .state ∙ sym (q .state) in
     λ i. record { host = h i; answer = a i }
@@ -210,8 +213,8 @@ acknowledging-refusal-any Acknowledging.NoAddressHeld r frame p = p .number
 
 pub start-refused-keeps : the.StartRefusedKeeps
 unfolding startedOf
-start-refused-keeps entries count r n p e =
-    by-test (isWellFormed (record { entries = entries; count = count }))
+start-refused-keeps entries count edition r n p e =
+    by-test (isWellFormed (record { entries = entries; count = count; edition = edition }))
     (λ w. refused-gives {a = done} (sym e ∙ p .answer ∙ rw w))
     (λ w. p .state ∙ rw w)
 
@@ -288,8 +291,8 @@ routed-but (refused n) bytes h c = refl
 routed-but (gives p) bytes h c = refl
 
 answer-but : (t : Told Parts) (bytes : List ℕ) (h : Host) (c : Claim)
-    → (given t then λ p. answerOf p bytes (hosted h) c)
-    ≡ (given toldButPriority t then λ q. answerOf (record { priority = 0; dgn = q .0; source = q .1 }) bytes (hosted h) c)
+    → (given t then λ p. answerOf (h .edition) p bytes (hosted h) c)
+    ≡ (given toldButPriority t then λ q. answerOf (h .edition) (record { priority = 0; dgn = q .0; source = q .1 }) bytes (hosted h) c)
 unfolding answerOf
 answer-but (refused n) bytes h c = refl
 answer-but (gives p) bytes h c = refl
@@ -305,17 +308,17 @@ priority-ignored id id′ bytes h c l l′ e =
 
 -- only the entries count
 
-well-same : (h h′ : Host) → h .count ≡ h′ .count → hosted h ≡ hosted h′ → isWellFormed h ≡ isWellFormed h′
+pub well-same : (h h′ : Host) → h .count ≡ h′ .count → hosted h ≡ hosted h′ → isWellFormed h ≡ isWellFormed h′
 unfolding isWellFormed
 well-same h h′ n e = λ i. (n i ≤? mostEntries) and every isEntry (e i) and noPairRepeats (e i)
 
 pub past-count-ignored : the.PastCountIgnored
 unfolding handedIn routedOf requestedOf
-past-count-ignored id bytes h h′ c n e =
+past-count-ignored id bytes h h′ c d n e =
     let w = well-same h h′ n e in
     let t : handedIn id bytes h c ≡ handedIn id bytes h′ c = rw w in (
       (λ i. given t i then λ p. routeOf (p .dgn) (getD bytes 0 0) (e i) (standOf c)),
-      (λ i. given t i then λ p. answerOf p bytes (e i) c),
+      (λ i. given t i then λ p. answerOf (d i) p bytes (e i) c),
     )
 
 hosted-begun : (h : Host) → h .count ≤ length (h .entries) → hosted (begun h) ≡ hosted h
@@ -326,15 +329,20 @@ count-begun : (h : Host) → begun h .count ≡ h .count
 unfolding begun
 count-begun h = refl
 
+edition-begun : (h : Host) → begun h .edition ≡ h .edition
+unfolding begun
+edition-begun h = refl
+
 pub start-hosts : the.StartHosts
 unfolding startedOf
-start-hosts entries count r p e n =
-    let h : Host = record { entries = entries; count = count } in
+start-hosts entries count edition r p e n =
+    let h : Host = record { entries = entries; count = count; edition = edition } in
     let w = before-refusal (isWellFormed h) 16 (gives done) (sym (p .answer) ∙ e) .0 in
     let f = well-few h w in
     let l : count ≤ length entries = omega arith in
     let b : r .host ≡ begun h = p .state ∙ rw w in (
       ap hosted b ∙ hosted-begun h l,
+      ap (λ (x : Host). x .edition) b ∙ edition-begun h,
       ap isWellFormed b ∙ well-same (begun h) h (count-begun h) (hosted-begun h l) ∙ w,
     )
 
@@ -367,25 +375,57 @@ command-elsewhere id bytes h c p to address e s d n =
 
 pub other-dgn : the.OtherDgn
 unfolding requestedOf
-other-dgn id bytes h c p e n = rw e (answer-other p bytes (hosted h) c n)
+other-dgn id bytes h c p e n = rw e (answer-other (h .edition) p bytes (hosted h) c n)
 
 pub request-too-large : the.RequestTooLarge
 unfolding requestedOf
-request-too-large id bytes h c p e d l = rw e (answer-large p bytes (hosted h) c (askedOf p bytes) d refl l)
+request-too-large id bytes h c p e d l = rw e (answer-large (h .edition) p bytes (hosted h) c (askedOf (h .edition) p bytes) d refl l)
 
-later-answer : (parts : Parts) (bytes bytes′ : List ℕ) (h : Host) (c : Claim) → requestedDgn bytes ≡ requestedDgn bytes′
-    → answerOf parts bytes (hosted h) c ≡ answerOf parts bytes′ (hosted h) c
+-- a request is read by the DGN and the instance that it asks for
+
+answer-same : (edition edition′ : Edition) (parts : Parts) (bytes bytes′ : List ℕ) (es : List Entry) (c : Claim)
+    → requestedDgn bytes ≡ requestedDgn bytes′ → instanceAsked edition bytes ≡ instanceAsked edition′ bytes′
+    → answerOf edition parts bytes es c ≡ answerOf edition′ parts bytes′ es c
 unfolding answerOf
-later-answer parts bytes bytes′ h c d = rw d
+answer-same edition edition′ parts bytes bytes′ es c d n = rw (d, n)
+
+pub request-same : (id : ℕ) (bytes bytes′ : List ℕ) (h h′ : Host) (c : Claim) → length bytes ≡ length bytes′
+    → h .count ≡ h′ .count → hosted h ≡ hosted h′ → requestedDgn bytes ≡ requestedDgn bytes′
+    → instanceAsked (h .edition) bytes ≡ instanceAsked (h′ .edition) bytes′
+    → requestedOf id bytes h c ≡ requestedOf id bytes′ h′ c
+unfolding requestedOf handedIn
+request-same id bytes bytes′ h h′ c l k e d n =
+    let w = well-same h h′ k e in
+    let t : handedIn id bytes h c ≡ handedIn id bytes′ h′ c = rw (l, w) in
+    rw (t, e) (go (handedIn id bytes′ h′ c))
+  where
+    go : (t : Told Parts)
+        → (given t then λ p. answerOf (h .edition) p bytes (hosted h′) c)
+        ≡ (given t then λ p. answerOf (h′ .edition) p bytes′ (hosted h′) c)
+    go (refused n) = refl
+    go (gives p) = answer-same (h .edition) (h′ .edition) p bytes bytes′ (hosted h′) c d n
+
+-- its first bytes are what is read of them
+
+pub dgn-of-three : (bytes bytes′ : List ℕ) → take 3 bytes ≡ take 3 bytes′ → requestedDgn bytes ≡ requestedDgn bytes′
+unfolding requestedDgn dgnAt
+dgn-of-three bytes bytes′ e = rw e
+
+three-of-four : (bytes : List ℕ) → take 3 (take 4 bytes) ≡ take 3 bytes
+three-of-four [] = refl
+three-of-four (a ∷ []) = refl
+three-of-four (a ∷ b ∷ []) = refl
+three-of-four (a ∷ b ∷ d ∷ bytes) = refl
+
+instance-of-four : (edition : Edition) (bytes bytes′ : List ℕ) → take 4 bytes ≡ take 4 bytes′
+    → instanceAsked edition bytes ≡ instanceAsked edition bytes′
+unfolding instanceAsked
+instance-of-four One bytes bytes′ e = refl
+instance-of-four Two bytes bytes′ e =
+    sym (getD-take 4 bytes 3 0 (omega arith)) ∙ ap (λ (l : List ℕ). getD l 3 0) e ∙ getD-take 4 bytes′ 3 0 (omega arith)
 
 pub later-bytes-ignored : the.LaterBytesIgnored
-unfolding requestedOf requestedDgn dgnAt handedIn
 later-bytes-ignored id bytes bytes′ h c l e =
-    let d : requestedDgn bytes ≡ requestedDgn bytes′ = rw e in
-    let t : handedIn id bytes h c ≡ handedIn id bytes′ h c = rw l in
-    rw t (go (handedIn id bytes′ h c) d)
-  where
-    go : (t : Told Parts) → requestedDgn bytes ≡ requestedDgn bytes′
-        → (given t then λ p. answerOf p bytes (hosted h) c) ≡ (given t then λ p. answerOf p bytes′ (hosted h) c)
-    go (refused n) d = refl
-    go (gives p) d = later-answer p bytes bytes′ h c d
+    request-same id bytes bytes′ h h c l refl refl
+    (dgn-of-three bytes bytes′ (sym (three-of-four bytes) ∙ ap (take 3) e ∙ three-of-four bytes′))
+    (instance-of-four (h .edition) bytes bytes′ e)

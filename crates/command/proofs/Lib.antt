@@ -5,3 +5,4 @@ pub mod Answers
 pub mod PositionLaws
 pub mod Laws
 pub mod ReplyLaws
+pub mod Editions

@@ -3,6 +3,7 @@
 use mathlib.Core.Path.{_≡_, refl, sym, ap, _∙_}
 use mathlib.Core.Bool.{true, false, not}
 use mathlib.Core.List.{List}
+use mathlib.Core.Logic.{_⊎_, inl, inr}
 use Prim.Native.Nat.{ℕ, _+_, _≤_, _<_}
 use native.Mathlib.Omega.{arith}
 use borrow.Author.Tests.{ne-eqb, eqb-true, eqb-false, ltb-false}
@@ -73,7 +74,7 @@ stand-address c a e =
     (λ w. let e′ : held (address c) ≡ held a = rw (s, w) at e in cc)
     (λ w. let e′ : claiming (address c) ≡ held a = rw (s, w) at e in let z : _≡_ {A = ℕ} 0 1 = cc in absurd (omega arith)))
 
-held-low : (c : Claim) (a : ℕ) → isSound c ≡ true → standOf c ≡ held a → a ≤ greatestAddress
+pub held-low : (c : Claim) (a : ℕ) → isSound c ≡ true → standOf c ≡ held a → a ≤ greatestAddress
 held-low c a s e =
     let b = both-true (keepsRules c) (holdsList c) s in
     let l = address-low c (rules-of c (b .0)) (holds-of c (b .1)) in
@@ -89,7 +90,7 @@ source-low source dgn h =
     let m : source ≡ 254 → ⊥ = λ e. omega arith in
     rw (ne-eqb source 255 n, ne-eqb source 254 m)
 
-acknowledgment-checked : (address : ℕ) (reply : Acknowledgment) → address ≤ greatestAddress → reply .requester < 256
+pub acknowledgment-checked : (address : ℕ) (reply : Acknowledgment) → address ≤ greatestAddress → reply .requester < 256
     → checkedOf (acknowledgmentId address (reply .requester)) (length (acknowledgmentBytes reply))
     ≡ gives (record { priority = acknowledgmentPriority; dgn = acknowledgmentDgn + reply .requester; source = address })
 unfolding acknowledgmentId acknowledgmentBytes bytesOf identifierOf priorityOf reservedOf dgnOf sourceOf
@@ -137,30 +138,41 @@ picked-held id bytes h c ps e =
 
 -- requests: how an answer that is given came about
 
+-- a request for a status, heard at the address that we hold
+pub record Heard (asked : Asked) (c : Claim) (address : ℕ) : Type 0 where
+  pub holds : standOf c ≡ held address
+  pub ours : isOurs asked (held address) ≡ true
+  pub status : asked .dgn ≡ addressClaimed → ⊥
+
 pub data Came (asked : Asked) (es : List Entry) (c : Claim) : Reply → Type 0 where
   elsewhere : Came asked es c Requests.nothingToDo
   claimed : asked .dgn ≡ addressClaimed → Came asked es c (claims (claimFrame c))
-  reported : (address : ℕ) → standOf c ≡ held address
+  reported : (address : ℕ) → Heard asked c address → any (supports asked) es ≡ true
       → Came asked es c (supported (positionsWhere (supports asked) es))
-  unanswered : Came asked es c unsupported
-  denied : (address : ℕ) → standOf c ≡ held address → isOurs asked (held address) ≡ true
-      → any (supports asked) es ≡ false → (asked .destination ≡ everyone → ⊥) → (asked .source ≡ noAddress → ⊥)
+  unanswered : (address : ℕ) → Heard asked c address → any (supports asked) es ≡ false
+      → (asked .destination ≡ everyone) ⊎ (asked .source ≡ noAddress) → Came asked es c unsupported
+  denied : (address : ℕ) → Heard asked c address → any (supports asked) es ≡ false
+      → (asked .destination ≡ everyone → ⊥) → (asked .source ≡ noAddress → ⊥)
       → Came asked es c (nak (acknowledgmentFrame address (nakTo asked)))
 
-came-held : (asked : Asked) (es : List Entry) (c : Claim) (address : ℕ) → standOf c ≡ held address
-    → isOurs asked (held address) ≡ true → Came asked es c (statusOf asked es address)
-came-held asked es c address s o =
+came-held : (asked : Asked) (es : List Entry) (c : Claim) (address : ℕ) → Heard asked c address
+    → Came asked es c (statusOf asked es address)
+came-held asked es c address h =
     by-test (any (supports asked) es)
-    (λ n. rw (status-supported asked es address n) (reported address s))
+    (λ n. rw (status-supported asked es address n) (reported address h n))
     (λ n. by-test (asked .destination =? everyone)
-    (λ t. rw (status-global asked es address n (eqb-true (asked .destination) everyone t)) unanswered)
+    (λ t.
+    let t′ = eqb-true (asked .destination) everyone t in
+    rw (status-global asked es address n t′) (unanswered address h n (inl t′)))
     (λ t.
     let t′ = eqb-false (asked .destination) everyone t in
     by-test (asked .source =? noAddress)
-    (λ q. rw (status-nobody asked es address n t′ (eqb-true (asked .source) noAddress q)) unanswered)
+    (λ q.
+    let q′ = eqb-true (asked .source) noAddress q in
+    rw (status-nobody asked es address n t′ q′) (unanswered address h n (inr q′)))
     (λ q.
     let q′ = eqb-false (asked .source) noAddress q in
-    rw (status-nak asked es address n t′ q′) (denied address s o n t′ q′))))
+    rw (status-nak asked es address n t′ q′) (denied address h n t′ q′))))
 
 came : (asked : Asked) (es : List Entry) (c : Claim) (reply : Reply) → replyOf asked es c ≡ gives reply
     → Came asked es c reply
@@ -172,30 +184,45 @@ came asked es c reply e =
     (λ d. given-past (addressHeld (standOf c)) _ (rw (o, d) at e)
     (λ address a m.
     let s = held-address (standOf c) address a in
-    rw (sym (gives-same m)) (came-held asked es c address s (rw s at o)))))
+    let h : Heard asked c address =
+    record { holds = s; ours = rw s at o; status = eqb-false (asked .dgn) addressClaimed d } in
+    rw (sym (gives-same m)) (came-held asked es c address h))))
     (λ o. rw (sym (gives-same (rw o at e))) elsewhere)
 
 -- a request that was answered
 pub record Answered (id : ℕ) (bytes : List ℕ) (h : Host) (c : Claim) (reply : Reply) : Type 0 where
   pub sound : isSound c ≡ true
   pub source : sourceOf id ≤ noAddress
-  pub came-about : Came (askedOf (partsOf id) bytes) (hosted h) c reply
+  pub frame : checkedOf id (length bytes) ≡ gives (partsOf id)
+  pub asks : (reply ≡ Requests.nothingToDo → ⊥)
+      → (catalogueForm (dgnOf id) ≡ requestDgn) × (requestedDgn bytes ≤ greatestDgn)
+  pub came-about : Came (askedOf (h .edition) (partsOf id) bytes) (hosted h) c reply
 
-answered : (id : ℕ) (bytes : List ℕ) (h : Host) (c : Claim) (reply : Reply) → requestedOf id bytes h c ≡ gives reply
+pub answered : (id : ℕ) (bytes : List ℕ) (h : Host) (c : Claim) (reply : Reply) → requestedOf id bytes h c ≡ gives reply
     → Answered id bytes h c reply
 unfolding requestedOf answerOf
 answered id bytes h c reply e =
-    given-past (handedIn id bytes h c) (λ parts. answerOf parts bytes (hosted h) c) e
+    given-past (handedIn id bytes h c) (λ parts. answerOf (h .edition) parts bytes (hosted h) c) e
     (λ parts p m.
     let f = handed-fine id bytes h c parts p in
     let q = checked-given id (length bytes) parts (f .frame) .1 in
     let l = source-checked id (length bytes) parts (f .frame) in
+    let g : checkedOf id (length bytes) ≡ gives (partsOf id) = f .frame ∙ ap gives q in
     by-test (catalogueForm (parts .dgn) =? requestDgn)
     (λ d.
     let r₁₇ = past-refusal (greatestDgn <? requestedDgn bytes) 17 _ (rw d at m) in
-    let k : replyOf (askedOf (partsOf id) bytes) (hosted h) c ≡ gives reply = rw q at (r₁₇ .1) in
-    record { sound = f .claim; source = l; came-about = came (askedOf (partsOf id) bytes) (hosted h) c reply k })
-    (λ d. rw (sym (gives-same (rw d at m))) (record { sound = f .claim; source = l; came-about = elsewhere })))
+    let k : replyOf (askedOf (h .edition) (partsOf id) bytes) (hosted h) c ≡ gives reply = rw q at (r₁₇ .1) in
+    record {
+      sound = f .claim;
+      source = l;
+      frame = g;
+      asks = λ _. (rw q at (eqb-true (catalogueForm (parts .dgn)) requestDgn d), ltb-false _ _ (r₁₇ .0));
+      came-about = came (askedOf (h .edition) (partsOf id) bytes) (hosted h) c reply k;
+    })
+    (λ d.
+    let n : Requests.nothingToDo ≡ reply = gives-same (rw d at m) in
+    rw (sym n)
+    (record { sound = f .claim; source = l; frame = g; asks = λ z. absurd (z refl); came-about = elsewhere })))
 
 -- positions are given from a held address
 
@@ -204,41 +231,41 @@ supported-came : (asked : Asked) (es : List Entry) (c : Claim) (reply : Reply) (
     → (address : ℕ) × (standOf c ≡ held address) × (ps ≡ positionsWhere (supports asked) es)
 supported-came asked es c reply ps e elsewhere = let z : _≡_ {A = ℕ} 0 1 = cc in absurd (omega arith)
 supported-came asked es c reply ps e (claimed d) = let z : _≡_ {A = ℕ} 0 1 = cc in absurd (omega arith)
-supported-came asked es c reply ps e (reported address s) = (address, s, cc)
-supported-came asked es c reply ps e unanswered = let z : _≡_ {A = ℕ} 0 1 = cc in absurd (omega arith)
-supported-came asked es c reply ps e (denied address s o n t q) =
+supported-came asked es c reply ps e (reported address h n) = (address, h .holds, cc)
+supported-came asked es c reply ps e (unanswered address h n w) = let z : _≡_ {A = ℕ} 0 1 = cc in absurd (omega arith)
+supported-came asked es c reply ps e (denied address h n t q) =
     let z : _≡_ {A = ℕ} 0 1 = cc in absurd (omega arith)
 
 pub supported-held : the.SupportedHeld
 supported-held id bytes h c ps e =
-    supported-came (askedOf (partsOf id) bytes) (hosted h) c (supported ps) ps refl
+    supported-came (askedOf (h .edition) (partsOf id) bytes) (hosted h) c (supported ps) ps refl
     (answered id bytes h c (supported ps) e .came-about)
 
 -- a NAK
 
-our-address : (asked : Asked) (address : ℕ) → isOurs asked (held address) ≡ true → (asked .destination ≡ everyone → ⊥)
+pub our-address : (asked : Asked) (address : ℕ) → isOurs asked (held address) ≡ true → (asked .destination ≡ everyone → ⊥)
     → asked .destination ≡ address
 unfolding isOurs isOurAddress
 our-address asked address o n =
     eqb-true (asked .destination) address (rw (ne-eqb (asked .destination) everyone n) at o)
 
 nak-came : (id : ℕ) (bytes : List ℕ) (h : Host) (c : Claim) (reply : Reply) (frame : Frame) → reply ≡ nak frame
-    → isSound c ≡ true → sourceOf id ≤ noAddress → Came (askedOf (partsOf id) bytes) (hosted h) c reply
+    → isSound c ≡ true → sourceOf id ≤ noAddress → Came (askedOf (h .edition) (partsOf id) bytes) (hosted h) c reply
     → the.NakSound id bytes h c frame
 nak-came id bytes h c reply frame e s l elsewhere = let z : _≡_ {A = ℕ} 0 1 = cc in absurd (omega arith)
 nak-came id bytes h c reply frame e s l (claimed d) = let z : _≡_ {A = ℕ} 0 1 = cc in absurd (omega arith)
-nak-came id bytes h c reply frame e s l (reported address t) = let z : _≡_ {A = ℕ} 0 1 = cc in absurd (omega arith)
-nak-came id bytes h c reply frame e s l unanswered = let z : _≡_ {A = ℕ} 0 1 = cc in absurd (omega arith)
-nak-came id bytes h c reply frame e s l (denied address t o n d q) =
-    let asked = askedOf (partsOf id) bytes in
+nak-came id bytes h c reply frame e s l (reported address k n) = let z : _≡_ {A = ℕ} 0 1 = cc in absurd (omega arith)
+nak-came id bytes h c reply frame e s l (unanswered address k n w) = let z : _≡_ {A = ℕ} 0 1 = cc in absurd (omega arith)
+nak-came id bytes h c reply frame e s l (denied address k n d q) =
+    let asked = askedOf (h .edition) (partsOf id) bytes in
     let f : frame ≡ acknowledgmentFrame address (nakTo asked) = cc in
     record {
       address = address;
-      holds = t;
-      directed = our-address asked address o d;
+      holds = k .holds;
+      directed = our-address asked address (k .ours) d;
       requester = omega (arith, q);
       unsupported = n;
-      parts = rw f (acknowledgment-checked address (nakTo asked) (held-low c address s t) (omega arith));
+      parts = rw f (acknowledgment-checked address (nakTo asked) (held-low c address s (k .holds)) (omega arith));
     }
 
 pub nak-is-sound : the.NakIsSound
@@ -252,9 +279,9 @@ claims-came : (asked : Asked) (es : List Entry) (c : Claim) (reply : Reply) (fra
     → Came asked es c reply → (asked .dgn ≡ addressClaimed) × (frame ≡ claimFrame c)
 claims-came asked es c reply frame e elsewhere = let z : _≡_ {A = ℕ} 0 1 = cc in absurd (omega arith)
 claims-came asked es c reply frame e (claimed d) = (d, cc)
-claims-came asked es c reply frame e (reported address s) = let z : _≡_ {A = ℕ} 0 1 = cc in absurd (omega arith)
-claims-came asked es c reply frame e unanswered = let z : _≡_ {A = ℕ} 0 1 = cc in absurd (omega arith)
-claims-came asked es c reply frame e (denied address s o n t q) =
+claims-came asked es c reply frame e (reported address h n) = let z : _≡_ {A = ℕ} 0 1 = cc in absurd (omega arith)
+claims-came asked es c reply frame e (unanswered address h n w) = let z : _≡_ {A = ℕ} 0 1 = cc in absurd (omega arith)
+claims-came asked es c reply frame e (denied address h n t q) =
     let z : _≡_ {A = ℕ} 0 1 = cc in absurd (omega arith)
 
 -- no other answer has a frame
@@ -280,7 +307,7 @@ request-sends-ours id bytes h c r p =
       (λ a.
           let t : requestedOf id bytes h c ≡ gives (claims frame) = sym (p .answer) ∙ ap (λ (x : Requesting). toldRequesting x (listed (r .positions)) frame) a in
           let k = answered id bytes h c (claims frame) t in
-          let m = claims-came (askedOf (partsOf id) bytes) (hosted h) c (claims frame) frame refl (k .came-about) in
+          let m = claims-came (askedOf (h .edition) (partsOf id) bytes) (hosted h) c (claims frame) frame refl (k .came-about) in
           (m .0, ap (λ (x : Frame). sourceOf (x .id)) (m .1) ∙ claim-source c (k .sound))),
       (λ n m.
           let u : sentIn (requestedOf id bytes h c) ≡ noFrame = ap sentIn (sym (p .answer)) ∙ unsent (r .answer) _ frame n m in

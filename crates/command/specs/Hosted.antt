@@ -6,6 +6,7 @@ use lib.ListN.{take, replicate}
 use Rattle.frame.specs.Words.{_≤?_, _=?_, _and_}
 use Rattle.frame.specs.Identifier.{greatestDgn, catalogueForm}
 use Rattle.places.specs.Layout.{any, every}
+use Rattle.command.specs.declared.Edition.{Edition}
 use Rattle.command.specs.declared.Entry.{Entry}
 use Rattle.command.specs.declared.Host.{Host}
 
@@ -51,8 +52,13 @@ blankEntry = record { command = 0; status = 0; instance = 0; «zero_is_all» = f
 
 -- the host as started: its entries, then entries of zeros
 unfoldable pub begun : Host → Host
-begun h = record { entries = hosted h ++ replicate (mostEntries - h .count) blankEntry; count = h .count }
+begun h =
+    record {
+      entries = hosted h ++ replicate (mostEntries - h .count) blankEntry;
+      count = h .count;
+      edition = h .edition;
+    }
 
 -- the host with no entry, beside a refused start
-abbrev pub empty : Host
-empty = record { entries = replicate mostEntries blankEntry; count = 0 }
+abbrev pub empty : Edition → Host
+empty edition = record { entries = replicate mostEntries blankEntry; count = 0; edition = edition }

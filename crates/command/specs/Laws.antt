@@ -27,6 +27,7 @@ use Rattle.command.specs.Acknowledgment.{acknowledgmentPriority, acknowl
 use Rattle.command.specs.Requests as Requests
 use Rattle.command.specs.Requests.{requestedDgn, Asked, askedOf, supports, supported, nak, unsupported, replyOf, requestedOf}
 use Rattle.command.specs.Promises.{Start, Route, Request, Acknowledge, StartingRefusal, RoutingRefusal, RequestingRefusal, AcknowledgingRefusal, toldStarting, toldRouting, toldRequesting, toldAcknowledging}
+use Rattle.command.specs.declared.Edition.{Edition}
 use Rattle.command.specs.declared.Entry.{Entry}
 use Rattle.command.specs.declared.Host.{Host}
 use Rattle.command.specs.declared.Starting.{Starting}
@@ -59,7 +60,9 @@ ToldAcknowledgingSame = (r s : Acknowledging) (f g : Frame) → toldAcknowledgin
 -- No second answer, host, positions or frame keeps a promise.
 
 abbrev pub StartOnly : Type 0
-StartOnly = (entries : List Entry) (count : ℕ) (r s : Started) → Start entries count r → Start entries count s → r ≡ s
+StartOnly =
+    (entries : List Entry) (count : ℕ) (edition : Edition) (r s : Started) → Start entries count edition r
+    → Start entries count edition s → r ≡ s
 
 abbrev pub RouteOnly : Type 0
 RouteOnly =
@@ -110,8 +113,8 @@ AcknowledgingRefusalAny =
 
 abbrev pub StartRefusedKeeps : Type 0
 StartRefusedKeeps =
-    (entries : List Entry) (count : ℕ) (r : Started) (n : ℕ) → Start entries count r
-    → toldStarting (r .answer) ≡ refused n → r .host ≡ empty
+    (entries : List Entry) (count : ℕ) (edition : Edition) (r : Started) (n : ℕ) → Start entries count edition r
+    → toldStarting (r .answer) ≡ refused n → r .host ≡ empty edition
 
 abbrev pub RouteRefusedKeeps : Type 0
 RouteRefusedKeeps =
@@ -163,17 +166,19 @@ PriorityIgnored =
     → id % 2 ^ 26 ≡ id′ % 2 ^ 26
     → (routedOf id bytes h c ≡ routedOf id′ bytes h c) × (requestedOf id bytes h c ≡ requestedOf id′ bytes h c)
 
--- A started host has just the entries that were given, and no call refuses it; and what an array holds past its count
--- changes no answer.
+-- A started host has just the entries and the edition that were given, and no call refuses it; and what an array holds
+-- past its count changes no answer.
 
 abbrev pub StartHosts : Type 0
 StartHosts =
-    (entries : List Entry) (count : ℕ) (r : Started) → Start entries count r → toldStarting (r .answer) ≡ gives done
-    → length entries ≡ mostEntries → (hosted (r .host) ≡ take count entries) × (isWellFormed (r .host) ≡ true)
+    (entries : List Entry) (count : ℕ) (edition : Edition) (r : Started) → Start entries count edition r
+    → toldStarting (r .answer) ≡ gives done → length entries ≡ mostEntries
+    → (hosted (r .host) ≡ take count entries) × (r .host .edition ≡ edition) × (isWellFormed (r .host) ≡ true)
 
 abbrev pub PastCountIgnored : Type 0
 PastCountIgnored =
-    (id : ℕ) (bytes : List ℕ) (h h′ : Host) (c : Claim) → h .count ≡ h′ .count → hosted h ≡ hosted h′
+    (id : ℕ) (bytes : List ℕ) (h h′ : Host) (c : Claim) → h .edition ≡ h′ .edition → h .count ≡ h′ .count
+    → hosted h ≡ hosted h′
     → (routedOf id bytes h c ≡ routedOf id bytes h′ c) × (requestedOf id bytes h c ≡ requestedOf id bytes h′ c)
 
 -- An addressed DGN of the list has 00h for its destination.
@@ -251,7 +256,7 @@ CommandElsewhere =
     → standOf c ≡ held address
     → destined (p .dgn) ≡ One to → (to ≡ address → ⊥) → routedOf id bytes h c ≡ gives Commands.nothingToDo
 
--- A request: another DGN than EAxxh is nothing to do, 1EAxxh too; 17 comes before another destination; bytes 3 to 7
+-- A request: another DGN than EAxxh is nothing to do, 1EAxxh too; 17 comes before another destination; bytes 4 to 7
 -- change nothing.
 
 abbrev pub OtherDgn : Type 0
@@ -269,7 +274,7 @@ RequestTooLarge =
 abbrev pub LaterBytesIgnored : Type 0
 LaterBytesIgnored =
     (id : ℕ) (bytes bytes′ : List ℕ) (h : Host) (c : Claim) → length bytes ≡ length bytes′
-    → take 3 bytes ≡ take 3 bytes′
+    → take 4 bytes ≡ take 4 bytes′
     → requestedOf id bytes h c ≡ requestedOf id bytes′ h c
 
 -- The address that we are claiming is ours for EE00h alone; when silent, none is (RULES 10.15).
@@ -297,14 +302,14 @@ abbrev pub SupportedHeld : Type 0
 SupportedHeld =
     (id : ℕ) (bytes : List ℕ) (h : Host) (c : Claim) (ps : List ℕ) → requestedOf id bytes h c ≡ gives (supported ps)
     → (address : ℕ) × (standOf c ≡ held address)
-    × (ps ≡ positionsWhere (supports (askedOf (partsOf id) bytes)) (hosted h))
+    × (ps ≡ positionsWhere (supports (askedOf (h .edition) (partsOf id) bytes)) (hosted h))
 
 pub record NakSound (id : ℕ) (bytes : List ℕ) (h : Host) (c : Claim) (frame : Frame) : Type 0 where
   pub address : ℕ
   pub holds : standOf c ≡ held address
   pub directed : destinationOf (dgnOf id) ≡ address
   pub requester : sourceOf id ≤ greatestAddress
-  pub unsupported : any (supports (askedOf (partsOf id) bytes)) (hosted h) ≡ false
+  pub unsupported : any (supports (askedOf (h .edition) (partsOf id) bytes)) (hosted h) ≡ false
   pub parts : checkedOf (frame .id) (length (frame .bytes))
       ≡ gives (record { priority = acknowledgmentPriority; dgn = acknowledgmentDgn + sourceOf id; source = address })
 

@@ -8,3 +8,4 @@ pub mod Requests
 pub mod Promises
 pub mod Private
 pub mod Laws
+pub mod Editions

@@ -31,7 +31,13 @@ use Rattle.command.specs.declared.handed.Handed.{Handed}
 
 -- the request that the code hands on
 abbrev pub askedBy : requests.Asked → Asked
-askedBy asked = record { destination = asked .destination; source = asked .source; dgn = asked .dgn }
+askedBy asked =
+    record {
+      destination = asked .destination;
+      source = asked .source;
+      dgn = asked .dgn;
+      instance = asked .instance;
+    }
 
 -- the entries that are wanted
 abbrev pub isWanted : Wanted → Entry → Bool

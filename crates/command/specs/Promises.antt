@@ -15,6 +15,7 @@ use Rattle.command.specs.Commands.{Outcome, picks, routedOf}
 use Rattle.command.specs.Acknowledgment.{acknowledgedOf}
 use Rattle.command.specs.Requests as Requests
 use Rattle.command.specs.Requests.{Reply, claims, supported, nak, unsupported, requestedOf}
+use Rattle.command.specs.declared.Edition.{Edition}
 use Rattle.command.specs.declared.Entry.{Entry}
 use Rattle.command.specs.declared.Host.{Host}
 use Rattle.command.specs.declared.Starting.{Starting}
@@ -42,10 +43,10 @@ startedOf h = if isWellFormed h then gives done else refused 16
 
 pub record StartedBy (h : Host) (r : Started) : Type 0 where
   pub answer : toldStarting (r .answer) ≡ startedOf h
-  pub state : r .host ≡ (if isWellFormed h then begun h else empty)
+  pub state : r .host ≡ (if isWellFormed h then begun h else empty (h .edition))
 
-abbrev pub Start : List Entry → ℕ → Started → Type 0
-Start entries count r = StartedBy (record { entries = entries; count = count }) r
+abbrev pub Start : List Entry → ℕ → Edition → Started → Type 0
+Start entries count edition r = StartedBy (record { entries = entries; count = count; edition = edition }) r
 
 pub record StartingRefusal (answer : Starting) (r : ℕ) : Type 0 where
   pub number : r ≡ numberIn (toldStarting answer)

@@ -1,10 +1,12 @@
--- Requests for a DGN (RULES 10.11 to 10.20; 000 and 001, 3.2.4.3). Bytes 3 and 4 of a request are not looked at.
+-- Requests for a DGN (RULES 10.11 to 10.20 and 10.27; 000 and 001, 3.2.4.3 and 3.2.4.4), in two editions. They differ in
+-- one definition, `instanceAsked`: byte 3 of a request is looked at in edition two alone. Byte 4 is in neither.
 use mathlib.Core.Bool.{Bool, false, not}
 use mathlib.Core.List.{List}
 use Prim.Native.Nat.{ℕ}
+use lib.ListN.{getD}
 use Rattle.frame.specs.Words.{if_then_else_, _<?_, _=?_, _and_, _or_, Told, refused, gives, given_then_}
 use Rattle.frame.specs.Identifier.{greatestDgn, destinationOf, catalogueForm}
-use Rattle.frame.specs.Standard.{Frame, addressClaimed, dgnAt, everyone, noAddress, requestDgn, unused}
+use Rattle.frame.specs.Standard.{Frame, addressClaimed, dgnAt, everyone, noAddress, requestDgn}
 use Rattle.frame.specs.declared.Parts.{Parts}
 use Rattle.places.specs.Layout.{any}
 use Rattle.claim.specs.Claim.{Stand, held, claiming, silent, standOf}
@@ -14,6 +16,8 @@ use Rattle.command.specs.Positions.{positionsWhere}
 use Rattle.command.specs.Handed.{handedIn, addressHeld}
 use Rattle.command.specs.Acknowledgment.{claimFrame, acknowledgmentFrame}
 use Rattle.command.specs.declared.Acknowledgment.{Acknowledgment}
+use Rattle.command.specs.declared.Edition.{Edition}
+use Rattle.command.specs.declared.Edition.the-variants.{One, Two}
 use Rattle.command.specs.declared.Entry.{Entry}
 use Rattle.command.specs.declared.Host.{Host}
 
@@ -21,20 +25,39 @@ use Rattle.command.specs.declared.Host.{Host}
 unfoldable pub requestedDgn : List ℕ → ℕ
 requestedDgn bytes = dgnAt 0 bytes
 
--- a request: to which destination, from which source, for which DGN
+-- FFh stands for all instances
+abbrev pub allInstances : ℕ
+allInstances = 0xFF
+
+-- the instance that is asked for: in edition one all of them, whatever byte 3 holds; in edition two the one in byte 3
+unfoldable pub instanceAsked : Edition → List ℕ → ℕ
+instanceAsked One bytes = allInstances
+instanceAsked Two bytes = getD bytes 3 0
+
+-- a request: to which destination, from which source, for which DGN and which instance
 pub record Asked : Type 0 where
   pub destination : ℕ
   pub source : ℕ
   pub dgn : ℕ
+  pub instance : ℕ
 
 -- the request in a frame with these parts and bytes
-abbrev pub askedOf : Parts → List ℕ → Asked
-askedOf parts bytes =
-    record { destination = destinationOf (parts .dgn); source = parts .source; dgn = requestedDgn bytes }
+abbrev pub askedOf : Edition → Parts → List ℕ → Asked
+askedOf edition parts bytes =
+    record {
+      destination = destinationOf (parts .dgn);
+      source = parts .source;
+      dgn = requestedDgn bytes;
+      instance = instanceAsked edition bytes;
+    }
+
+-- an entry of the instance that is asked for
+abbrev pub isOfInstance : ℕ → Entry → Bool
+isOfInstance instance e = (instance =? allInstances) or (e .instance =? instance)
 
 -- an entry that supports a request, and is picked by it
 unfoldable pub supports : Asked → Entry → Bool
-supports asked e = e .status =? asked .dgn
+supports asked e = (e .status =? asked .dgn) and isOfInstance (asked .instance) e
 
 -- an address at which we are asked: the held one, or, for EE00h only, the one that we claim; none when silent
 unfoldable pub isOurAddress : Asked → Stand → Bool
@@ -50,9 +73,9 @@ isOurs asked stand = (asked .destination =? everyone) or isOurAddress asked stan
 abbrev pub nakCode : ℕ
 nakCode = 1
 
--- the NAK to a request, of no instance
+-- the NAK to a request, with the instance that was asked for
 abbrev pub nakTo : Asked → Acknowledgment
-nakTo asked = record { code = nakCode; instance = unused; requester = asked .source; dgn = asked .dgn }
+nakTo asked = record { code = nakCode; instance = asked .instance; requester = asked .source; dgn = asked .dgn }
 
 -- what a request comes to
 pub data Reply : Type 0 where
@@ -79,13 +102,13 @@ replyOf asked es c =
     gives (statusOf asked es address)
 
 -- a sound frame
-unfoldable pub answerOf : Parts → List ℕ → List Entry → Claim → Told Reply
-answerOf parts bytes es c =
+unfoldable pub answerOf : Edition → Parts → List ℕ → List Entry → Claim → Told Reply
+answerOf edition parts bytes es c =
     if not (catalogueForm (parts .dgn) =? requestDgn) then gives nothingToDo else
     if greatestDgn <? requestedDgn bytes then refused 17 else
-    replyOf (askedOf parts bytes) es c
+    replyOf (askedOf edition parts bytes) es c
 
 unfoldable pub requestedOf : ℕ → List ℕ → Host → Claim → Told Reply
 requestedOf id bytes h c =
     given handedIn id bytes h c then λ parts.
-    answerOf parts bytes (hosted h) c
+    answerOf (h .edition) parts bytes (hosted h) c

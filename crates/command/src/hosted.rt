@@ -1,5 +1,6 @@
 // The hosted list: whether it is well formed, and the host that keeps it.
 use crate::ENTRIES;
+use crate::Edition;
 use crate::Entry;
 use crate::Host;
 use frame::standard;
@@ -117,12 +118,13 @@ fn blank() -> Entry
 }
 
 // The host with no entry.
-pub fn empty() -> Host
-    ensures { λ r. ⌜ r ≡ empty ⌝ }
+pub fn empty(edition: Edition) -> Host
+    ensures { λ r. ⌜ r ≡ empty edition ⌝ }
 {
     Host {
         entries: [blank(); ENTRIES],
         count: 0,
+        edition,
     }
 }
 
@@ -140,5 +142,6 @@ pub fn begun(host: Host) -> Host
     Host {
         entries: out,
         count: host.count,
+        edition: host.edition,
     }
 }

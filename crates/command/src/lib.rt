@@ -26,10 +26,18 @@ pub struct Entry {
     pub zero_is_all: bool,
 }
 
-// A host: the hosted list, `count` entries and then entries of zeros.
+// How requests are read. In edition one a request is for all instances of its DGN. In edition two, by the acknowledgment
+// rules of 2023, byte 3 names an instance, FFh all of them, and a NAK says of which instance it is.
+pub enum Edition {
+    One,
+    Two,
+}
+
+// A host: the hosted list, `count` entries and then entries of zeros, and the edition chosen at its start.
 pub struct Host {
     pub entries: [Entry; ENTRIES],
     pub count: usize,
+    pub edition: Edition,
 }
 
 // The list is hosted; or refusal 16.
@@ -73,11 +81,11 @@ pub enum Requesting {
     NothingToDo,
     // Our claim is to be sent.
     SendClaim,
-    // The positions beside support the DGN, and each answers with its status.
+    // The positions beside support the DGN and the instance that are asked for, and each answers with its status.
     Supported,
-    // No entry supports the DGN: a NAK is to be sent.
+    // No entry supports them: a NAK is to be sent.
     SendNak,
-    // No entry supports the DGN, and nothing is to be sent: the request is global, or from a node without an address.
+    // No entry supports them, and nothing is to be sent: the request is global, or from a node without an address.
     Unsupported,
     BrokenState,
     BadFrame(BadFrame),
@@ -189,14 +197,18 @@ impl Acknowledging {
 }
 
 impl Host {
-    // Hosts the first `count` entries.
-    pub fn start(entries: [Entry; ENTRIES], count: usize) -> Started
-        ensures { λ r. ⌜ Start entries count r ⌝ }
+    // Hosts the first `count` entries, and answers requests by this edition.
+    pub fn start(entries: [Entry; ENTRIES], count: usize, edition: Edition) -> Started
+        ensures { λ r. ⌜ Start entries count edition r ⌝ }
     {
-        let host = Host { entries, count };
+        let host = Host {
+            entries,
+            count,
+            edition,
+        };
         if !hosted::well_formed(host) {
             return Started {
-                host: hosted::empty(),
+                host: hosted::empty(edition),
                 answer: Starting::ListMalformed,
             };
         }

@@ -3,6 +3,7 @@ use crate::ENTRIES;
 use crate::Entry;
 use crate::Host;
 use crate::Positions;
+use crate::requests::ALL_INSTANCES;
 use crate::requests::Asked;
 ghost use mathlib.Core.Path.{_≡_};
 ghost use mathlib.Core.List.{[]};
@@ -11,7 +12,7 @@ ghost use Rattle.frame.specs.Words.{if_then_else_};
 ghost use Rattle.command.specs.Hosted.{hosted};
 ghost use Rattle.command.specs.Positions.{positionsWhere, filled};
 ghost use Rattle.command.specs.Commands.{isMeant};
-ghost use Rattle.command.specs.Requests.{supports};
+ghost use Rattle.command.specs.Requests.{isOfInstance, supports};
 ghost use Rattle.command.specs.Private.{askedBy, isWanted, added};
 
 // Which entries are wanted.
@@ -94,9 +95,22 @@ fn is_meant(dgn: u32, instance: u8, e: Entry) -> bool
     e.instance == instance
 }
 
-// Whether an entry supports a request: its status is asked for.
+// Whether an entry supports a request: its status is asked for, and its instance or all of them.
 fn supports(asked: Asked, e: Entry) -> bool
     ensures { λ r. ⌜ r ≡ supports (askedBy asked) e ⌝ }
 {
-    e.status == asked.dgn
+    if e.status != asked.dgn {
+        return false;
+    }
+    is_of_instance(e, asked.instance)
+}
+
+// Whether an entry is of the instance that is asked for, which may be all of them.
+fn is_of_instance(e: Entry, instance: u8) -> bool
+    ensures { λ r. ⌜ r ≡ isOfInstance instance e ⌝ }
+{
+    if instance == ALL_INSTANCES {
+        return true;
+    }
+    e.instance == instance
 }

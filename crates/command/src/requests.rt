@@ -1,5 +1,6 @@
 // A request for a DGN: what is replied to it.
 use crate::Acknowledgment;
+use crate::Edition;
 use crate::Host;
 use crate::Requested;
 use crate::Requesting;
@@ -19,29 +20,34 @@ ghost use Rattle.claim.specs.Promises.{isSound};
 ghost use Rattle.command.specs.Hosted.{hosted};
 ghost use Rattle.claim.specs.Claim.{claiming};
 ghost use Rattle.command.specs.Acknowledgment.{claimFrame, acknowledgmentFrame};
-ghost use Rattle.command.specs.Requests.{askedOf, isOurAddress, isOurs, nakTo, claims, nak, statusOf, replyOf, answerOf};
+ghost use Rattle.command.specs.Requests.{instanceAsked, askedOf, isOurAddress, isOurs, nakTo, claims, nak, statusOf, replyOf, answerOf};
 ghost use Rattle.command.specs.Promises.{RequestedBy};
 ghost use Rattle.command.specs.Private.{askedBy, standAt, bareRequested};
 
 // The code of a NAK.
 const NAK: u8 = 1;
 
+// The instance of a request for all instances.
+pub const ALL_INSTANCES: u8 = 0xFF;
+
 // A request as the frame that it came in has it.
 pub struct Asked {
     pub destination: u8,
     pub source: u8,
     pub dgn: u32,
+    pub instance: u8,
 }
 
 // A sound frame.
 pub fn answer(host: Host, claim: Claim, parts: Parts, bytes: [u8; 8]) -> Requested
     requires { ⌜ (isSound claim ≡ true) × (host .count ≤ 16) ⌝ }
-    ensures { λ r. ⌜ RequestedBy (answerOf parts bytes (hosted host) claim) r ⌝ }
+    ensures { λ r. ⌜ RequestedBy (answerOf (host .edition) parts bytes (hosted host) claim) r ⌝ }
 {
     if frame::catalogue_form(parts.dgn) != standard::REQUEST {
         return bare(Requesting::NothingToDo);
     }
-    let asked = asked_of(parts, bytes);
+    let edition = host.edition;
+    let asked = asked_of(edition, parts, bytes);
     if standard::GREATEST_DGN < asked.dgn {
         return bare(Requesting::DgnTooLarge);
     }
@@ -49,14 +55,27 @@ pub fn answer(host: Host, claim: Claim, parts: Parts, bytes: [u8; 8]) -> Request
 }
 
 // The request in a frame EAxxh, with its DGN in bytes 0 to 2.
-fn asked_of(parts: Parts, bytes: [u8; 8]) -> Asked
-    ensures { λ r. ⌜ askedBy r ≡ askedOf parts bytes ⌝ }
+fn asked_of(edition: Edition, parts: Parts, bytes: [u8; 8]) -> Asked
+    ensures { λ r. ⌜ askedBy r ≡ askedOf edition parts bytes ⌝ }
 {
     let dgn = frame::dgn_of(bytes[0], bytes[1], bytes[2]);
+    let instance = instance_asked(edition, bytes);
     Asked {
         destination: (parts.dgn % 256) as u8,
         source: parts.source,
         dgn,
+        instance,
+    }
+}
+
+// The instance that is asked for: byte 3 names it in edition two alone.
+fn instance_asked(edition: Edition, bytes: [u8; 8]) -> u8
+    ensures { λ r. ⌜ r ≡ instanceAsked edition bytes ⌝ }
+{
+    let named = bytes[3];
+    match edition {
+        Edition::One => ALL_INSTANCES,
+        Edition::Two => named,
     }
 }
 
@@ -140,13 +159,13 @@ fn status(host: Host, address: u8, asked: Asked) -> Requested
     nak(address, asked)
 }
 
-// The acknowledgment that no entry supports the DGN, of no instance.
+// The acknowledgment that no entry supports the request, with the instance that was asked for.
 fn nak(address: u8, asked: Asked) -> Requested
     ensures { λ r. ⌜ RequestedBy (gives (nak (acknowledgmentFrame address (nakTo (askedBy asked))))) r ⌝ }
 {
     let reply = Acknowledgment {
         code: NAK,
-        instance: standard::UNUSED,
+        instance: asked.instance,
         requester: asked.source,
         dgn: asked.dgn,
     };

@@ -65,6 +65,7 @@ pub fn argument(notes: &mut [u64], n: usize, slot: usize, letter: u8) -> bool {
         b'e' => eight(notes, n),
         b'v' => value(notes, n, slot),
         b'l' => list(notes, n),
+        b'd' => edition(notes, n, slot),
         _ => number(notes, n, slot, nth_word(notes, n), greatest(letter)),
     }
 }
@@ -93,6 +94,20 @@ fn number(notes: &mut [u64], n: usize, slot: usize, at: Word, most: u64) -> bool
         return misses(n, b"a number too large for this argument");
     }
     put(notes, slot, number.value);
+    true
+}
+
+// An edition: 0 is noted for one, 1 for two.
+fn edition(notes: &mut [u64], n: usize, slot: usize) -> bool {
+    let at = nth_word(notes, n);
+    if at.to <= at.from {
+        return misses(n, b"an argument is missing");
+    }
+    let word = find_word(notes, at, b"One Two Edition::One Edition::Two", 0);
+    if word == NONE {
+        return misses(n, b"no edition: write One or Two");
+    }
+    put(notes, slot, (word % 2) as u64);
     true
 }
 

@@ -39,7 +39,7 @@ pub fn asked(notes: &mut [u64], part: usize) -> usize {
           . 8 41 4 . 8 41 4 84b 84b 8 4b 4b 84bv 4bv |\
           8b 4b 2 . . . . |\
           . 4b 1 8 2 1 |\
-          8 4b 4b 1114 |\
+          8d 4b 4b 1114 |\
           b 24e . b8 . |\
           b b1 8 |",
         part,

@@ -16,6 +16,7 @@ use crate::state;
 use command::Acknowledging;
 use command::Acknowledgment;
 use command::ENTRIES;
+use command::Edition;
 use command::Entry;
 use command::Host;
 use command::Positions;
@@ -33,10 +34,11 @@ pub fn call(n: usize, notes: &mut [u64], bytes: &[u8]) {
     }
 }
 
-// A host of the first of the entries.
+// A host of the first of the entries: `command::Host::start COUNT EDITION`
 fn start(notes: &mut [u64]) {
     let count = get(notes, notes::FIRST) as usize;
-    let started = Host::start(entries(notes, notes::ENTRIES), count);
+    let edition = edition_of(get(notes, notes::SECOND));
+    let started = Host::start(entries(notes, notes::ENTRIES), count, edition);
     keep(notes, started.host);
     let answer = started.answer;
     match answer {
@@ -166,6 +168,21 @@ fn host(notes: &[u64]) -> Host {
     Host {
         entries: entries(notes, notes::HOST_ENTRIES),
         count: get(notes, notes::HOST_COUNT) as usize,
+        edition: edition_of(get(notes, notes::HOST_EDITION)),
+    }
+}
+
+fn edition_of(number: u64) -> Edition {
+    match number {
+        0 => Edition::One,
+        _ => Edition::Two,
+    }
+}
+
+fn number_of_edition(edition: Edition) -> u64 {
+    match edition {
+        Edition::One => 0,
+        Edition::Two => 1,
     }
 }
 
@@ -192,6 +209,8 @@ fn entry(notes: &[u64], at: usize) -> Entry {
 // Notes the host.
 fn keep(notes: &mut [u64], host: Host) {
     put(notes, notes::HOST_COUNT, host.count as u64);
+    let edition = host.edition;
+    put(notes, notes::HOST_EDITION, number_of_edition(edition));
     let entries = host.entries;
     keep_entries(notes, entries);
 }
@@ -221,7 +240,9 @@ pub fn show(notes: &[u64]) {
 }
 
 fn show_host(notes: &[u64]) {
-    say::form(b"  command.host.count=#\n", notes, notes::HOST_COUNT);
+    say::form(b"  command.host.count=# edition=", notes, notes::HOST_COUNT);
+    say::word(b"One Two", get(notes, notes::HOST_EDITION) as usize);
+    say::text(b"\n");
     show_entries(notes, b"  command.host.entries[#", notes::HOST_ENTRIES);
 }
 

@@ -53,7 +53,7 @@ pub fn set(notes: &mut [u64]) {
         notes,
         b"fast.named \
           claim.name claim.candidates claim.position claim.wait claim.silent \
-          command.host.count \
+          command.host.count command.host.edition \
           capture.cutter.length capture.cutter.lines \
           catalogue.row.dgn catalogue.row.first catalogue.row.width catalogue.row.unit catalogue.row.plain \
           catalogue.row.two_state",
@@ -61,7 +61,7 @@ pub fn set(notes: &mut [u64]) {
     if n == NONE {
         return set_lent(notes);
     }
-    let letter = byte_at(b"88882t884411utt", n);
+    let letter = byte_at(b"88882t8d84411utt", n);
     set_number(notes, 2, letter, wrapping_add_usize(notes::SINGLE, n));
 }
 

@@ -11,6 +11,7 @@ use Rattle.nodes.proofs.Challenge as NodesChallenge
 use Rattle.nodes.proofs.Laws as Nodes
 use Rattle.nodes.proofs.Runs as NodesRuns
 use Rattle.command.proofs.Laws as Command
+use Rattle.command.proofs.Editions as CommandEditions
 use Rattle.capture.proofs.Laws as Capture
 use Rattle.capture.proofs.Feeding as Feeding
 use Rattle.demands.specs.Demands.{DemandOne, DemandTwo, DemandThree}
@@ -83,6 +84,27 @@ demand-two =
       takes-only-so = NodesChallenge.takes-only-so;
       challenge-entered = NodesChallenge.challenge-entered;
       holder-stays = NodesChallenge.holder-stays;
+      other-dgn = Command.other-dgn;
+      request-too-large = Command.request-too-large;
+      later-bytes-ignored = Command.later-bytes-ignored;
+      reports-exactly = CommandEditions.reports-exactly;
+      positions-exactly = CommandEditions.positions-exactly;
+      nak-exactly = CommandEditions.nak-exactly;
+      nak-names = CommandEditions.nak-names;
+      quiet-exactly = CommandEditions.quiet-exactly;
+      global-no-nak = CommandEditions.global-no-nak;
+      nobody-no-nak = CommandEditions.nobody-no-nak;
+      all-report = CommandEditions.all-report;
+      all-nak = CommandEditions.all-nak;
+      all-nak-only = CommandEditions.all-nak-only;
+      one-reports = CommandEditions.one-reports;
+      one-nak = CommandEditions.one-nak;
+      one-nak-only = CommandEditions.one-nak-only;
+      nobodys-instance = CommandEditions.nobodys-instance;
+      editions-agree = CommandEditions.editions-agree;
+      claim-for-any-instance = CommandEditions.claim-for-any-instance;
+      one-ignores-byte-three = CommandEditions.one-ignores-byte-three;
+      one-as-before = CommandEditions.one-as-before;
       written-taken-apart = Capture.written-taken-apart;
       taken-apart-written = Capture.taken-apart-written;
       blocks-do-not-matter = Feeding.blocks-do-not-matter;

@@ -745,9 +745,9 @@ every-call M =
       command-start = record {
         meets = command-start.met;
         asks-nothing = free;
-        Promise = λ κs a r e. command-promises.Start (a .0) (a .1 .0) r;
+        Promise = λ κs a r e. command-promises.Start (a .0) (a .1 .0) (a .1 .1 .0) r;
         promises = λ 𝓤 H A mem run κs a ghost r. refl;
-        one-answer = λ κs a r s w v h k. (Command.start-only (a .0) (a .1 .0) r s h k, refl);
+        one-answer = λ κs a r s w v h k. (Command.start-only (a .0) (a .1 .0) (a .1 .1 .0) r s h k, refl);
         only = Command.start-only;
       };
       command-route = record {

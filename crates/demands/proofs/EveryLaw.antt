@@ -36,6 +36,7 @@ use Rattle.nodes.proofs.Shown as NodesShown
 use Rattle.command.proofs.Laws as Command
 use Rattle.command.proofs.PositionLaws as CommandPositionLaws
 use Rattle.command.proofs.ReplyLaws as CommandReplyLaws
+use Rattle.command.proofs.Editions as CommandEditions
 use Rattle.capture.proofs.Feeding as CaptureFeeding
 use Rattle.capture.proofs.Laws as Capture
 use Rattle.demands.specs.EveryLaw.{EveryLaw, FrameLaws, SearchLaws, LayoutLaws, StepLaws, FormatLaws, CallLaws, PlacesLaws, MessageLaws, FastLaws, CatalogueLaws, ClaimLaws, NodesLaws, CommandLaws, CaptureLaws}
@@ -471,6 +472,26 @@ command-laws =
       request-sends-ours = CommandReplyLaws.request-sends-ours;
       acknowledge-sends-ours = CommandReplyLaws.acknowledge-sends-ours;
       example-eleven = CommandReplyLaws.example-eleven;
+      reports-exactly = CommandEditions.reports-exactly;
+      positions-exactly = CommandEditions.positions-exactly;
+      nak-exactly = CommandEditions.nak-exactly;
+      nak-names = CommandEditions.nak-names;
+      quiet-exactly = CommandEditions.quiet-exactly;
+      global-no-nak = CommandEditions.global-no-nak;
+      nobody-no-nak = CommandEditions.nobody-no-nak;
+      all-report = CommandEditions.all-report;
+      all-nak = CommandEditions.all-nak;
+      all-nak-only = CommandEditions.all-nak-only;
+      one-reports = CommandEditions.one-reports;
+      one-nak = CommandEditions.one-nak;
+      one-nak-only = CommandEditions.one-nak-only;
+      nobodys-instance = CommandEditions.nobodys-instance;
+      editions-agree = CommandEditions.editions-agree;
+      claim-for-any-instance = CommandEditions.claim-for-any-instance;
+      commands-have-no-edition = CommandEditions.commands-have-no-edition;
+      one-ignores-byte-three = CommandEditions.one-ignores-byte-three;
+      one-as-before = CommandEditions.one-as-before;
+      heat-pump-example = CommandEditions.heat-pump-example;
       lowest-wins = Command.lowest-wins;
       acknowledge-lowest-wins = Command.acknowledge-lowest-wins;
     }

@@ -11,6 +11,7 @@ use Rattle.claim.specs.Laws as Claim
 use Rattle.nodes.specs.Laws as Nodes
 use Rattle.nodes.specs.Runs as NodesRuns
 use Rattle.command.specs.Laws as Command
+use Rattle.command.specs.Editions as CommandEditions
 use Rattle.capture.specs.Laws as Capture
 use Rattle.demands.specs.EveryCall.{EveryCall}
 use Rattle.demands.specs.BusyBus.{BusyBus, OpenOnBus, ToldOnBus, NoPlaceFree, PauseCount, SumsOfPauses, StartKept, RulesKept, EveryRunRuns, NoPlaceFreeAt, PauseCountAt}
@@ -93,6 +94,31 @@ pub record DemandTwo : Type 0 where
   pub takes-only-so : NodesRuns.TakesOnlySo
   pub challenge-entered : NodesRuns.ChallengeEntered
   pub holder-stays : NodesRuns.HolderStays
+  -- requests, in either edition: EAxxh alone is one, for a DGN of 17 bits in bytes 0 to 2; positions, NAKs and answers
+  -- with nothing to send, each exactly when, and what they hold; no NAK to everyone's request, nor to one from 254
+  pub other-dgn : Command.OtherDgn
+  pub request-too-large : Command.RequestTooLarge
+  pub later-bytes-ignored : Command.LaterBytesIgnored
+  pub reports-exactly : CommandEditions.ReportsExactly
+  pub positions-exactly : CommandEditions.PositionsExactly
+  pub nak-exactly : CommandEditions.NakExactly
+  pub nak-names : CommandEditions.NakNames
+  pub quiet-exactly : CommandEditions.QuietExactly
+  pub global-no-nak : CommandEditions.GlobalNoNak
+  pub nobody-no-nak : CommandEditions.NobodyNoNak
+  -- edition two, as 001 proposes it: for all instances, and for one
+  pub all-report : CommandEditions.AllReport
+  pub all-nak : CommandEditions.AllNak
+  pub all-nak-only : CommandEditions.AllNakOnly
+  pub one-reports : CommandEditions.OneReports
+  pub one-nak : CommandEditions.OneNak
+  pub one-nak-only : CommandEditions.OneNakOnly
+  pub nobodys-instance : CommandEditions.NobodysInstance
+  -- the editions agree on all instances and on EE00h, and edition one keeps the promise that was before it
+  pub editions-agree : CommandEditions.EditionsAgree
+  pub claim-for-any-instance : CommandEditions.ClaimForAnyInstance
+  pub one-ignores-byte-three : CommandEditions.OneIgnoresByteThree
+  pub one-as-before : CommandEditions.OneAsBefore
   -- captures
   pub written-taken-apart : Capture.WrittenTakenApart
   pub taken-apart-written : Capture.TakenApartWritten

@@ -22,6 +22,7 @@ use Rattle.claim.specs.Laws as Claims
 use Rattle.nodes.specs.Laws as Nodes
 use Rattle.nodes.specs.Runs as NodesRuns
 use Rattle.command.specs.Laws as Command
+use Rattle.command.specs.Editions as CommandEditions
 use Rattle.capture.specs.Laws as Capture
 use Rattle.message.specs.declared.Place.{Place}
 use Rattle.catalogue.specs.declared.Row.{Row}
@@ -439,6 +440,26 @@ pub record CommandLaws : Type 0 where
   pub request-sends-ours : Command.RequestSendsOurs
   pub acknowledge-sends-ours : Command.AcknowledgeSendsOurs
   pub example-eleven : Command.ExampleEleven
+  pub reports-exactly : CommandEditions.ReportsExactly
+  pub positions-exactly : CommandEditions.PositionsExactly
+  pub nak-exactly : CommandEditions.NakExactly
+  pub nak-names : CommandEditions.NakNames
+  pub quiet-exactly : CommandEditions.QuietExactly
+  pub global-no-nak : CommandEditions.GlobalNoNak
+  pub nobody-no-nak : CommandEditions.NobodyNoNak
+  pub all-report : CommandEditions.AllReport
+  pub all-nak : CommandEditions.AllNak
+  pub all-nak-only : CommandEditions.AllNakOnly
+  pub one-reports : CommandEditions.OneReports
+  pub one-nak : CommandEditions.OneNak
+  pub one-nak-only : CommandEditions.OneNakOnly
+  pub nobodys-instance : CommandEditions.NobodysInstance
+  pub editions-agree : CommandEditions.EditionsAgree
+  pub claim-for-any-instance : CommandEditions.ClaimForAnyInstance
+  pub commands-have-no-edition : CommandEditions.CommandsHaveNoEdition
+  pub one-ignores-byte-three : CommandEditions.OneIgnoresByteThree
+  pub one-as-before : CommandEditions.OneAsBefore
+  pub heat-pump-example : CommandEditions.HeatPumpExample
   pub lowest-wins : (id : ℕ) (bytes : List ℕ) (h : Host) (c : Claim) → Command.LowestWins id bytes h c
   pub acknowledge-lowest-wins : (c : Claim) (a : Acknowledgment) → Command.AcknowledgeLowestWins c a
 

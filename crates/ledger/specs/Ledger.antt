@@ -13,6 +13,7 @@ use Rattle.claim.specs.Laws as Claim
 use Rattle.nodes.specs.Laws as Nodes
 use Rattle.nodes.specs.Runs as NodesRuns
 use Rattle.command.specs.Laws as Command
+use Rattle.command.specs.Editions as CommandEditions
 use Rattle.capture.specs.Laws as Capture
 use Rattle.demands.specs.EveryCall.{EveryCall}
 use Rattle.demands.specs.EveryLaw.{EveryLaw}
@@ -80,6 +81,27 @@ pub record FieldsOfTwo : Type 0 where
   pub takes-only-so : NodesRuns.TakesOnlySo
   pub challenge-entered : NodesRuns.ChallengeEntered
   pub holder-stays : NodesRuns.HolderStays
+  pub other-dgn : Command.OtherDgn
+  pub request-too-large : Command.RequestTooLarge
+  pub later-bytes-ignored : Command.LaterBytesIgnored
+  pub reports-exactly : CommandEditions.ReportsExactly
+  pub positions-exactly : CommandEditions.PositionsExactly
+  pub nak-exactly : CommandEditions.NakExactly
+  pub nak-names : CommandEditions.NakNames
+  pub quiet-exactly : CommandEditions.QuietExactly
+  pub global-no-nak : CommandEditions.GlobalNoNak
+  pub nobody-no-nak : CommandEditions.NobodyNoNak
+  pub all-report : CommandEditions.AllReport
+  pub all-nak : CommandEditions.AllNak
+  pub all-nak-only : CommandEditions.AllNakOnly
+  pub one-reports : CommandEditions.OneReports
+  pub one-nak : CommandEditions.OneNak
+  pub one-nak-only : CommandEditions.OneNakOnly
+  pub nobodys-instance : CommandEditions.NobodysInstance
+  pub editions-agree : CommandEditions.EditionsAgree
+  pub claim-for-any-instance : CommandEditions.ClaimForAnyInstance
+  pub one-ignores-byte-three : CommandEditions.OneIgnoresByteThree
+  pub one-as-before : CommandEditions.OneAsBefore
   pub written-taken-apart : Capture.WrittenTakenApart
   pub taken-apart-written : Capture.TakenApartWritten
   pub blocks-do-not-matter : Capture.BlocksDoNotMatter

@@ -5,6 +5,7 @@ use rvc::claims::Claim;
 use rvc::claims::Standing;
 use rvc::commands::Acknowledging;
 use rvc::commands::Acknowledgment;
+use rvc::commands::Edition;
 use rvc::commands::Entry;
 use rvc::commands::Host;
 use rvc::commands::Positions;
@@ -23,7 +24,7 @@ struct Wired {
     level: Value,
 }
 
-// Hosts the second fresh water and the second gray waste tank (6.28.2).
+// Hosts the second fresh water and the second gray waste tank (6.28.2), by the acknowledgment rules of 2023.
 pub fn start() -> Host {
     let none = entry(0, 0, 0);
     let fresh = entry(TANK_CALIBRATION_COMMAND, TANK_STATUS, 16);
@@ -31,7 +32,7 @@ pub fn start() -> Host {
     let mut entries = [none; 16];
     entries[0] = fresh;
     entries[1] = gray;
-    let started = Host::start(entries, 2);
+    let started = Host::start(entries, 2, Edition::Two);
     let answer = started.answer;
     show::refused(answer.refusal());
     started.host

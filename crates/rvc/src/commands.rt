@@ -3,6 +3,7 @@ pub use command::Acknowledged;
 pub use command::Acknowledging;
 pub use command::Acknowledgment;
 pub use command::ENTRIES;
+pub use command::Edition;
 pub use command::Entry;
 pub use command::Host;
 pub use command::Positions;

@@ -55,7 +55,7 @@ returns c =
     let h = c .before .before .before .args .t1 in
     let i : l .i ≡ h .count = omega arith in
     let o = rw i at (l .inv .4) in
-    ap (λ (x : List Entry). record { entries = x; count = h .count }) o
+    ap (λ (x : List Entry). record { entries = x; count = h .count; edition = h .edition }) o
 
 pub begun-spec : {M : Type 1} → statement M
 begun-spec =

@@ -18,7 +18,7 @@ returns : tie.Need-returns
 returns c =
     let a = c .before .before .before .args in
     let f = c .before .before .catalogue-form .ensures .answer in
-    rw (answer-other (a .parts) _ _ _ (λ e. c .before .if1 .taken (f ∙ e))) (bare-requested (gives nothingToDo) NothingToDo _ refl refl refl (c .bare .ensures))
+    rw (answer-other (a .host .edition) (a .parts) _ _ _ (λ e. c .before .if1 .taken (f ∙ e))) (bare-requested (gives nothingToDo) NothingToDo _ refl refl refl (c .bare .ensures))
 
 asked-of-requires : tie.Need-asked-of-requires
 asked-of-requires c κs = search needs
@@ -31,7 +31,7 @@ returns-2 c =
     let d = c .before .before .before in
     let a = d .before .before .before .args in
     let f = d .before .before .catalogue-form .ensures .answer in
-    rw (answer-large (a .parts) _ _ _ _ (sym f ∙ d .before .if1 .left) (d .asked-of .ensures) (c .before .if2 .taken)) (bare-requested (refused 17) DgnTooLarge _ refl refl refl (c .bare2 .ensures))
+    rw (answer-large (a .host .edition) (a .parts) _ _ _ _ (sym f ∙ d .before .if1 .left) (d .asked-of .ensures) (c .before .if2 .taken)) (bare-requested (refused 17) DgnTooLarge _ refl refl refl (c .bare2 .ensures))
 
 reply-requires : tie.Need-reply-requires
 reply-requires c κs = search needs
@@ -41,7 +41,7 @@ returns-3 c =
     let d = c .before .before .before in
     let a = d .before .before .before .args in
     let f = d .before .before .catalogue-form .ensures .answer in
-    rw (answer-reply (a .parts) _ _ _ _ (sym f ∙ d .before .if1 .left) (d .asked-of .ensures) (c .before .if2 .left)) (c .reply .ensures)
+    rw (answer-reply (a .host .edition) (a .parts) _ _ _ _ (sym f ∙ d .before .if1 .left) (d .asked-of .ensures) (c .before .if2 .left)) (c .reply .ensures)
 
 pub answer-spec : {M : Type 1} → statement M
 answer-spec =

@@ -16,13 +16,17 @@ array-read-dgn-of-3 c = search needs
 dgn-of-requires : tie.Need-dgn-of-requires
 dgn-of-requires c κs = search needs
 
-cast-t7 : tie.Need-cast-t7
-cast-t7 c = search needs
+instance-asked-requires : tie.Need-instance-asked-requires
+instance-asked-requires c κs = search needs
+
+cast-t9 : tie.Need-cast-t9
+cast-t9 c = search needs
 
 returns : tie.Need-returns
 returns c =
-    let d = c .before in
-    asked-read (d .before .args .parts) (d .before .args .t2) _ (d .dgn-of .ensures .answer)
+    let d = c .before .before in
+    let a = d .before .args in
+    asked-read (a .edition) (a .parts) (a .t3) _ _ (d .dgn-of .ensures .answer) (c .before .instance-asked .ensures)
 
 pub asked-of-spec : {M : Type 1} → statement M
 asked-of-spec =
@@ -32,5 +36,6 @@ asked-of-spec =
     array-read-dgn-of-2
     array-read-dgn-of-3
     dgn-of-requires
-    cast-t7
+    instance-asked-requires
+    cast-t9
     returns)

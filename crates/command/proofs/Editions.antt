@@ -1,0 +1,608 @@
+-- The laws of specs/Editions.antt, proved.
+-- Assumes nothing.
+use mathlib.Core.Path.{_≡_, refl, sym, ap, _∙_}
+use mathlib.Core.Bool.{Bool, true, false, not}
+use mathlib.Core.List.{List, [], _∷_}
+use mathlib.Core.Logic.{_⊎_, inl, inr, _↔_}
+use Prim.Native.Nat.{ℕ, zero, suc, _+_, _≤_, _<_}
+use native.Mathlib.Nat.{le-of-suc-le-suc, not-suc-le-zero}
+use native.Mathlib.Omega.{arith}
+use borrow.Author.Tests.{eq-eqb, ne-eqb, eqb-true, eqb-false, leb-true}
+use lib.ListN.{length, take, getD}
+use lib.Seq.{getD-take, length-take-le}
+use Rattle.frame.specs.Words.{if_then_else_, _≤?_, _<?_, _=?_, _and_, _or_, Told, refused, gives, given_then_}
+use Rattle.frame.specs.Bytes.{numberOf, bytesOf}
+use Rattle.frame.specs.Identifier.{identifierOf, greatestDgn, priorityOf, reservedOf, dgnOf, sourceOf, partsOf, isAddressed, destinationOf, catalogueForm}
+use Rattle.frame.specs.Frame.{sourceAllowed, checkedOf}
+use Rattle.frame.specs.Standard.{Frame, addressClaimed, dgnAt, everyone, greatestAddress, noAddress, noFrame, requestDgn}
+use Rattle.frame.specs.declared.Parts.{Parts}
+use Rattle.frame.proofs.Words.{by-test, both-true, true-false, before-refusal}
+use Rattle.places.specs.Layout.{any, every}
+use Rattle.places.proofs.Search.{every-at}
+use Rattle.claim.specs.Claim.{keepsRules, holdsList, Stand, held, claiming, silent, standOf}
+use Rattle.claim.specs.Promises.{isSound, done}
+use Rattle.claim.specs.Laws.{NoFrame}
+use Rattle.claim.specs.declared.Claim.{Claim}
+use Rattle.command.specs.Hosted.{mostEntries, blankEntry, isHostedDgn, isEntry, isSamePair, noPairRepeats, hosted, isWellFormed}
+use Rattle.command.specs.Positions.{positionsWhere, filled, listed}
+use Rattle.command.specs.Handed.{handedIn, addressHeld}
+use Rattle.command.specs.Commands.{routeOf, routedOf}
+use Rattle.command.specs.Acknowledgment.{claimFrame, acknowledgmentFrame, acknowledgmentId, acknowledgmentBytes}
+use Rattle.command.specs.Requests as Requests
+use Rattle.command.specs.Requests.{requestedDgn, allInstances, instanceAsked, Asked, askedOf, isOfInstance, supports, isOurAddress, isOurs, nakTo, Reply, claims, supported, nak, unsupported, statusOf, replyOf, answerOf, requestedOf}
+use Rattle.command.specs.Promises.{toldStarting, startedOf, toldRequesting, supportedIn, sentIn}
+use Rattle.command.specs.Laws.{StandsIn, entryAt}
+use Rattle.command.specs.Editions as the
+use Rattle.command.specs.Editions.{Run, Ran, Hears, Supports, SupportsDgn, SupportsAs, Reports, SendsNak, requester, destination, byteThree, hasStatus, formerStatus, formerly}
+use Rattle.command.specs.declared.Edition.{Edition}
+use Rattle.command.specs.declared.Edition.the-variants.{One, Two}
+use Rattle.command.specs.declared.Entry.{Entry}
+use Rattle.command.specs.declared.Host.{Host}
+use Rattle.command.specs.declared.Requesting.{Requesting}
+use Rattle.command.specs.declared.Requesting.the-variants.{Supported, SendNak, Unsupported}
+use Rattle.command.proofs.Picks as Picks
+use Rattle.command.proofs.Handing.{well-few}
+use Rattle.command.proofs.Answers.{status-supported, status-global, status-nobody, status-nak, reply-held, answer-reply, requested-given}
+use Rattle.command.proofs.PositionLaws.{positions-exact, positions-rise}
+use Rattle.command.proofs.Laws.{told-requesting-same, route-only, request-only, lowest-wins, start-hosts, well-same, request-same, dgn-of-three}
+use Rattle.command.proofs.ReplyLaws.{Came, Heard, elsewhere, claimed, reported, unanswered, denied, Answered, answered, our-address, acknowledgment-checked, held-low}
+
+-- a test that some entry passes, or none
+
+any-some : (f : Entry → Bool) (es : List Entry) (k : ℕ) → k < length es → f (entryAt es k) ≡ true → any f es ≡ true
+any-some f [] k l e = absurd (not-suc-le-zero l)
+any-some f (x ∷ es) zero l e = rw e
+any-some f (x ∷ es) (suc k) l e =
+    by-test (f x)
+    (λ t. rw t)
+    (λ t. rw t (any-some f es k (le-of-suc-le-suc l) e))
+
+abbrev Passes : (Entry → Bool) → List Entry → Type 0
+Passes f es = (k : ℕ) × (k < length es) × (f (entryAt es k) ≡ true)
+
+some-any : (f : Entry → Bool) (es : List Entry) → any f es ≡ true → Passes f es
+some-any f [] e = true-false (sym e)
+some-any f (x ∷ es) e =
+    by-test (f x)
+    (λ t. (0, omega arith, t))
+    (λ t.
+    let s = some-any f es (rw t at e) in
+    let l = s .1 in
+    (suc (s .0), omega arith, s .2))
+
+-- an entry that supports a request
+
+instance-by : (instance : ℕ) (e : Entry) → isOfInstance instance e ≡ true
+    → (instance ≡ allInstances) ⊎ (e .instance ≡ instance)
+instance-by instance e t =
+    by-test (instance =? allInstances)
+    (λ a. inl (eqb-true instance allInstances a))
+    (λ a. inr (eqb-true (e .instance) instance (rw a at t)))
+
+by-instance : (instance : ℕ) (e : Entry) → (instance ≡ allInstances) ⊎ (e .instance ≡ instance)
+    → isOfInstance instance e ≡ true
+by-instance instance e (inl a) = rw (eq-eqb instance allInstances a)
+by-instance instance e (inr b) =
+    by-test (instance =? allInstances)
+    (λ t. rw t)
+    (λ t. rw (t, eq-eqb (e .instance) instance b))
+
+supports-by : (asked : Asked) (e : Entry) → supports asked e ≡ true
+    → (e .status ≡ asked .dgn) × ((asked .instance ≡ allInstances) ⊎ (e .instance ≡ asked .instance))
+unfolding supports
+supports-by asked e t =
+    let b = both-true (e .status =? asked .dgn) (isOfInstance (asked .instance) e) t in
+    (eqb-true (e .status) (asked .dgn) (b .0), instance-by (asked .instance) e (b .1))
+
+by-supports : (asked : Asked) (e : Entry) → e .status ≡ asked .dgn
+    → (asked .instance ≡ allInstances) ⊎ (e .instance ≡ asked .instance) → supports asked e ≡ true
+unfolding supports
+by-supports asked e d n = rw (eq-eqb (e .status) (asked .dgn) d) (by-instance (asked .instance) e n)
+
+-- a request to our address or to everyone is ours
+is-ours : (asked : Asked) (address : ℕ) → (asked .destination ≡ address) ⊎ (asked .destination ≡ everyone)
+    → isOurs asked (held address) ≡ true
+unfolding isOurs isOurAddress
+is-ours asked address (inl e) =
+    by-test (asked .destination =? everyone)
+    (λ t. rw t)
+    (λ t. rw (t, eq-eqb (asked .destination) address e))
+is-ours asked address (inr e) = rw (eq-eqb (asked .destination) everyone e)
+
+source-low : (id : ℕ) → sourceOf id < 256
+unfolding sourceOf
+source-low id = omega arith
+
+-- what a run hosts, and what it is asked
+
+abbrev lent : Run → Host
+lent run = record { entries = run .entries; count = run .count; edition = run .edition }
+
+abbrev listOf : Run → List Entry
+listOf run = take (run .count) (run .entries)
+
+abbrev askedIn : Run → Asked
+askedIn run = askedOf (run .edition) (partsOf (run .id)) (run .bytes)
+
+-- that no hosted entry supports it
+abbrev None : Run → Type 0
+None run = (k : ℕ) → Supports run k → ⊥
+
+module _ (run : Run) (ran : Ran run) where
+  well : isWellFormed (lent run) ≡ true
+  unfolding startedOf
+  well = before-refusal (isWellFormed (lent run)) 16 (gives done) (sym (ran .start .answer) ∙ ap toldStarting (ran .hosts)) .0
+
+  few : run .count ≤ length (run .entries)
+  few = let w = well-few (lent run) well in let a = ran .array in omega arith
+
+  long : length (listOf run) ≡ run .count
+  long = length-take-le (run .count) (run .entries) few
+
+  begun : (hosted (run .started .host) ≡ listOf run) × (run .started .host .edition ≡ run .edition)
+      × (isWellFormed (run .started .host) ≡ true)
+  begun =
+      start-hosts (run .entries) (run .count) (run .edition) (run .started) (ran .start) (ap toldStarting (ran .hosts))
+      (ran .array)
+
+  -- the entry at a position is the one that was given
+  entry-given : (k : ℕ) → k < run .count → entryAt (listOf run) k ≡ entryAt (run .entries) k
+  entry-given k l = getD-take (run .count) (run .entries) k blankEntry l
+
+  supporter : (k : ℕ) → k < length (listOf run) → supports (askedIn run) (entryAt (listOf run) k) ≡ true
+      → Supports run k
+  supporter k l t =
+      let m : k < run .count = rw long at l in
+      let b = supports-by (askedIn run) (entryAt (run .entries) k) (rw (entry-given k m) at t) in
+      ((m, b .0), b .1)
+
+  by-supporter : (k : ℕ) → Supports run k
+      → (k < length (listOf run)) × (supports (askedIn run) (entryAt (listOf run) k) ≡ true)
+  by-supporter k s =
+      (rw long (s .0 .0), rw (entry-given k (s .0 .0)) (by-supports (askedIn run) (entryAt (run .entries) k) (s .0 .1) (s .1)))
+
+  some : (k : ℕ) → Supports run k → any (supports (askedIn run)) (listOf run) ≡ true
+  some k s = let b = by-supporter k s in any-some (supports (askedIn run)) (listOf run) k (b .0) (b .1)
+
+  none : None run → any (supports (askedIn run)) (listOf run) ≡ false
+  none n =
+      by-test (any (supports (askedIn run)) (listOf run))
+      (λ t. let p = some-any (supports (askedIn run)) (listOf run) t in absurd (n (p .0) (supporter (p .0) (p .1) (p .2))))
+      (λ t. t)
+
+  -- what is told of a run
+  told : (reply : Reply) (a : Requesting) (ps : List ℕ) (frame : Frame) → toldRequesting a ps frame ≡ gives reply
+      → requestedOf (run .id) (run .bytes) (run .started .host) (run .claim) ≡ gives reply → run .answered .answer ≡ a
+  told reply a ps frame e t =
+      told-requesting-same (run .answered .answer) a (listed (run .answered .positions)) ps _ frame
+      (ran .request .answer ∙ t ∙ sym e)
+
+  -- a request that is heard is answered by what its status comes to
+  heard-status : (address : ℕ) → Hears run address
+      → requestedOf (run .id) (run .bytes) (run .started .host) (run .claim)
+      ≡ gives (statusOf (askedIn run) (listOf run) address)
+  unfolding addressHeld
+  heard-status address k =
+      let host = run .started .host in
+      let handed = lowest-wins (run .id) (run .bytes) host (run .claim) .fine (partsOf (run .id)) (k .claim) (k .frame) (begun .2) in
+      requested-given (run .id) (run .bytes) host (run .claim) (partsOf (run .id)) (run .bytes) handed refl
+      ∙ rw (begun .0, begun .1)
+      (answer-reply (run .edition) (partsOf (run .id)) (run .bytes) (listOf run) (run .claim) (askedIn run) (k .request) refl (k .dgn)
+      ∙ reply-held (askedIn run) (listOf run) (run .claim) (held address) (sym (k .holds)) address (is-ours (askedIn run) address (k .ours)) (k .status) refl)
+
+  -- the three answers of a request that is heard
+
+  reports : (address : ℕ) → Hears run address → any (supports (askedIn run)) (listOf run) ≡ true
+      → Reports run (Supports run)
+  reports address k n =
+      let ps = positionsWhere (supports (askedIn run)) (listOf run) in
+      let t = heard-status address k ∙ ap gives (status-supported (askedIn run) (listOf run) address n) in
+      let f : run .answered .positions ≡ filled ps = ran .request .positions ∙ ap (λ (x : Told Reply). filled (supportedIn x)) t in
+      let l : listed (run .answered .positions) ≡ ps = ap listed f ∙ Picks.listed-filled ps in
+      record {
+        answer = told (supported ps) Supported ps noFrame refl t;
+        exactly = λ j.
+            let x = positions-exact (supports (askedIn run)) (listOf run) j in
+            ((λ s. let y = x .0 (rw l at s) in supporter j (y .0) (y .1)), (λ s. rw l (x .1 (by-supporter j s))));
+        rise = rw l (positions-rise (supports (askedIn run)) (listOf run));
+        no-nak = (ran .request .sent-id ∙ ap (λ (x : Told Reply). sentIn x .id) t, ran .request .sent-bytes ∙ ap (λ (x : Told Reply). sentIn x .bytes) t);
+      }
+
+  naks : (address : ℕ) → Hears run address → any (supports (askedIn run)) (listOf run) ≡ false
+      → (destination run ≡ everyone → ⊥) → (requester run ≡ noAddress → ⊥)
+      → SendsNak run address (instanceAsked (run .edition) (run .bytes))
+  unfolding acknowledgmentBytes
+  naks address k n d q =
+      let frame = acknowledgmentFrame address (nakTo (askedIn run)) in
+      let t = heard-status address k ∙ ap gives (status-nak (askedIn run) (listOf run) address n d q) in
+      let i : run .answered .id ≡ frame .id = ran .request .sent-id ∙ ap (λ (x : Told Reply). sentIn x .id) t in
+      let b : run .answered .bytes ≡ frame .bytes = ran .request .sent-bytes ∙ ap (λ (x : Told Reply). sentIn x .bytes) t in
+      record {
+        answer = told (nak frame) SendNak [] frame refl t;
+        identifier = rw (i, b) (acknowledgment-checked address (nakTo (askedIn run)) (held-low (run .claim) address (k .claim) (k .holds)) (source-low (run .id)));
+        data-bytes = b;
+        no-positions = ran .request .positions ∙ ap (λ (x : Told Reply). filled (supportedIn x)) t;
+      }
+
+  quiet-to-all : (address : ℕ) → Hears run address → any (supports (askedIn run)) (listOf run) ≡ false
+      → destination run ≡ everyone → run .answered .answer ≡ Unsupported
+  quiet-to-all address k n d =
+      told unsupported Unsupported [] noFrame refl
+      (heard-status address k ∙ ap gives (status-global (askedIn run) (listOf run) address n d))
+
+  quiet : (address : ℕ) → Hears run address → any (supports (askedIn run)) (listOf run) ≡ false
+      → (destination run ≡ everyone) ⊎ (requester run ≡ noAddress) → run .answered .answer ≡ Unsupported
+  quiet address k n (inl d) = quiet-to-all address k n d
+  quiet address k n (inr q) =
+      by-test (destination run =? everyone)
+      (λ t. quiet-to-all address k n (eqb-true (destination run) everyone t))
+      (λ t.
+      told unsupported Unsupported [] noFrame refl
+      (heard-status address k ∙ ap gives (status-nobody (askedIn run) (listOf run) address n (eqb-false (destination run) everyone t) q)))
+
+  -- how an answer came about
+
+  abbrev frameOf : Frame
+  frameOf = record { id = run .answered .id; bytes = run .answered .bytes }
+
+  tells : (a : Requesting) (reply : Reply) → run .answered .answer ≡ a
+      → toldRequesting a (listed (run .answered .positions)) frameOf ≡ gives reply
+      → requestedOf (run .id) (run .bytes) (run .started .host) (run .claim) ≡ gives reply
+  tells a reply e g =
+      sym (ran .request .answer) ∙ ap (λ (x : Requesting). toldRequesting x (listed (run .answered .positions)) frameOf) e ∙ g
+
+  came-by : (reply : Reply) → (reply ≡ Requests.nothingToDo → ⊥)
+      → requestedOf (run .id) (run .bytes) (run .started .host) (run .claim) ≡ gives reply
+      → Came (askedIn run) (listOf run) (run .claim) reply × ((address : ℕ) → Heard (askedIn run) (run .claim) address → Hears run address)
+  came-by reply n t =
+      let a = answered (run .id) (run .bytes) (run .started .host) (run .claim) reply t in
+      let r = a .asks n in (
+        rw (begun .0, begun .1) at (a .came-about),
+        (λ address k. record {
+          claim = a .sound;
+          holds = k .holds;
+          frame = a .frame;
+          request = r .0;
+          dgn = r .1;
+          status = k .status;
+          ours = by-test (destination run =? everyone)
+              (λ t. inr (eqb-true (destination run) everyone t))
+              (λ t. inl (our-address (askedIn run) address (k .ours) (eqb-false (destination run) everyone t)));
+        }),
+      )
+
+-- the reply that is told decides how it came about
+
+module _ (asked : Asked) (es : List Entry) (c : Claim) where
+  reported-by : {P : Type 0} (reply : Reply) (ps : List ℕ) → reply ≡ supported ps → Came asked es c reply
+      → ((address : ℕ) → Heard asked c address → any (supports asked) es ≡ true → P) → P
+  reported-by reply ps e elsewhere f = let z : _≡_ {A = ℕ} 0 1 = cc in absurd (omega arith)
+  reported-by reply ps e (claimed d) f = let z : _≡_ {A = ℕ} 0 1 = cc in absurd (omega arith)
+  reported-by reply ps e (reported address k n) f = f address k n
+  reported-by reply ps e (unanswered address k n w) f = let z : _≡_ {A = ℕ} 0 1 = cc in absurd (omega arith)
+  reported-by reply ps e (denied address k n t q) f = let z : _≡_ {A = ℕ} 0 1 = cc in absurd (omega arith)
+
+  denied-by : {P : Type 0} (reply : Reply) (frame : Frame) → reply ≡ nak frame → Came asked es c reply
+      → ((address : ℕ) → Heard asked c address → any (supports asked) es ≡ false → (asked .destination ≡ everyone → ⊥)
+      → (asked .source ≡ noAddress → ⊥) → P) → P
+  denied-by reply frame e elsewhere f = let z : _≡_ {A = ℕ} 0 1 = cc in absurd (omega arith)
+  denied-by reply frame e (claimed d) f = let z : _≡_ {A = ℕ} 0 1 = cc in absurd (omega arith)
+  denied-by reply frame e (reported address k n) f = let z : _≡_ {A = ℕ} 0 1 = cc in absurd (omega arith)
+  denied-by reply frame e (unanswered address k n w) f = let z : _≡_ {A = ℕ} 0 1 = cc in absurd (omega arith)
+  denied-by reply frame e (denied address k n t q) f = f address k n t q
+
+  unanswered-by : {P : Type 0} (reply : Reply) → reply ≡ unsupported → Came asked es c reply
+      → ((address : ℕ) → Heard asked c address → any (supports asked) es ≡ false
+      → (asked .destination ≡ everyone) ⊎ (asked .source ≡ noAddress) → P) → P
+  unanswered-by reply e elsewhere f = let z : _≡_ {A = ℕ} 0 1 = cc in absurd (omega arith)
+  unanswered-by reply e (claimed d) f = let z : _≡_ {A = ℕ} 0 1 = cc in absurd (omega arith)
+  unanswered-by reply e (reported address k n) f = let z : _≡_ {A = ℕ} 0 1 = cc in absurd (omega arith)
+  unanswered-by reply e (unanswered address k n w) f = f address k n w
+  unanswered-by reply e (denied address k n t q) f = let z : _≡_ {A = ℕ} 0 1 = cc in absurd (omega arith)
+
+-- no entry supports it, where the test says so
+no-supporter : (run : Run) → Ran run → any (supports (askedIn run)) (listOf run) ≡ false → None run
+no-supporter run ran n k s = true-false (sym (some run ran k s) ∙ n)
+
+-- what the editions share
+
+module _ (run : Run) (ran : Ran run) where
+  reported-run : run .answered .answer ≡ Supported
+      → (address : ℕ) × Hears run address × (any (supports (askedIn run)) (listOf run) ≡ true)
+  reported-run e =
+      let ps = listed (run .answered .positions) in
+      let c = came-by run ran (supported ps) (λ z. let y : _≡_ {A = ℕ} 0 1 = cc in absurd (omega arith)) (tells run ran Supported (supported ps) e refl) in
+      reported-by (askedIn run) (listOf run) (run .claim) (supported ps) ps refl (c .0) (λ address k n. (address, c .1 address k, n))
+
+  denied-run : run .answered .answer ≡ SendNak
+      → (address : ℕ) × Hears run address × (any (supports (askedIn run)) (listOf run) ≡ false)
+      × (destination run ≡ everyone → ⊥) × (requester run ≡ noAddress → ⊥)
+  denied-run e =
+      let frame : Frame = record { id = run .answered .id; bytes = run .answered .bytes } in
+      let c = came-by run ran (nak frame) (λ z. let y : _≡_ {A = ℕ} 0 1 = cc in absurd (omega arith)) (tells run ran SendNak (nak frame) e refl) in
+      denied-by (askedIn run) (listOf run) (run .claim) (nak frame) frame refl (c .0) (λ address k n t q. (address, c .1 address k, n, t, q))
+
+  unanswered-run : run .answered .answer ≡ Unsupported
+      → (address : ℕ) × Hears run address × (any (supports (askedIn run)) (listOf run) ≡ false)
+      × ((destination run ≡ everyone) ⊎ (requester run ≡ noAddress))
+  unanswered-run e =
+      let c = came-by run ran unsupported (λ z. let y : _≡_ {A = ℕ} 0 1 = cc in absurd (omega arith)) (tells run ran Unsupported unsupported e refl) in
+      unanswered-by (askedIn run) (listOf run) (run .claim) unsupported refl (c .0) (λ address k n w. (address, c .1 address k, n, w))
+
+pub reports-exactly : the.ReportsExactly
+reports-exactly run ran = (
+  (λ e.
+      let r = reported-run run ran e in
+      let p = some-any (supports (askedIn run)) (listOf run) (r .2) in
+      (r .0, r .1, (p .0, supporter run ran (p .0) (p .1) (p .2)))),
+  (λ s. reports run ran (s .0) (s .1) (some run ran (s .2 .0) (s .2 .1)) .answer),
+)
+
+pub positions-exactly : the.PositionsExactly
+positions-exactly run ran e = let r = reported-run run ran e in reports run ran (r .0) (r .1) (r .2)
+
+-- an address that is held is not FFh
+held-one : (run : Run) (address : ℕ) → Hears run address → destination run ≡ address → destination run ≡ everyone → ⊥
+held-one run address k d e =
+    let l = held-low (run .claim) address (k .claim) (k .holds) in
+    omega arith
+
+pub nak-exactly : the.NakExactly
+nak-exactly run ran = (
+  (λ e.
+      let r = denied-run run ran e in
+      (r .0, r .1, no-supporter run ran (r .2), directed (r .1 .ours) (r .3), r .4)),
+  (λ s. naks run ran (s .0) (s .1) (none run ran (s .2)) (held-one run (s .0) (s .1) (s .3)) (s .4) .answer),
+)
+  where
+    directed : {address : ℕ} → (destination run ≡ address) ⊎ (destination run ≡ everyone) → (destination run ≡ everyone → ⊥)
+        → destination run ≡ address
+    directed (inl e) n = e
+    directed (inr e) n = absurd (n e)
+
+-- the address that is held is one
+same-address : (run : Run) (a b : ℕ) → Hears run a → Hears run b → a ≡ b
+same-address run a b k l = let e : held a ≡ held b = sym (k .holds) ∙ l .holds in cc
+
+pub nak-names : the.NakNames
+nak-names run address ran k e =
+    let r = denied-run run ran e in
+    rw (same-address run address (r .0) k (r .1)) (naks run ran (r .0) (r .1) (r .2) (r .3) (r .4))
+
+pub quiet-exactly : the.QuietExactly
+quiet-exactly run ran = (
+  (λ e. let r = unanswered-run run ran e in (r .0, r .1, no-supporter run ran (r .2), r .3)),
+  (λ s. quiet run ran (s .0) (s .1) (none run ran (s .2)) (s .3)),
+)
+
+pub global-no-nak : the.GlobalNoNak
+global-no-nak run ran d e = denied-run run ran e .3 d
+
+pub nobody-no-nak : the.NobodyNoNak
+nobody-no-nak run ran q e = denied-run run ran e .4 q
+
+-- edition two: the instance that is asked for is byte 3
+
+instance-two : (run : Run) (instance : ℕ) → run .edition ≡ Two → byteThree run ≡ instance
+    → instanceAsked (run .edition) (run .bytes) ≡ instance
+unfolding instanceAsked
+instance-two run instance t b = rw t b
+
+-- the same entries support it under another name
+reports-same : (run : Run) (who who′ : ℕ → Type 0) → ((k : ℕ) → who k → who′ k) → ((k : ℕ) → who′ k → who k)
+    → Reports run who → Reports run who′
+reports-same run who who′ f g r =
+    record {
+      answer = r .answer;
+      exactly = λ k. ((λ s. f k (r .exactly k .0 s)), (λ s. r .exactly k .1 (g k s)));
+      rise = r .rise;
+      no-nak = r .no-nak;
+    }
+
+module _ (run : Run) (t : run .edition ≡ Two) where
+  -- all instances
+  all-supports : byteThree run ≡ 0xFF → (k : ℕ) → SupportsDgn run k → Supports run k
+  all-supports b k s = (s, inl (instance-two run 0xFF t b))
+
+  -- one instance
+
+  one-supports : (instance : ℕ) → byteThree run ≡ instance → (k : ℕ) → SupportsAs instance run k → Supports run k
+  one-supports instance b k s = (s .0, inr (s .1 ∙ sym (instance-two run instance t b)))
+
+  supports-one : (instance : ℕ) → byteThree run ≡ instance → (instance ≡ 0xFF → ⊥) → (k : ℕ) → Supports run k
+      → SupportsAs instance run k
+  supports-one instance b n k (s, inl a) = absurd (n (sym (instance-two run instance t b) ∙ a))
+  supports-one instance b n k (s, inr i) = (s, i ∙ instance-two run instance t b)
+
+pub all-report : the.AllReport
+all-report run address k ran t h b s =
+    reports-same run (Supports run) (SupportsDgn run) (λ j x. x .0) (all-supports run t b)
+    (reports run ran address h (some run ran k (all-supports run t b k s)))
+
+pub all-nak : the.AllNak
+all-nak run address ran t h b d q n =
+    rw (instance-two run 0xFF t b) at
+    (naks run ran address h (none run ran (λ k s. n k (s .0))) (held-one run address h d) q)
+
+pub all-nak-only : the.AllNakOnly
+all-nak-only run ran t b e k s = no-supporter run ran (denied-run run ran e .2) k (all-supports run t b k s)
+
+pub one-reports : the.OneReports
+one-reports run address instance k ran t h b n s =
+    reports-same run (Supports run) (SupportsAs instance run) (supports-one run t instance b n) (one-supports run t instance b)
+    (reports run ran address h (some run ran k (one-supports run t instance b k s)))
+
+pub one-nak : the.OneNak
+one-nak run address instance ran t h b n d q f =
+    rw (instance-two run instance t b) at
+    (naks run ran address h (none run ran (λ k s. f k (supports-one run t instance b n k s))) (held-one run address h d) q)
+
+pub one-nak-only : the.OneNakOnly
+one-nak-only run instance ran t b e k s =
+    no-supporter run ran (denied-run run ran e .2) k (one-supports run t instance b k s)
+
+-- every hosted instance is 1 to 250
+
+entry-instance : (e : Entry) → isEntry e ≡ true → (1 ≤ e .instance) × (e .instance ≤ 250)
+unfolding isEntry
+entry-instance e w =
+    let a = both-true (isHostedDgn (e .command)) _ w in
+    let b = both-true (isHostedDgn (e .status)) _ (a .1) in
+    let d = both-true (1 ≤? e .instance) (e .instance ≤? 250) (b .1) in
+    (leb-true 1 (e .instance) (d .0), leb-true (e .instance) 250 (d .1))
+
+hosted-instance : (run : Run) → Ran run → (k : ℕ) → k < run .count
+    → (1 ≤ entryAt (run .entries) k .instance) × (entryAt (run .entries) k .instance ≤ 250)
+unfolding isWellFormed
+hosted-instance run ran k l =
+    let a = both-true (run .count ≤? mostEntries) _ (well run ran) in
+    let b = both-true (every isEntry (listOf run)) (noPairRepeats (listOf run)) (a .1) in
+    let m : k < length (listOf run) = rw (long run ran) l in
+    rw (entry-given run ran k l) at
+    (entry-instance (entryAt (listOf run) k) (every-at isEntry (listOf run) k blankEntry m (b .0)))
+
+pub nobodys-instance : the.NobodysInstance
+nobodys-instance run address instance ran t h b w d q =
+    one-nak run address instance ran t h b (not-all w) d q
+    (λ k s.
+    let i = hosted-instance run ran k (s .0 .0) in
+    outside w (s .1) (i .0) (i .1))
+  where
+    not-all : (instance ≡ 0) ⊎ ((250 < instance) × (instance < 255)) → instance ≡ 0xFF → ⊥
+    not-all (inl e) f = omega arith
+    not-all (inr e) f = let u = e .1 in omega arith
+
+    outside : {i : ℕ} → (instance ≡ 0) ⊎ ((250 < instance) × (instance < 255)) → i ≡ instance → 1 ≤ i → i ≤ 250 → ⊥
+    outside (inl e) f l m = omega arith
+    outside (inr e) f l m = let u = e .0 in omega arith
+
+-- between the editions
+
+all-asked : (edition : Edition) (bytes : List ℕ) → getD bytes 3 0 ≡ 0xFF → instanceAsked edition bytes ≡ 0xFF
+unfolding instanceAsked
+all-asked One bytes e = refl
+all-asked Two bytes e = e
+
+pub editions-agree : the.EditionsAgree
+editions-agree id bytes h h′ c r r′ p q n e b =
+    let t = request-same id bytes bytes h h′ c refl n e refl (all-asked (h .edition) bytes b ∙ sym (all-asked (h′ .edition) bytes b)) in
+    request-only id bytes h c r r′ p (rw (sym t) at q)
+
+pub one-ignores-byte-three : the.OneIgnoresByteThree
+unfolding instanceAsked
+one-ignores-byte-three id bytes bytes′ h c r r′ p q o l e =
+    let n : instanceAsked (h .edition) bytes ≡ instanceAsked (h .edition) bytes′ = rw o in
+    let t = request-same id bytes bytes′ h h c l refl refl (dgn-of-three bytes bytes′ e) n in
+    request-only id bytes h c r r′ p (rw (sym t) at q)
+
+-- a request for EE00h is answered by its destination alone
+
+claim-replied : (asked : Asked) (es : List Entry) (c : Claim) → asked .dgn ≡ addressClaimed
+    → replyOf asked es c
+    ≡ (if not (isOurs asked (standOf c)) then gives Requests.nothingToDo else gives (claims (claimFrame c)))
+unfolding replyOf
+claim-replied asked es c d = rw (eq-eqb (asked .dgn) addressClaimed d)
+
+ours-same : (asked asked′ : Asked) (stand : Stand) → asked .destination ≡ asked′ .destination
+    → asked .dgn ≡ asked′ .dgn → isOurs asked stand ≡ isOurs asked′ stand
+unfolding isOurs isOurAddress
+ours-same asked asked′ (held address) t d = rw t
+ours-same asked asked′ (claiming address) t d = rw (t, d)
+ours-same asked asked′ silent t d = rw t
+
+claim-answered : (edition edition′ : Edition) (parts : Parts) (bytes bytes′ : List ℕ) (es es′ : List Entry) (c : Claim)
+    → requestedDgn bytes ≡ requestedDgn bytes′ → requestedDgn bytes ≡ addressClaimed
+    → answerOf edition parts bytes es c ≡ answerOf edition′ parts bytes′ es′ c
+unfolding answerOf
+claim-answered edition edition′ parts bytes bytes′ es es′ c d e =
+    let asked = askedOf edition parts bytes in
+    let asked′ = askedOf edition′ parts bytes′ in
+    let r : replyOf asked es c ≡ replyOf asked′ es′ c =
+    claim-replied asked es c e ∙ rw (ours-same asked asked′ (standOf c) refl d) (sym (claim-replied asked′ es′ c (sym d ∙ e))) in
+    rw (r, d)
+
+claim-requested : (id : ℕ) (bytes bytes′ : List ℕ) (h h′ : Host) (c : Claim) → h .count ≡ h′ .count
+    → hosted h ≡ hosted h′ → length bytes ≡ length bytes′ → take 3 bytes ≡ take 3 bytes′
+    → requestedDgn bytes ≡ addressClaimed → requestedOf id bytes h c ≡ requestedOf id bytes′ h′ c
+unfolding handedIn requestedOf
+claim-requested id bytes bytes′ h h′ c n e l b d =
+    let w = well-same h h′ n e in
+    let t : handedIn id bytes h c ≡ handedIn id bytes′ h′ c = rw (l, w) in
+    rw t (go (handedIn id bytes′ h′ c))
+  where
+    go : (t : Told Parts)
+        → (given t then λ p. answerOf (h .edition) p bytes (hosted h) c)
+        ≡ (given t then λ p. answerOf (h′ .edition) p bytes′ (hosted h′) c)
+    go (refused n) = refl
+    go (gives p) = claim-answered (h .edition) (h′ .edition) p bytes bytes′ (hosted h) (hosted h′) c (dgn-of-three bytes bytes′ b) d
+
+pub claim-for-any-instance : the.ClaimForAnyInstance
+claim-for-any-instance id bytes bytes′ h h′ c r r′ p q n e l b d =
+    request-only id bytes h c r r′ p (rw (sym (claim-requested id bytes bytes′ h h′ c n e l b d)) at q)
+
+-- a command
+
+route-same : (id : ℕ) (bytes : List ℕ) (h h′ : Host) (c : Claim) → h .count ≡ h′ .count → hosted h ≡ hosted h′
+    → routedOf id bytes h c ≡ routedOf id bytes h′ c
+unfolding handedIn routedOf
+route-same id bytes h h′ c n e =
+    let w = well-same h h′ n e in
+    let t : handedIn id bytes h c ≡ handedIn id bytes h′ c = rw w in
+    λ i. given t i then λ p. routeOf (p .dgn) (getD bytes 0 0) (e i) (standOf c)
+
+pub commands-have-no-edition : the.CommandsHaveNoEdition
+commands-have-no-edition id bytes h h′ c r r′ p q n e =
+    route-only id bytes h c r r′ p (rw (sym (route-same id bytes h h′ c n e)) at q)
+
+-- edition one, as it was
+
+and-true : (a : Bool) → a and true ≡ a
+and-true true = refl
+and-true false = refl
+
+-- an entry supports a request of edition one by its status alone
+status-alone : (parts : Parts) (bytes : List ℕ)
+    → supports (askedOf One parts bytes) ≡ (λ (e : Entry). hasStatus (requestedDgn bytes) e)
+unfolding supports instanceAsked
+status-alone parts bytes = λ i e. and-true (e .status =? requestedDgn bytes) i
+
+former-status : (parts : Parts) (bytes : List ℕ) (es : List Entry) (address : ℕ)
+    → statusOf (askedOf One parts bytes) es address ≡ formerStatus parts bytes es address
+unfolding statusOf formerStatus instanceAsked
+former-status parts bytes es address = rw (status-alone parts bytes)
+
+former-held : (parts : Parts) (bytes : List ℕ) (es : List Entry) (t : Told ℕ)
+    → (given t then λ address. gives (statusOf (askedOf One parts bytes) es address))
+    ≡ (given t then λ address. gives (formerStatus parts bytes es address))
+former-held parts bytes es (refused n) = refl
+former-held parts bytes es (gives address) = ap gives (former-status parts bytes es address)
+
+former-requested : (id : ℕ) (bytes : List ℕ) (h : Host) (c : Claim) → h .edition ≡ One
+    → requestedOf id bytes h c ≡ formerly id bytes h c
+unfolding requestedOf answerOf replyOf formerly
+former-requested id bytes h c o =
+    ap (λ (x : Edition). given handedIn id bytes h c then λ p. answerOf x p bytes (hosted h) c) o
+    ∙ go (handedIn id bytes h c)
+  where
+    go : (t : Told Parts)
+        → (given t then λ p. answerOf One p bytes (hosted h) c)
+        ≡ (given t then λ p.
+        if not (catalogueForm (p .dgn) =? requestDgn) then gives Requests.nothingToDo else
+        if greatestDgn <? requestedDgn bytes then refused 17 else
+        if not (isOurs (askedOf One p bytes) (standOf c)) then gives Requests.nothingToDo else
+        if requestedDgn bytes =? addressClaimed then gives (claims (claimFrame c)) else
+        given addressHeld (standOf c) then λ address.
+        gives (formerStatus p bytes (hosted h) address))
+    go (refused n) = refl
+    go (gives p) = rw (former-held p bytes (hosted h) (addressHeld (standOf c)))
+
+pub one-as-before : the.OneAsBefore
+one-as-before id bytes h c r p o = rw (former-requested id bytes h c o) at p
+
+-- 001's example
+
+pub heat-pump-example : the.HeatPumpExample
+unfolding requestedOf answerOf replyOf statusOf handedIn isWellFormed isEntry isHostedDgn noPairRepeats isSamePair isOurs isOurAddress supports instanceAsked requestedDgn dgnAt addressHeld positionsWhere acknowledgmentId acknowledgmentBytes checkedOf sourceAllowed identifierOf priorityOf reservedOf dgnOf sourceOf catalogueForm destinationOf isAddressed numberOf bytesOf
+heat-pump-example c s e =
+    let b = both-true (keepsRules c) (holdsList c) s in
+    record { second = rw (b .0, b .1, e); first = rw (b .0, b .1, e); all = rw (b .0, b .1, e); edition-one = rw (b .0, b .1, e) }
