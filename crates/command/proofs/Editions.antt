@@ -3,25 +3,24 @@
 use mathlib.Core.Path.{_≡_, refl, sym, ap, _∙_}
 use mathlib.Core.Bool.{Bool, true, false, not}
 use mathlib.Core.List.{List, [], _∷_}
-use mathlib.Core.Logic.{_⊎_, inl, inr, _↔_}
-use Prim.Native.Nat.{ℕ, zero, suc, _+_, _≤_, _<_}
+use mathlib.Core.Logic.{_⊎_, inl, inr}
+use Prim.Native.Nat.{ℕ, zero, suc, _≤_, _<_}
 use native.Mathlib.Nat.{le-of-suc-le-suc, not-suc-le-zero}
 use native.Mathlib.Omega.{arith}
-use borrow.Author.Tests.{eq-eqb, ne-eqb, eqb-true, eqb-false, leb-true}
+use borrow.Author.Tests.{eq-eqb, eqb-true, eqb-false, leb-true}
 use lib.ListN.{length, take, getD}
 use lib.Seq.{getD-take, length-take-le}
 use Rattle.frame.specs.Words.{if_then_else_, _≤?_, _<?_, _=?_, _and_, _or_, Told, refused, gives, given_then_}
 use Rattle.frame.specs.Bytes.{numberOf, bytesOf}
 use Rattle.frame.specs.Identifier.{identifierOf, greatestDgn, priorityOf, reservedOf, dgnOf, sourceOf, partsOf, isAddressed, destinationOf, catalogueForm}
 use Rattle.frame.specs.Frame.{sourceAllowed, checkedOf}
-use Rattle.frame.specs.Standard.{Frame, addressClaimed, dgnAt, everyone, greatestAddress, noAddress, noFrame, requestDgn}
+use Rattle.frame.specs.Standard.{Frame, addressClaimed, dgnAt, everyone, noAddress, noFrame, requestDgn}
 use Rattle.frame.specs.declared.Parts.{Parts}
 use Rattle.frame.proofs.Words.{by-test, both-true, true-false, before-refusal}
 use Rattle.places.specs.Layout.{any, every}
 use Rattle.places.proofs.Search.{every-at}
 use Rattle.claim.specs.Claim.{keepsRules, holdsList, Stand, held, claiming, silent, standOf}
-use Rattle.claim.specs.Promises.{isSound, done}
-use Rattle.claim.specs.Laws.{NoFrame}
+use Rattle.claim.specs.Promises.{done}
 use Rattle.claim.specs.declared.Claim.{Claim}
 use Rattle.command.specs.Hosted.{mostEntries, blankEntry, isHostedDgn, isEntry, isSamePair, noPairRepeats, hosted, isWellFormed}
 use Rattle.command.specs.Positions.{positionsWhere, filled, listed}
@@ -31,7 +30,7 @@ use Rattle.command.specs.Acknowledgment.{claimFrame, acknowledgmentFrame
 use Rattle.command.specs.Requests as Requests
 use Rattle.command.specs.Requests.{requestedDgn, allInstances, instanceAsked, Asked, askedOf, isOfInstance, supports, isOurAddress, isOurs, nakTo, Reply, claims, supported, nak, unsupported, statusOf, replyOf, answerOf, requestedOf}
 use Rattle.command.specs.Promises.{toldStarting, startedOf, toldRequesting, supportedIn, sentIn}
-use Rattle.command.specs.Laws.{StandsIn, entryAt}
+use Rattle.command.specs.Laws.{entryAt}
 use Rattle.command.specs.Editions as the
 use Rattle.command.specs.Editions.{Run, Ran, Hears, Supports, SupportsDgn, SupportsAs, Reports, SendsNak, requester, destination, byteThree, hasStatus, formerStatus, formerly}
 use Rattle.command.specs.declared.Edition.{Edition}
@@ -45,7 +44,7 @@ use Rattle.command.proofs.Handing.{well-few}
 use Rattle.command.proofs.Answers.{status-supported, status-global, status-nobody, status-nak, reply-held, answer-reply, requested-given}
 use Rattle.command.proofs.PositionLaws.{positions-exact, positions-rise}
 use Rattle.command.proofs.Laws.{told-requesting-same, route-only, request-only, lowest-wins, start-hosts, well-same, request-same, dgn-of-three}
-use Rattle.command.proofs.ReplyLaws.{Came, Heard, elsewhere, claimed, reported, unanswered, denied, Answered, answered, our-address, acknowledgment-checked, held-low}
+use Rattle.command.proofs.ReplyLaws.{Heard, Came, Answered, answered, reported-by, unanswered-by, denied-by, our-address, acknowledgment-checked, held-low}
 
 -- a test that some entry passes, or none
 
@@ -113,7 +112,18 @@ source-low : (id : ℕ) → sourceOf id < 256
 unfolding sourceOf
 source-low id = omega arith
 
--- what a run hosts, and what it is asked
+-- replies that are not "nothing to do"
+
+supported-is-other : {ps : List ℕ} → supported ps ≡ Requests.nothingToDo → ⊥
+supported-is-other e = let z : _≡_ {A = ℕ} 0 1 = cc in omega arith
+
+nak-is-other : {frame : Frame} → nak frame ≡ Requests.nothingToDo → ⊥
+nak-is-other e = let z : _≡_ {A = ℕ} 0 1 = cc in omega arith
+
+unsupported-is-other : unsupported ≡ Requests.nothingToDo → ⊥
+unsupported-is-other e = let z : _≡_ {A = ℕ} 0 1 = cc in omega arith
+
+-- what a run hosts, what it is asked, and what it is told
 
 abbrev lent : Run → Host
 lent run = record { entries = run .entries; count = run .count; edition = run .edition }
@@ -124,14 +134,25 @@ listOf run = take (run .count) (run .entries)
 abbrev askedIn : Run → Asked
 askedIn run = askedOf (run .edition) (partsOf (run .id)) (run .bytes)
 
--- that no hosted entry supports it
+abbrev toldIn : Run → Told Reply
+toldIn run = requestedOf (run .id) (run .bytes) (run .started .host) (run .claim)
+
+-- whether a hosted entry supports it, as a test, and that none does
+
+abbrev isSupported : Run → Bool
+isSupported run = any (supports (askedIn run)) (listOf run)
+
 abbrev None : Run → Type 0
 None run = (k : ℕ) → Supports run k → ⊥
 
 module _ (run : Run) (ran : Ran run) where
+  -- the host is of the entries and the edition that were given
+
   well : isWellFormed (lent run) ≡ true
   unfolding startedOf
-  well = before-refusal (isWellFormed (lent run)) 16 (gives done) (sym (ran .start .answer) ∙ ap toldStarting (ran .hosts)) .0
+  well =
+      let e = sym (ran .start .answer) ∙ ap toldStarting (ran .hosts) in
+      before-refusal (isWellFormed (lent run)) 16 (gives done) e .0
 
   few : run .count ≤ length (run .entries)
   few = let w = well-few (lent run) well in let a = ran .array in omega arith
@@ -142,12 +163,13 @@ module _ (run : Run) (ran : Ran run) where
   begun : (hosted (run .started .host) ≡ listOf run) × (run .started .host .edition ≡ run .edition)
       × (isWellFormed (run .started .host) ≡ true)
   begun =
-      start-hosts (run .entries) (run .count) (run .edition) (run .started) (ran .start) (ap toldStarting (ran .hosts))
-      (ran .array)
+      let e = ap toldStarting (ran .hosts) in
+      start-hosts (run .entries) (run .count) (run .edition) (run .started) (ran .start) e (ran .array)
 
-  -- the entry at a position is the one that was given
   entry-given : (k : ℕ) → k < run .count → entryAt (listOf run) k ≡ entryAt (run .entries) k
   entry-given k l = getD-take (run .count) (run .entries) k blankEntry l
+
+  -- an entry that supports the request
 
   supporter : (k : ℕ) → k < length (listOf run) → supports (askedIn run) (entryAt (listOf run) k) ≡ true
       → Supports run k
@@ -159,210 +181,202 @@ module _ (run : Run) (ran : Ran run) where
   by-supporter : (k : ℕ) → Supports run k
       → (k < length (listOf run)) × (supports (askedIn run) (entryAt (listOf run) k) ≡ true)
   by-supporter k s =
-      (rw long (s .0 .0), rw (entry-given k (s .0 .0)) (by-supports (askedIn run) (entryAt (run .entries) k) (s .0 .1) (s .1)))
+      let t = by-supports (askedIn run) (entryAt (run .entries) k) (s .0 .1) (s .1) in
+      (rw long (s .0 .0), rw (entry-given k (s .0 .0)) t)
 
-  some : (k : ℕ) → Supports run k → any (supports (askedIn run)) (listOf run) ≡ true
+  some : (k : ℕ) → Supports run k → isSupported run ≡ true
   some k s = let b = by-supporter k s in any-some (supports (askedIn run)) (listOf run) k (b .0) (b .1)
 
-  none : None run → any (supports (askedIn run)) (listOf run) ≡ false
+  some-back : isSupported run ≡ true → (k : ℕ) × Supports run k
+  some-back t =
+      let p = some-any (supports (askedIn run)) (listOf run) t in
+      (p .0, supporter (p .0) (p .1) (p .2))
+
+  none : None run → isSupported run ≡ false
   none n =
-      by-test (any (supports (askedIn run)) (listOf run))
-      (λ t. let p = some-any (supports (askedIn run)) (listOf run) t in absurd (n (p .0) (supporter (p .0) (p .1) (p .2))))
+      by-test (isSupported run)
+      (λ t. let p = some-back t in absurd (n (p .0) (p .1)))
       (λ t. t)
 
-  -- what is told of a run
-  told : (reply : Reply) (a : Requesting) (ps : List ℕ) (frame : Frame) → toldRequesting a ps frame ≡ gives reply
-      → requestedOf (run .id) (run .bytes) (run .started .host) (run .claim) ≡ gives reply → run .answered .answer ≡ a
-  told reply a ps frame e t =
+  none-back : isSupported run ≡ false → None run
+  none-back t k s = true-false (sym (some k s) ∙ t)
+
+  -- what the call answered is what is told
+
+  answer-told : (reply : Reply) (a : Requesting) (ps : List ℕ) (frame : Frame) → toldRequesting a ps frame ≡ gives reply
+      → toldIn run ≡ gives reply → run .answered .answer ≡ a
+  answer-told reply a ps frame e t =
       told-requesting-same (run .answered .answer) a (listed (run .answered .positions)) ps _ frame
       (ran .request .answer ∙ t ∙ sym e)
 
+  positions-told : (t : Told Reply) → toldIn run ≡ t → run .answered .positions ≡ filled (supportedIn t)
+  positions-told t e = ran .request .positions ∙ ap (λ (x : Told Reply). filled (supportedIn x)) e
+
+  id-told : (t : Told Reply) → toldIn run ≡ t → run .answered .id ≡ sentIn t .id
+  id-told t e = ran .request .sent-id ∙ ap (λ (x : Told Reply). sentIn x .id) e
+
+  bytes-told : (t : Told Reply) → toldIn run ≡ t → run .answered .bytes ≡ sentIn t .bytes
+  bytes-told t e = ran .request .sent-bytes ∙ ap (λ (x : Told Reply). sentIn x .bytes) e
+
   -- a request that is heard is answered by what its status comes to
-  heard-status : (address : ℕ) → Hears run address
-      → requestedOf (run .id) (run .bytes) (run .started .host) (run .claim)
-      ≡ gives (statusOf (askedIn run) (listOf run) address)
+  heard-status : (address : ℕ) → Hears run address → toldIn run ≡ gives (statusOf (askedIn run) (listOf run) address)
   unfolding addressHeld
   heard-status address k =
       let host = run .started .host in
-      let handed = lowest-wins (run .id) (run .bytes) host (run .claim) .fine (partsOf (run .id)) (k .claim) (k .frame) (begun .2) in
-      requested-given (run .id) (run .bytes) host (run .claim) (partsOf (run .id)) (run .bytes) handed refl
+      let parts = partsOf (run .id) in
+      let own = is-ours (askedIn run) address (k .ours) in
+      let first = lowest-wins (run .id) (run .bytes) host (run .claim) in
+      let handed = first .fine parts (k .claim) (k .frame) (begun .2) in
+      requested-given (run .id) (run .bytes) host (run .claim) parts (run .bytes) handed refl
       ∙ rw (begun .0, begun .1)
-      (answer-reply (run .edition) (partsOf (run .id)) (run .bytes) (listOf run) (run .claim) (askedIn run) (k .request) refl (k .dgn)
-      ∙ reply-held (askedIn run) (listOf run) (run .claim) (held address) (sym (k .holds)) address (is-ours (askedIn run) address (k .ours)) (k .status) refl)
+      (answer-reply (run .edition) parts (run .bytes) (listOf run) (run .claim) (askedIn run) (k .request) refl (k .dgn)
+      ∙ reply-held (askedIn run) (listOf run) (run .claim) (held address) (sym (k .holds)) address own (k .status) refl)
 
   -- the three answers of a request that is heard
 
-  reports : (address : ℕ) → Hears run address → any (supports (askedIn run)) (listOf run) ≡ true
-      → Reports run (Supports run)
+  reports : (address : ℕ) → Hears run address → isSupported run ≡ true → Reports run (Supports run)
   reports address k n =
       let ps = positionsWhere (supports (askedIn run)) (listOf run) in
       let t = heard-status address k ∙ ap gives (status-supported (askedIn run) (listOf run) address n) in
-      let f : run .answered .positions ≡ filled ps = ran .request .positions ∙ ap (λ (x : Told Reply). filled (supportedIn x)) t in
-      let l : listed (run .answered .positions) ≡ ps = ap listed f ∙ Picks.listed-filled ps in
+      let l : listed (run .answered .positions) ≡ ps = ap listed (positions-told _ t) ∙ Picks.listed-filled ps in
       record {
-        answer = told (supported ps) Supported ps noFrame refl t;
+        answer = answer-told (supported ps) Supported ps noFrame refl t;
         exactly = λ j.
             let x = positions-exact (supports (askedIn run)) (listOf run) j in
             ((λ s. let y = x .0 (rw l at s) in supporter j (y .0) (y .1)), (λ s. rw l (x .1 (by-supporter j s))));
         rise = rw l (positions-rise (supports (askedIn run)) (listOf run));
-        no-nak = (ran .request .sent-id ∙ ap (λ (x : Told Reply). sentIn x .id) t, ran .request .sent-bytes ∙ ap (λ (x : Told Reply). sentIn x .bytes) t);
+        no-nak = (id-told _ t, bytes-told _ t);
       }
 
-  naks : (address : ℕ) → Hears run address → any (supports (askedIn run)) (listOf run) ≡ false
-      → (destination run ≡ everyone → ⊥) → (requester run ≡ noAddress → ⊥)
+  naks : (address : ℕ) → Hears run address → isSupported run ≡ false → (destination run ≡ everyone → ⊥)
+      → (requester run ≡ noAddress → ⊥)
       → SendsNak run address (instanceAsked (run .edition) (run .bytes))
   unfolding acknowledgmentBytes
   naks address k n d q =
-      let frame = acknowledgmentFrame address (nakTo (askedIn run)) in
+      let reply = nakTo (askedIn run) in
+      let frame = acknowledgmentFrame address reply in
       let t = heard-status address k ∙ ap gives (status-nak (askedIn run) (listOf run) address n d q) in
-      let i : run .answered .id ≡ frame .id = ran .request .sent-id ∙ ap (λ (x : Told Reply). sentIn x .id) t in
-      let b : run .answered .bytes ≡ frame .bytes = ran .request .sent-bytes ∙ ap (λ (x : Told Reply). sentIn x .bytes) t in
+      let low = held-low (run .claim) address (k .claim) (k .holds) in
       record {
-        answer = told (nak frame) SendNak [] frame refl t;
-        identifier = rw (i, b) (acknowledgment-checked address (nakTo (askedIn run)) (held-low (run .claim) address (k .claim) (k .holds)) (source-low (run .id)));
-        data-bytes = b;
-        no-positions = ran .request .positions ∙ ap (λ (x : Told Reply). filled (supportedIn x)) t;
+        answer = answer-told (nak frame) SendNak [] frame refl t;
+        identifier = rw (id-told _ t, bytes-told _ t) (acknowledgment-checked address reply low (source-low (run .id)));
+        data-bytes = bytes-told _ t;
+        no-positions = positions-told _ t;
       }
 
-  quiet-to-all : (address : ℕ) → Hears run address → any (supports (askedIn run)) (listOf run) ≡ false
-      → destination run ≡ everyone → run .answered .answer ≡ Unsupported
+  quiet-to-all : (address : ℕ) → Hears run address → isSupported run ≡ false → destination run ≡ everyone
+      → run .answered .answer ≡ Unsupported
   quiet-to-all address k n d =
-      told unsupported Unsupported [] noFrame refl
+      answer-told unsupported Unsupported [] noFrame refl
       (heard-status address k ∙ ap gives (status-global (askedIn run) (listOf run) address n d))
 
-  quiet : (address : ℕ) → Hears run address → any (supports (askedIn run)) (listOf run) ≡ false
+  quiet-to-nobody : (address : ℕ) → Hears run address → isSupported run ≡ false → (destination run ≡ everyone → ⊥)
+      → requester run ≡ noAddress → run .answered .answer ≡ Unsupported
+  quiet-to-nobody address k n d q =
+      answer-told unsupported Unsupported [] noFrame refl
+      (heard-status address k ∙ ap gives (status-nobody (askedIn run) (listOf run) address n d q))
+
+  quiet : (address : ℕ) → Hears run address → isSupported run ≡ false
       → (destination run ≡ everyone) ⊎ (requester run ≡ noAddress) → run .answered .answer ≡ Unsupported
   quiet address k n (inl d) = quiet-to-all address k n d
   quiet address k n (inr q) =
       by-test (destination run =? everyone)
       (λ t. quiet-to-all address k n (eqb-true (destination run) everyone t))
-      (λ t.
-      told unsupported Unsupported [] noFrame refl
-      (heard-status address k ∙ ap gives (status-nobody (askedIn run) (listOf run) address n (eqb-false (destination run) everyone t) q)))
+      (λ t. quiet-to-nobody address k n (eqb-false (destination run) everyone t) q)
 
-  -- how an answer came about
+  -- and the other way round: how an answer came about
 
   abbrev frameOf : Frame
   frameOf = record { id = run .answered .id; bytes = run .answered .bytes }
 
   tells : (a : Requesting) (reply : Reply) → run .answered .answer ≡ a
-      → toldRequesting a (listed (run .answered .positions)) frameOf ≡ gives reply
-      → requestedOf (run .id) (run .bytes) (run .started .host) (run .claim) ≡ gives reply
+      → toldRequesting a (listed (run .answered .positions)) frameOf ≡ gives reply → toldIn run ≡ gives reply
   tells a reply e g =
-      sym (ran .request .answer) ∙ ap (λ (x : Requesting). toldRequesting x (listed (run .answered .positions)) frameOf) e ∙ g
+      let w = ap (λ (x : Requesting). toldRequesting x (listed (run .answered .positions)) frameOf) e in
+      sym (ran .request .answer) ∙ w ∙ g
 
-  came-by : (reply : Reply) → (reply ≡ Requests.nothingToDo → ⊥)
-      → requestedOf (run .id) (run .bytes) (run .started .host) (run .claim) ≡ gives reply
-      → Came (askedIn run) (listOf run) (run .claim) reply × ((address : ℕ) → Heard (askedIn run) (run .claim) address → Hears run address)
+  hears : (reply : Reply) → (reply ≡ Requests.nothingToDo → ⊥)
+      → Answered (run .id) (run .bytes) (run .started .host) (run .claim) reply
+      → (address : ℕ) → Heard (askedIn run) (run .claim) address → Hears run address
+  hears reply n a address k =
+      record {
+        claim = a .sound;
+        holds = k .holds;
+        frame = a .frame;
+        request = a .asks n .0;
+        dgn = a .asks n .1;
+        status = k .status;
+        ours = by-test (destination run =? everyone)
+            (λ t. inr (eqb-true (destination run) everyone t))
+            (λ t. inl (our-address (askedIn run) address (k .ours) (eqb-false (destination run) everyone t)));
+      }
+
+  came-by : (reply : Reply) → (reply ≡ Requests.nothingToDo → ⊥) → toldIn run ≡ gives reply
+      → Came (askedIn run) (listOf run) (run .claim) reply
+      × ((address : ℕ) → Heard (askedIn run) (run .claim) address → Hears run address)
   came-by reply n t =
       let a = answered (run .id) (run .bytes) (run .started .host) (run .claim) reply t in
-      let r = a .asks n in (
-        rw (begun .0, begun .1) at (a .came-about),
-        (λ address k. record {
-          claim = a .sound;
-          holds = k .holds;
-          frame = a .frame;
-          request = r .0;
-          dgn = r .1;
-          status = k .status;
-          ours = by-test (destination run =? everyone)
-              (λ t. inr (eqb-true (destination run) everyone t))
-              (λ t. inl (our-address (askedIn run) address (k .ours) (eqb-false (destination run) everyone t)));
-        }),
-      )
+      (rw (begun .0, begun .1) at (a .came-about), hears reply n a)
 
--- the reply that is told decides how it came about
+  reported-run : run .answered .answer ≡ Supported → (address : ℕ) × Hears run address × (isSupported run ≡ true)
+  reported-run e =
+      let reply = supported (listed (run .answered .positions)) in
+      let c = came-by reply supported-is-other (tells Supported reply e refl) in
+      reported-by (askedIn run) (listOf run) (run .claim) reply _ refl (c .0)
+      (λ address k n p. (address, c .1 address k, n))
 
-module _ (asked : Asked) (es : List Entry) (c : Claim) where
-  reported-by : {P : Type 0} (reply : Reply) (ps : List ℕ) → reply ≡ supported ps → Came asked es c reply
-      → ((address : ℕ) → Heard asked c address → any (supports asked) es ≡ true → P) → P
-  reported-by reply ps e elsewhere f = let z : _≡_ {A = ℕ} 0 1 = cc in absurd (omega arith)
-  reported-by reply ps e (claimed d) f = let z : _≡_ {A = ℕ} 0 1 = cc in absurd (omega arith)
-  reported-by reply ps e (reported address k n) f = f address k n
-  reported-by reply ps e (unanswered address k n w) f = let z : _≡_ {A = ℕ} 0 1 = cc in absurd (omega arith)
-  reported-by reply ps e (denied address k n t q) f = let z : _≡_ {A = ℕ} 0 1 = cc in absurd (omega arith)
+  denied-run : run .answered .answer ≡ SendNak
+      → (address : ℕ) × Hears run address × (isSupported run ≡ false) × (destination run ≡ everyone → ⊥)
+      × (requester run ≡ noAddress → ⊥)
+  denied-run e =
+      let c = came-by (nak frameOf) nak-is-other (tells SendNak (nak frameOf) e refl) in
+      denied-by (askedIn run) (listOf run) (run .claim) (nak frameOf) frameOf refl (c .0)
+      (λ address k n t q f. (address, c .1 address k, n, t, q))
 
-  denied-by : {P : Type 0} (reply : Reply) (frame : Frame) → reply ≡ nak frame → Came asked es c reply
-      → ((address : ℕ) → Heard asked c address → any (supports asked) es ≡ false → (asked .destination ≡ everyone → ⊥)
-      → (asked .source ≡ noAddress → ⊥) → P) → P
-  denied-by reply frame e elsewhere f = let z : _≡_ {A = ℕ} 0 1 = cc in absurd (omega arith)
-  denied-by reply frame e (claimed d) f = let z : _≡_ {A = ℕ} 0 1 = cc in absurd (omega arith)
-  denied-by reply frame e (reported address k n) f = let z : _≡_ {A = ℕ} 0 1 = cc in absurd (omega arith)
-  denied-by reply frame e (unanswered address k n w) f = let z : _≡_ {A = ℕ} 0 1 = cc in absurd (omega arith)
-  denied-by reply frame e (denied address k n t q) f = f address k n t q
-
-  unanswered-by : {P : Type 0} (reply : Reply) → reply ≡ unsupported → Came asked es c reply
-      → ((address : ℕ) → Heard asked c address → any (supports asked) es ≡ false
-      → (asked .destination ≡ everyone) ⊎ (asked .source ≡ noAddress) → P) → P
-  unanswered-by reply e elsewhere f = let z : _≡_ {A = ℕ} 0 1 = cc in absurd (omega arith)
-  unanswered-by reply e (claimed d) f = let z : _≡_ {A = ℕ} 0 1 = cc in absurd (omega arith)
-  unanswered-by reply e (reported address k n) f = let z : _≡_ {A = ℕ} 0 1 = cc in absurd (omega arith)
-  unanswered-by reply e (unanswered address k n w) f = f address k n w
-  unanswered-by reply e (denied address k n t q) f = let z : _≡_ {A = ℕ} 0 1 = cc in absurd (omega arith)
-
--- no entry supports it, where the test says so
-no-supporter : (run : Run) → Ran run → any (supports (askedIn run)) (listOf run) ≡ false → None run
-no-supporter run ran n k s = true-false (sym (some run ran k s) ∙ n)
+  unanswered-run : run .answered .answer ≡ Unsupported
+      → (address : ℕ) × Hears run address × (isSupported run ≡ false)
+      × ((destination run ≡ everyone) ⊎ (requester run ≡ noAddress))
+  unanswered-run e =
+      let c = came-by unsupported unsupported-is-other (tells Unsupported unsupported e refl) in
+      unanswered-by (askedIn run) (listOf run) (run .claim) unsupported refl (c .0)
+      (λ address k n w. (address, c .1 address k, n, w))
 
 -- what the editions share
 
-module _ (run : Run) (ran : Ran run) where
-  reported-run : run .answered .answer ≡ Supported
-      → (address : ℕ) × Hears run address × (any (supports (askedIn run)) (listOf run) ≡ true)
-  reported-run e =
-      let ps = listed (run .answered .positions) in
-      let c = came-by run ran (supported ps) (λ z. let y : _≡_ {A = ℕ} 0 1 = cc in absurd (omega arith)) (tells run ran Supported (supported ps) e refl) in
-      reported-by (askedIn run) (listOf run) (run .claim) (supported ps) ps refl (c .0) (λ address k n. (address, c .1 address k, n))
-
-  denied-run : run .answered .answer ≡ SendNak
-      → (address : ℕ) × Hears run address × (any (supports (askedIn run)) (listOf run) ≡ false)
-      × (destination run ≡ everyone → ⊥) × (requester run ≡ noAddress → ⊥)
-  denied-run e =
-      let frame : Frame = record { id = run .answered .id; bytes = run .answered .bytes } in
-      let c = came-by run ran (nak frame) (λ z. let y : _≡_ {A = ℕ} 0 1 = cc in absurd (omega arith)) (tells run ran SendNak (nak frame) e refl) in
-      denied-by (askedIn run) (listOf run) (run .claim) (nak frame) frame refl (c .0) (λ address k n t q. (address, c .1 address k, n, t, q))
-
-  unanswered-run : run .answered .answer ≡ Unsupported
-      → (address : ℕ) × Hears run address × (any (supports (askedIn run)) (listOf run) ≡ false)
-      × ((destination run ≡ everyone) ⊎ (requester run ≡ noAddress))
-  unanswered-run e =
-      let c = came-by run ran unsupported (λ z. let y : _≡_ {A = ℕ} 0 1 = cc in absurd (omega arith)) (tells run ran Unsupported unsupported e refl) in
-      unanswered-by (askedIn run) (listOf run) (run .claim) unsupported refl (c .0) (λ address k n w. (address, c .1 address k, n, w))
-
 pub reports-exactly : the.ReportsExactly
 reports-exactly run ran = (
-  (λ e.
-      let r = reported-run run ran e in
-      let p = some-any (supports (askedIn run)) (listOf run) (r .2) in
-      (r .0, r .1, (p .0, supporter run ran (p .0) (p .1) (p .2)))),
+  (λ e. let r = reported-run run ran e in (r .0, r .1, some-back run ran (r .2))),
   (λ s. reports run ran (s .0) (s .1) (some run ran (s .2 .0) (s .2 .1)) .answer),
 )
 
 pub positions-exactly : the.PositionsExactly
 positions-exactly run ran e = let r = reported-run run ran e in reports run ran (r .0) (r .1) (r .2)
 
--- an address that is held is not FFh
+-- an address that is held is not FFh, and is one
+
 held-one : (run : Run) (address : ℕ) → Hears run address → destination run ≡ address → destination run ≡ everyone → ⊥
 held-one run address k d e =
     let l = held-low (run .claim) address (k .claim) (k .holds) in
     omega arith
 
+same-address : (run : Run) (a b : ℕ) → Hears run a → Hears run b → a ≡ b
+same-address run a b k l = let e : held a ≡ held b = sym (k .holds) ∙ l .holds in cc
+
+-- a request that is not to everyone is to us
+directed : (run : Run) (address : ℕ) → Hears run address → (destination run ≡ everyone → ⊥) → destination run ≡ address
+directed run address k n = go (k .ours)
+  where
+    go : (destination run ≡ address) ⊎ (destination run ≡ everyone) → destination run ≡ address
+    go (inl e) = e
+    go (inr e) = absurd (n e)
+
 pub nak-exactly : the.NakExactly
 nak-exactly run ran = (
   (λ e.
       let r = denied-run run ran e in
-      (r .0, r .1, no-supporter run ran (r .2), directed (r .1 .ours) (r .3), r .4)),
+      (r .0, r .1, none-back run ran (r .2), directed run (r .0) (r .1) (r .3), r .4)),
   (λ s. naks run ran (s .0) (s .1) (none run ran (s .2)) (held-one run (s .0) (s .1) (s .3)) (s .4) .answer),
 )
-  where
-    directed : {address : ℕ} → (destination run ≡ address) ⊎ (destination run ≡ everyone) → (destination run ≡ everyone → ⊥)
-        → destination run ≡ address
-    directed (inl e) n = e
-    directed (inr e) n = absurd (n e)
-
--- the address that is held is one
-same-address : (run : Run) (a b : ℕ) → Hears run a → Hears run b → a ≡ b
-same-address run a b k l = let e : held a ≡ held b = sym (k .holds) ∙ l .holds in cc
 
 pub nak-names : the.NakNames
 nak-names run address ran k e =
@@ -371,7 +385,7 @@ nak-names run address ran k e =
 
 pub quiet-exactly : the.QuietExactly
 quiet-exactly run ran = (
-  (λ e. let r = unanswered-run run ran e in (r .0, r .1, no-supporter run ran (r .2), r .3)),
+  (λ e. let r = unanswered-run run ran e in (r .0, r .1, none-back run ran (r .2), r .3)),
   (λ s. quiet run ran (s .0) (s .1) (none run ran (s .2)) (s .3)),
 )
 
@@ -425,21 +439,24 @@ all-nak run address ran t h b d q n =
     (naks run ran address h (none run ran (λ k s. n k (s .0))) (held-one run address h d) q)
 
 pub all-nak-only : the.AllNakOnly
-all-nak-only run ran t b e k s = no-supporter run ran (denied-run run ran e .2) k (all-supports run t b k s)
+all-nak-only run ran t b e k s = none-back run ran (denied-run run ran e .2) k (all-supports run t b k s)
 
 pub one-reports : the.OneReports
 one-reports run address instance k ran t h b n s =
-    reports-same run (Supports run) (SupportsAs instance run) (supports-one run t instance b n) (one-supports run t instance b)
-    (reports run ran address h (some run ran k (one-supports run t instance b k s)))
+    let to = supports-one run t instance b n in
+    let back = one-supports run t instance b in
+    reports-same run (Supports run) (SupportsAs instance run) to back
+    (reports run ran address h (some run ran k (back k s)))
 
 pub one-nak : the.OneNak
 one-nak run address instance ran t h b n d q f =
     rw (instance-two run instance t b) at
-    (naks run ran address h (none run ran (λ k s. f k (supports-one run t instance b n k s))) (held-one run address h d) q)
+    (let no = none run ran (λ k s. f k (supports-one run t instance b n k s)) in
+    naks run ran address h no (held-one run address h d) q)
 
 pub one-nak-only : the.OneNakOnly
 one-nak-only run instance ran t b e k s =
-    no-supporter run ran (denied-run run ran e .2) k (one-supports run t instance b k s)
+    none-back run ran (denied-run run ran e .2) k (one-supports run t instance b k s)
 
 -- every hosted instance is 1 to 250
 
@@ -485,7 +502,8 @@ all-asked Two bytes e = e
 
 pub editions-agree : the.EditionsAgree
 editions-agree id bytes h h′ c r r′ p q n e b =
-    let t = request-same id bytes bytes h h′ c refl n e refl (all-asked (h .edition) bytes b ∙ sym (all-asked (h′ .edition) bytes b)) in
+    let i = all-asked (h .edition) bytes b ∙ sym (all-asked (h′ .edition) bytes b) in
+    let t = request-same id bytes bytes h h′ c refl n e refl i in
     request-only id bytes h c r r′ p (rw (sym t) at q)
 
 pub one-ignores-byte-three : the.OneIgnoresByteThree
@@ -517,8 +535,9 @@ unfolding answerOf
 claim-answered edition edition′ parts bytes bytes′ es es′ c d e =
     let asked = askedOf edition parts bytes in
     let asked′ = askedOf edition′ parts bytes′ in
+    let o = ours-same asked asked′ (standOf c) refl d in
     let r : replyOf asked es c ≡ replyOf asked′ es′ c =
-    claim-replied asked es c e ∙ rw (ours-same asked asked′ (standOf c) refl d) (sym (claim-replied asked′ es′ c (sym d ∙ e))) in
+    claim-replied asked es c e ∙ rw o (sym (claim-replied asked′ es′ c (sym d ∙ e))) in
     rw (r, d)
 
 claim-requested : (id : ℕ) (bytes bytes′ : List ℕ) (h h′ : Host) (c : Claim) → h .count ≡ h′ .count
@@ -534,7 +553,9 @@ claim-requested id bytes bytes′ h h′ c n e l b d =
         → (given t then λ p. answerOf (h .edition) p bytes (hosted h) c)
         ≡ (given t then λ p. answerOf (h′ .edition) p bytes′ (hosted h′) c)
     go (refused n) = refl
-    go (gives p) = claim-answered (h .edition) (h′ .edition) p bytes bytes′ (hosted h) (hosted h′) c (dgn-of-three bytes bytes′ b) d
+    go (gives p) =
+        let f = dgn-of-three bytes bytes′ b in
+        claim-answered (h .edition) (h′ .edition) p bytes bytes′ (hosted h) (hosted h′) c f d
 
 pub claim-for-any-instance : the.ClaimForAnyInstance
 claim-for-any-instance id bytes bytes′ h h′ c r r′ p q n e l b d =
@@ -605,4 +626,9 @@ pub heat-pump-example : the.HeatPumpExample
 unfolding requestedOf answerOf replyOf statusOf handedIn isWellFormed isEntry isHostedDgn noPairRepeats isSamePair isOurs isOurAddress supports instanceAsked requestedDgn dgnAt addressHeld positionsWhere acknowledgmentId acknowledgmentBytes checkedOf sourceAllowed identifierOf priorityOf reservedOf dgnOf sourceOf catalogueForm destinationOf isAddressed numberOf bytesOf
 heat-pump-example c s e =
     let b = both-true (keepsRules c) (holdsList c) s in
-    record { second = rw (b .0, b .1, e); first = rw (b .0, b .1, e); all = rw (b .0, b .1, e); edition-one = rw (b .0, b .1, e) }
+    record {
+      second = rw (b .0, b .1, e);
+      first = rw (b .0, b .1, e);
+      all = rw (b .0, b .1, e);
+      edition-one = rw (b .0, b .1, e);
+    }

@@ -224,65 +224,76 @@ answered id bytes h c reply e =
     rw (sym n)
     (record { sound = f .claim; source = l; frame = g; asks = λ z. absurd (z refl); came-about = elsewhere })))
 
--- positions are given from a held address
+-- the reply that is told decides how it came about
 
-supported-came : (asked : Asked) (es : List Entry) (c : Claim) (reply : Reply) (ps : List ℕ) → reply ≡ supported ps
-    → Came asked es c reply
-    → (address : ℕ) × (standOf c ≡ held address) × (ps ≡ positionsWhere (supports asked) es)
-supported-came asked es c reply ps e elsewhere = let z : _≡_ {A = ℕ} 0 1 = cc in absurd (omega arith)
-supported-came asked es c reply ps e (claimed d) = let z : _≡_ {A = ℕ} 0 1 = cc in absurd (omega arith)
-supported-came asked es c reply ps e (reported address h n) = (address, h .holds, cc)
-supported-came asked es c reply ps e (unanswered address h n w) = let z : _≡_ {A = ℕ} 0 1 = cc in absurd (omega arith)
-supported-came asked es c reply ps e (denied address h n t q) =
-    let z : _≡_ {A = ℕ} 0 1 = cc in absurd (omega arith)
+module _ (asked : Asked) (es : List Entry) (c : Claim) where
+  claimed-by : {P : Type 0} (reply : Reply) (frame : Frame) → reply ≡ claims frame → Came asked es c reply
+      → (asked .dgn ≡ addressClaimed → frame ≡ claimFrame c → P) → P
+  claimed-by reply frame e elsewhere f = let z : _≡_ {A = ℕ} 0 1 = cc in absurd (omega arith)
+  claimed-by reply frame e (claimed d) f = f d cc
+  claimed-by reply frame e (reported address h n) f = let z : _≡_ {A = ℕ} 0 1 = cc in absurd (omega arith)
+  claimed-by reply frame e (unanswered address h n w) f = let z : _≡_ {A = ℕ} 0 1 = cc in absurd (omega arith)
+  claimed-by reply frame e (denied address h n t q) f = let z : _≡_ {A = ℕ} 0 1 = cc in absurd (omega arith)
+
+  pub reported-by : {P : Type 0} (reply : Reply) (ps : List ℕ) → reply ≡ supported ps → Came asked es c reply
+      → ((address : ℕ) → Heard asked c address → any (supports asked) es ≡ true
+      → ps ≡ positionsWhere (supports asked) es → P) → P
+  reported-by reply ps e elsewhere f = let z : _≡_ {A = ℕ} 0 1 = cc in absurd (omega arith)
+  reported-by reply ps e (claimed d) f = let z : _≡_ {A = ℕ} 0 1 = cc in absurd (omega arith)
+  reported-by reply ps e (reported address h n) f = f address h n cc
+  reported-by reply ps e (unanswered address h n w) f = let z : _≡_ {A = ℕ} 0 1 = cc in absurd (omega arith)
+  reported-by reply ps e (denied address h n t q) f = let z : _≡_ {A = ℕ} 0 1 = cc in absurd (omega arith)
+
+  pub unanswered-by : {P : Type 0} (reply : Reply) → reply ≡ unsupported → Came asked es c reply
+      → ((address : ℕ) → Heard asked c address → any (supports asked) es ≡ false
+      → (asked .destination ≡ everyone) ⊎ (asked .source ≡ noAddress) → P) → P
+  unanswered-by reply e elsewhere f = let z : _≡_ {A = ℕ} 0 1 = cc in absurd (omega arith)
+  unanswered-by reply e (claimed d) f = let z : _≡_ {A = ℕ} 0 1 = cc in absurd (omega arith)
+  unanswered-by reply e (reported address h n) f = let z : _≡_ {A = ℕ} 0 1 = cc in absurd (omega arith)
+  unanswered-by reply e (unanswered address h n w) f = f address h n w
+  unanswered-by reply e (denied address h n t q) f = let z : _≡_ {A = ℕ} 0 1 = cc in absurd (omega arith)
+
+  pub denied-by : {P : Type 0} (reply : Reply) (frame : Frame) → reply ≡ nak frame → Came asked es c reply
+      → ((address : ℕ) → Heard asked c address → any (supports asked) es ≡ false → (asked .destination ≡ everyone → ⊥)
+      → (asked .source ≡ noAddress → ⊥) → frame ≡ acknowledgmentFrame address (nakTo asked) → P) → P
+  denied-by reply frame e elsewhere f = let z : _≡_ {A = ℕ} 0 1 = cc in absurd (omega arith)
+  denied-by reply frame e (claimed d) f = let z : _≡_ {A = ℕ} 0 1 = cc in absurd (omega arith)
+  denied-by reply frame e (reported address h n) f = let z : _≡_ {A = ℕ} 0 1 = cc in absurd (omega arith)
+  denied-by reply frame e (unanswered address h n w) f = let z : _≡_ {A = ℕ} 0 1 = cc in absurd (omega arith)
+  denied-by reply frame e (denied address h n t q) f = f address h n t q cc
+
+-- positions are given from a held address
 
 pub supported-held : the.SupportedHeld
 supported-held id bytes h c ps e =
-    supported-came (askedOf (h .edition) (partsOf id) bytes) (hosted h) c (supported ps) ps refl
+    reported-by (askedOf (h .edition) (partsOf id) bytes) (hosted h) c (supported ps) ps refl
     (answered id bytes h c (supported ps) e .came-about)
+    (λ address k n p. (address, k .holds, p))
 
 -- a NAK
 
-pub our-address : (asked : Asked) (address : ℕ) → isOurs asked (held address) ≡ true → (asked .destination ≡ everyone → ⊥)
+pub our-address : (asked : Asked) (address : ℕ) → isOurs asked (held address) ≡ true
+    → (asked .destination ≡ everyone → ⊥)
     → asked .destination ≡ address
 unfolding isOurs isOurAddress
 our-address asked address o n =
     eqb-true (asked .destination) address (rw (ne-eqb (asked .destination) everyone n) at o)
 
-nak-came : (id : ℕ) (bytes : List ℕ) (h : Host) (c : Claim) (reply : Reply) (frame : Frame) → reply ≡ nak frame
-    → isSound c ≡ true → sourceOf id ≤ noAddress → Came (askedOf (h .edition) (partsOf id) bytes) (hosted h) c reply
-    → the.NakSound id bytes h c frame
-nak-came id bytes h c reply frame e s l elsewhere = let z : _≡_ {A = ℕ} 0 1 = cc in absurd (omega arith)
-nak-came id bytes h c reply frame e s l (claimed d) = let z : _≡_ {A = ℕ} 0 1 = cc in absurd (omega arith)
-nak-came id bytes h c reply frame e s l (reported address k n) = let z : _≡_ {A = ℕ} 0 1 = cc in absurd (omega arith)
-nak-came id bytes h c reply frame e s l (unanswered address k n w) = let z : _≡_ {A = ℕ} 0 1 = cc in absurd (omega arith)
-nak-came id bytes h c reply frame e s l (denied address k n d q) =
+pub nak-is-sound : the.NakIsSound
+nak-is-sound id bytes h c frame e =
     let asked = askedOf (h .edition) (partsOf id) bytes in
-    let f : frame ≡ acknowledgmentFrame address (nakTo asked) = cc in
+    let a = answered id bytes h c (nak frame) e in
+    let l = a .source in
+    denied-by asked (hosted h) c (nak frame) frame refl (a .came-about)
+    (λ address k n d q f.
     record {
       address = address;
       holds = k .holds;
       directed = our-address asked address (k .ours) d;
       requester = omega (arith, q);
       unsupported = n;
-      parts = rw f (acknowledgment-checked address (nakTo asked) (held-low c address s (k .holds)) (omega arith));
-    }
-
-pub nak-is-sound : the.NakIsSound
-nak-is-sound id bytes h c frame e =
-    let a = answered id bytes h c (nak frame) e in
-    nak-came id bytes h c (nak frame) frame refl (a .sound) (a .source) (a .came-about)
-
--- our claim
-
-claims-came : (asked : Asked) (es : List Entry) (c : Claim) (reply : Reply) (frame : Frame) → reply ≡ claims frame
-    → Came asked es c reply → (asked .dgn ≡ addressClaimed) × (frame ≡ claimFrame c)
-claims-came asked es c reply frame e elsewhere = let z : _≡_ {A = ℕ} 0 1 = cc in absurd (omega arith)
-claims-came asked es c reply frame e (claimed d) = (d, cc)
-claims-came asked es c reply frame e (reported address h n) = let z : _≡_ {A = ℕ} 0 1 = cc in absurd (omega arith)
-claims-came asked es c reply frame e (unanswered address h n w) = let z : _≡_ {A = ℕ} 0 1 = cc in absurd (omega arith)
-claims-came asked es c reply frame e (denied address h n t q) =
-    let z : _≡_ {A = ℕ} 0 1 = cc in absurd (omega arith)
+      parts = rw f (acknowledgment-checked address (nakTo asked) (held-low c address (a .sound) (k .holds)) (omega arith));
+    })
 
 -- no other answer has a frame
 unsent : (a : Requesting) (ps : List ℕ) (frame : Frame) → (a ≡ Requesting.SendNak → ⊥) → (a ≡ Requesting.SendClaim → ⊥) → sentIn (toldRequesting a ps frame) ≡ noFrame
@@ -307,8 +318,8 @@ request-sends-ours id bytes h c r p =
       (λ a.
           let t : requestedOf id bytes h c ≡ gives (claims frame) = sym (p .answer) ∙ ap (λ (x : Requesting). toldRequesting x (listed (r .positions)) frame) a in
           let k = answered id bytes h c (claims frame) t in
-          let m = claims-came (askedOf (h .edition) (partsOf id) bytes) (hosted h) c (claims frame) frame refl (k .came-about) in
-          (m .0, ap (λ (x : Frame). sourceOf (x .id)) (m .1) ∙ claim-source c (k .sound))),
+          claimed-by (askedOf (h .edition) (partsOf id) bytes) (hosted h) c (claims frame) frame refl (k .came-about)
+          (λ d f. (d, ap (λ (x : Frame). sourceOf (x .id)) f ∙ claim-source c (k .sound)))),
       (λ n m.
           let u : sentIn (requestedOf id bytes h c) ≡ noFrame = ap sentIn (sym (p .answer)) ∙ unsent (r .answer) _ frame n m in
           (p .sent-id ∙ rw u, p .sent-bytes ∙ rw u)),

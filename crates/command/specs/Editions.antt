@@ -1,4 +1,4 @@
--- The two editions of requests (RULES 10.27 to 10.33; 001, 3.2.4.3 and 3.2.4.4 as it proposes them), over runs of two
+-- The two editions of requests (RULES 10.27 to 10.34; 001, 3.2.4.3 and 3.2.4.4 as it proposes them), over runs of two
 -- calls: a node is started in an edition, and the host that the start gave hears a request. proofs/Editions.antt has a
 -- proof of each law, under the same name written small.
 use mathlib.Core.Path.{_≡_}
@@ -21,7 +21,8 @@ use Rattle.command.specs.Hosted.{mostEntries, blankEntry, hosted}
 use Rattle.command.specs.Positions.{positionsWhere, filled, listed}
 use Rattle.command.specs.Handed.{handedIn, addressHeld}
 use Rattle.command.specs.Acknowledgment.{claimFrame, acknowledgmentFrame}
-use Rattle.command.specs.Requests.{requestedDgn, allInstances, instanceAsked, askedOf, isOurs, Reply, nothingToDo, claims, supported, nak, unsupported, requestedOf}
+use Rattle.command.specs.Requests.{requestedDgn, allInstances, instanceAsked, askedOf, isOurs, requestedOf}
+use Rattle.command.specs.Requests.{Reply, nothingToDo, claims, supported, nak, unsupported}
 use Rattle.command.specs.Promises.{Start, Route, Request, RequestedBy}
 use Rattle.command.specs.Laws.{StandsIn, entryAt}
 use Rattle.command.specs.declared.Acknowledgment.{Acknowledgment}
@@ -109,8 +110,8 @@ pub record SendsNak (run : Run) (address instance : ℕ) : Type 0 where
   pub data-bytes : run .answered .bytes ≡ 1 ∷ instance ∷ 0xFF ∷ 0xFF ∷ requester run ∷ dgnBytes (dgnAsked run)
   pub no-positions : run .answered .positions ≡ filled []
 
--- What the editions share, with `instanceAsked` for what they do not: positions, NAKs, and answers with nothing to send,
--- each exactly when.
+-- What the editions share, with `instanceAsked` for what they do not: positions, NAKs, and answers with nothing to
+-- send, each exactly when.
 
 abbrev pub ReportsExactly : Type 0
 ReportsExactly =
@@ -147,8 +148,8 @@ GlobalNoNak = (run : Run) → Ran run → destination run ≡ everyone → run .
 abbrev pub NobodyNoNak : Type 0
 NobodyNoNak = (run : Run) → Ran run → requester run ≡ noAddress → run .answered .answer ≡ SendNak → ⊥
 
--- Edition two, a request for all instances: if an entry supports the DGN, whatever its instance is, each that does is to
--- answer, and there is no NAK; a request to us alone gets the NAK if none of them does, and only then.
+-- Edition two, a request for all instances: if an entry supports the DGN, whatever its instance is, each that does is
+-- to answer, and there is no NAK; a request to us alone gets the NAK if none of them does, and only then.
 
 abbrev pub AllReport : Type 0
 AllReport =
@@ -195,8 +196,8 @@ NobodysInstance =
     → (requester run ≡ noAddress → ⊥)
     → SendsNak run address instance
 
--- Between the editions. Hosts of the same entries answer a request for all instances alike, whatever their editions are,
--- and a request for EE00h whatever byte 3 is too; commands know no edition.
+-- Between the editions. Hosts of the same entries answer a request for all instances alike, whatever their editions
+-- are, and a request for EE00h whatever byte 3 is too; commands know no edition.
 
 abbrev pub EditionsAgree : Type 0
 EditionsAgree =
@@ -214,8 +215,8 @@ CommandsHaveNoEdition =
     (id : ℕ) (bytes : List ℕ) (h h′ : Host) (c : Claim) (r r′ : Routed) → Route id bytes h c r → Route id bytes h′ c r′
     → h .count ≡ h′ .count → hosted h ≡ hosted h′ → r ≡ r′
 
--- Edition one is what the rules were before there were two: byte 3 changes nothing, and a call keeps the former promise,
--- which was over the definition that follows.
+-- Edition one is what the rules were before there were two: byte 3 changes nothing, and a call keeps the former
+-- promise, which was over the definition that follows.
 
 abbrev pub OneIgnoresByteThree : Type 0
 OneIgnoresByteThree =

@@ -1,5 +1,5 @@
--- Requests for a DGN (RULES 10.11 to 10.20 and 10.27; 000 and 001, 3.2.4.3 and 3.2.4.4), in two editions. They differ in
--- one definition, `instanceAsked`: byte 3 of a request is looked at in edition two alone. Byte 4 is in neither.
+-- Requests for a DGN (RULES 10.11 to 10.20, 10.27 and 10.28; 000 and 001, 3.2.4.3 and 3.2.4.4), in two editions. They
+-- differ in one definition, `instanceAsked`: byte 3 of a request is looked at in edition two alone, byte 4 in neither.
 use mathlib.Core.Bool.{Bool, false, not}
 use mathlib.Core.List.{List}
 use Prim.Native.Nat.{ℕ}

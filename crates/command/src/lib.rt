@@ -197,7 +197,7 @@ impl Acknowledging {
 }
 
 impl Host {
-    // Hosts the first `count` entries, and answers requests by this edition.
+    // Hosts the first `count` entries; the host reads requests by this edition.
     pub fn start(entries: [Entry; ENTRIES], count: usize, edition: Edition) -> Started
         ensures { λ r. ⌜ Start entries count edition r ⌝ }
     {
