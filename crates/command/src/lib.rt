@@ -26,8 +26,8 @@ pub struct Entry {
     pub zero_is_all: bool,
 }
 
-// How requests are read. In edition one a request is for all instances of its DGN. In edition two, by the acknowledgment
-// rules of 2023, byte 3 names an instance, FFh all of them, and a NAK says of which instance it is.
+// How requests are read. In edition one a request is for all instances of its DGN. In edition two, which has the
+// acknowledgment rules of 2023, byte 3 names an instance, FFh all of them, and a NAK says of which instance it is.
 pub enum Edition {
     One,
     Two,
