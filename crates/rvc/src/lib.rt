@@ -23,5 +23,8 @@ pub mod node_table;
 // RULES 10: `Host::start`, `route` and `request`, and the acknowledgment.
 pub mod commands;
 
+// RULES 14: the fields of DM_RV, and the sender with `Sender::start`, `add`, `clear`, `step`, `request` and `reply`.
+pub mod diagnostics;
+
 // RULES 11: a line taken apart and written, and a stream cut into lines by `Cutter::new`, `next` and `last`.
 pub mod captures;
