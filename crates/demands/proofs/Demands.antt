@@ -12,6 +12,13 @@ use Rattle.nodes.proofs.Laws as Nodes
 use Rattle.nodes.proofs.Runs as NodesRuns
 use Rattle.command.proofs.Laws as Command
 use Rattle.command.proofs.Editions as CommandEditions
+use Rattle.faults.proofs.FieldLaws as FaultsFields
+use Rattle.faults.proofs.Laws as Faults
+use Rattle.faults.proofs.RequestLaws as FaultsRequests
+use Rattle.faults.proofs.Fair as FaultsFair
+use Rattle.faults.proofs.Waiting as FaultsWaiting
+use Rattle.faults.proofs.Longest as FaultsLongest
+use Rattle.faults.proofs.Played as FaultsPlayed
 use Rattle.capture.proofs.Laws as Capture
 use Rattle.capture.proofs.Feeding as Feeding
 use Rattle.demands.specs.Demands.{DemandOne, DemandTwo, DemandThree}
@@ -45,6 +52,12 @@ demand-one =
       route = Command.route-refused-keeps;
       request = Command.request-refused-keeps;
       acknowledge = Command.acknowledge-refused-keeps;
+      dm-rv-write = FaultsFields.field-refused-keeps;
+      service-point-write = FaultsFields.service-point-refused-keeps;
+      fault-add = Faults.add-refused-keeps;
+      fault-clear = Faults.clear-refused-keeps;
+      fault-step = Faults.step-refused-keeps;
+      fault-request = Faults.request-refused-keeps;
       line = Capture.malformed-keeps;
     }
 
@@ -105,6 +118,27 @@ demand-two =
       claim-for-any-instance = CommandEditions.claim-for-any-instance;
       one-ignores-byte-three = CommandEditions.one-ignores-byte-three;
       one-as-before = CommandEditions.one-as-before;
+      dm-rv-rows = FaultsFields.rows-ruled;
+      dm-rv-table = FaultsFields.table-is-rows;
+      service-point-reads-back = FaultsFields.service-point-reads-back;
+      service-point-alone = FaultsFields.service-point-alone;
+      longest-due = FaultsLongest.longest-due;
+      fair = FaultsFair.fair;
+      sent-within = FaultsFair.sent-within;
+      fair-added = FaultsWaiting.fair-added;
+      fair-again = FaultsWaiting.fair-again;
+      sharp = FaultsPlayed.sharp;
+      sent-is-own = FaultsWaiting.sent-is-own;
+      never-early = FaultsWaiting.never-early;
+      never-cleared = FaultsWaiting.never-cleared;
+      faults-every-run-runs = FaultsPlayed.every-run-runs;
+      faults-run-sound = Faults.run-sound;
+      one-a-step = Faults.one-a-step;
+      fault-request-keeps = Faults.request-keeps;
+      lowest-answers = FaultsRequests.lowest-answers;
+      dm-rv-is-sound = FaultsRequests.dm-rv-is-sound;
+      reply-no-nak = FaultsRequests.reply-no-nak;
+      reply-else-host = FaultsRequests.reply-else-host;
       written-taken-apart = Capture.written-taken-apart;
       taken-apart-written = Capture.taken-apart-written;
       blocks-do-not-matter = Feeding.blocks-do-not-matter;

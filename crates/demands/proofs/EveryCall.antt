@@ -101,6 +101,26 @@ use Rattle.command.proofs.Starting.refusal.Met as command-starting-refusal
 use Rattle.command.proofs.Routing.refusal.Met as command-routing-refusal
 use Rattle.command.proofs.Requesting.refusal.Met as command-requesting-refusal
 use Rattle.command.proofs.Acknowledging.refusal.Met as command-acknowledging-refusal
+use Rattle.faults.specs.Promises as faults-promises
+use Rattle.faults.proofs.FieldLaws as FaultsFields
+use Rattle.faults.proofs.Laws as Faults
+use Rattle.faults.proofs.packed_rows.Met as faults-packed-rows
+use Rattle.faults.proofs.row_at.Met as faults-row-at
+use Rattle.faults.proofs.read.Met as faults-read
+use Rattle.faults.proofs.write.Met as faults-write
+use Rattle.faults.proofs.read_service_point.Met as faults-read-service-point
+use Rattle.faults.proofs.write_service_point.Met as faults-write-service-point
+use Rattle.faults.proofs.ServicePoint.refusal.Met as faults-service-point-refusal
+use Rattle.faults.proofs.Sender.start.Met as faults-start
+use Rattle.faults.proofs.Sender.add.Met as faults-add
+use Rattle.faults.proofs.Sender.clear.Met as faults-clear
+use Rattle.faults.proofs.Sender.step.Met as faults-step
+use Rattle.faults.proofs.Sender.request.Met as faults-request
+use Rattle.faults.proofs.Sender.reply.Met as faults-reply
+use Rattle.faults.proofs.Adding.refusal.Met as faults-adding-refusal
+use Rattle.faults.proofs.Clearing.refusal.Met as faults-clearing-refusal
+use Rattle.faults.proofs.Stepping.refusal.Met as faults-stepping-refusal
+use Rattle.faults.proofs.Requesting.refusal.Met as faults-requesting-refusal
 use Rattle.capture.specs.Promises as capture-promises
 use Rattle.capture.proofs.Laws as Capture
 use Rattle.capture.proofs.take_apart.Met as capture-take-apart
@@ -807,6 +827,153 @@ every-call M =
         promises = λ 𝓤 H A mem run κs a ghost r. refl;
         one-answer = λ κs a r s w v h k. (Command.acknowledging-refusal-only (a .0) r s h k, refl);
         only = Command.acknowledging-refusal-only;
+      };
+      faults-packed-rows = record {
+        meets = faults-packed-rows.met;
+        asks-nothing = free;
+        Promise = λ κs a r e. faults-promises.PackedRows r;
+        promises = λ 𝓤 H A mem run κs a ghost r. refl;
+        one-answer = λ κs a r s w v h k. (FaultsFields.packed-rows-only r s h k, refl);
+        only = FaultsFields.packed-rows-only;
+      };
+      faults-row-at = record {
+        meets = faults-row-at.met;
+        asks-nothing = free;
+        Promise = λ κs a r e. faults-promises.RowAt (a .0) r;
+        promises = λ 𝓤 H A mem run κs a ghost r. refl;
+        one-answer = λ κs a r s w v h k. (FaultsFields.row-at-only (a .0) r s h k, refl);
+        only = FaultsFields.row-at-only;
+      };
+      faults-read = record {
+        meets = faults-read.met;
+        asks-nothing = free;
+        Promise = λ κs a r e. faults-promises.ReadField (a .0) (a .1 .0) (now (a .1 .1 .0)) r;
+        promises = λ 𝓤 H A mem run κs a ghost r. refl;
+        one-answer = λ κs a r s w v h k.
+            (FaultsFields.read-field-only (a .0) (a .1 .0) (now (a .1 .1 .0)) r s h k, refl);
+        only = FaultsFields.read-field-only;
+      };
+      faults-write = record {
+        meets = faults-write.met;
+        asks-nothing = free;
+        Promise = λ κs a r e.
+            faults-promises.WriteField (a .0) (a .1 .0) (now (a .1 .1 .0)) (a .1 .1 .1 .0) r (now (e .1 .1 .0));
+        promises = λ 𝓤 H A mem run κs a ghost r. refl;
+        one-answer = λ κs a r s w v h k.
+            lent (λ x. (tt, (tt, (x, (tt, tt)))))
+            (FaultsFields.write-field-only
+            (a .0) (a .1 .0) (now (a .1 .1 .0)) (a .1 .1 .1 .0) r s (w .1 .1 .0) (v .1 .1 .0) h k);
+        only = FaultsFields.write-field-only;
+      };
+      faults-read-service-point = record {
+        meets = faults-read-service-point.met;
+        asks-nothing = free;
+        Promise = λ κs a r e. faults-promises.ReadServicePoint (a .0) (now (a .1 .0)) r;
+        promises = λ 𝓤 H A mem run κs a ghost r. refl;
+        one-answer = λ κs a r s w v h k. (FaultsFields.read-service-point-only (a .0) (now (a .1 .0)) r s h k, refl);
+        only = FaultsFields.read-service-point-only;
+      };
+      faults-write-service-point = record {
+        meets = faults-write-service-point.met;
+        asks-nothing = free;
+        Promise = λ κs a r e. faults-promises.WriteServicePoint (a .0) (now (a .1 .0)) (a .1 .1 .0) r (now (e .1 .0));
+        promises = λ 𝓤 H A mem run κs a ghost r. refl;
+        one-answer = λ κs a r s w v h k.
+            lent (λ x. (tt, (x, (tt, tt))))
+            (FaultsFields.write-service-point-only
+            (a .0) (now (a .1 .0)) (a .1 .1 .0) r s (w .1 .0) (v .1 .0) h k);
+        only = FaultsFields.write-service-point-only;
+      };
+      faults-service-point-refusal = record {
+        meets = faults-service-point-refusal.met;
+        asks-nothing = free;
+        Promise = λ κs a r e. faults-promises.ServicePointRefusal (a .0) r;
+        promises = λ 𝓤 H A mem run κs a ghost r. refl;
+        one-answer = λ κs a r s w v h k. (FaultsFields.service-point-refusal-only (a .0) r s h k, refl);
+        only = FaultsFields.service-point-refusal-only;
+      };
+      faults-start = record {
+        meets = faults-start.met;
+        asks-nothing = free;
+        Promise = λ κs a r e. faults-promises.Start (a .0) r;
+        promises = λ 𝓤 H A mem run κs a ghost r. refl;
+        one-answer = λ κs a r s w v h k. (Faults.start-only (a .0) r s h k, refl);
+        only = Faults.start-only;
+      };
+      faults-add = record {
+        meets = faults-add.met;
+        asks-nothing = free;
+        Promise = λ κs a r e. faults-promises.Add (a .1 .0) (a .1 .1 .0) (a .0) r;
+        promises = λ 𝓤 H A mem run κs a ghost r. refl;
+        one-answer = λ κs a r s w v h k. (Faults.add-only (a .1 .0) (a .1 .1 .0) (a .0) r s h k, refl);
+        only = Faults.add-only;
+      };
+      faults-clear = record {
+        meets = faults-clear.met;
+        asks-nothing = free;
+        Promise = λ κs a r e. faults-promises.Clear (a .1 .0) (a .0) r;
+        promises = λ 𝓤 H A mem run κs a ghost r. refl;
+        one-answer = λ κs a r s w v h k. (Faults.clear-only (a .1 .0) (a .0) r s h k, refl);
+        only = Faults.clear-only;
+      };
+      faults-step = record {
+        meets = faults-step.met;
+        asks-nothing = free;
+        Promise = λ κs a r e. faults-promises.Step (a .1 .0) (a .0) r;
+        promises = λ 𝓤 H A mem run κs a ghost r. refl;
+        one-answer = λ κs a r s w v h k. (Faults.step-only (a .1 .0) (a .0) r s h k, refl);
+        only = Faults.step-only;
+      };
+      faults-request = record {
+        meets = faults-request.met;
+        asks-nothing = free;
+        Promise = λ κs a r e. faults-promises.Request (a .1 .1 .0) (now (a .1 .1 .1 .0)) (a .1 .0) (a .0) r;
+        promises = λ 𝓤 H A mem run κs a ghost r. refl;
+        one-answer = λ κs a r s w v h k.
+            (Faults.request-only (a .1 .1 .0) (now (a .1 .1 .1 .0)) (a .1 .0) (a .0) r s h k, refl);
+        only = Faults.request-only;
+      };
+      faults-reply = record {
+        meets = faults-reply.met;
+        asks-nothing = free;
+        Promise = λ κs a r e.
+            faults-promises.Reply (a .1 .1 .1 .0) (now (a .1 .1 .1 .1 .0)) (a .1 .0) (a .1 .1 .0) (a .0) r;
+        promises = λ 𝓤 H A mem run κs a ghost r. refl;
+        one-answer = λ κs a r s w v h k.
+            (Faults.reply-only (a .1 .1 .1 .0) (now (a .1 .1 .1 .1 .0)) (a .1 .0) (a .1 .1 .0) (a .0) r s h k, refl);
+        only = Faults.reply-only;
+      };
+      faults-adding-refusal = record {
+        meets = faults-adding-refusal.met;
+        asks-nothing = free;
+        Promise = λ κs a r e. faults-promises.AddingRefusal (a .0) r;
+        promises = λ 𝓤 H A mem run κs a ghost r. refl;
+        one-answer = λ κs a r s w v h k. (Faults.adding-refusal-only (a .0) r s h k, refl);
+        only = Faults.adding-refusal-only;
+      };
+      faults-clearing-refusal = record {
+        meets = faults-clearing-refusal.met;
+        asks-nothing = free;
+        Promise = λ κs a r e. faults-promises.ClearingRefusal (a .0) r;
+        promises = λ 𝓤 H A mem run κs a ghost r. refl;
+        one-answer = λ κs a r s w v h k. (Faults.clearing-refusal-only (a .0) r s h k, refl);
+        only = Faults.clearing-refusal-only;
+      };
+      faults-stepping-refusal = record {
+        meets = faults-stepping-refusal.met;
+        asks-nothing = free;
+        Promise = λ κs a r e. faults-promises.SteppingRefusal (a .0) r;
+        promises = λ 𝓤 H A mem run κs a ghost r. refl;
+        one-answer = λ κs a r s w v h k. (Faults.stepping-refusal-only (a .0) r s h k, refl);
+        only = Faults.stepping-refusal-only;
+      };
+      faults-requesting-refusal = record {
+        meets = faults-requesting-refusal.met;
+        asks-nothing = free;
+        Promise = λ κs a r e. faults-promises.RequestingRefusal (a .0) r;
+        promises = λ 𝓤 H A mem run κs a ghost r. refl;
+        one-answer = λ κs a r s w v h k. (Faults.requesting-refusal-only (a .0) r s h k, refl);
+        only = Faults.requesting-refusal-only;
       };
       capture-take-apart = record {
         meets = capture-take-apart.met;

@@ -37,9 +37,16 @@ use Rattle.command.proofs.Laws as Command
 use Rattle.command.proofs.PositionLaws as CommandPositionLaws
 use Rattle.command.proofs.ReplyLaws as CommandReplyLaws
 use Rattle.command.proofs.Editions as CommandEditions
+use Rattle.faults.proofs.FieldLaws as FaultsFields
+use Rattle.faults.proofs.Laws as Faults
+use Rattle.faults.proofs.RequestLaws as FaultsRequests
+use Rattle.faults.proofs.Fair as FaultsFair
+use Rattle.faults.proofs.Waiting as FaultsWaiting
+use Rattle.faults.proofs.Longest as FaultsLongest
+use Rattle.faults.proofs.Played as FaultsPlayed
 use Rattle.capture.proofs.Feeding as CaptureFeeding
 use Rattle.capture.proofs.Laws as Capture
-use Rattle.demands.specs.EveryLaw.{EveryLaw, FrameLaws, SearchLaws, LayoutLaws, StepLaws, FormatLaws, CallLaws, PlacesLaws, MessageLaws, FastLaws, CatalogueLaws, ClaimLaws, NodesLaws, CommandLaws, CaptureLaws}
+use Rattle.demands.specs.EveryLaw.{EveryLaw, FrameLaws, SearchLaws, LayoutLaws, StepLaws, FormatLaws, CallLaws, PlacesLaws, MessageLaws, FastLaws, CatalogueLaws, ClaimLaws, NodesLaws, CommandLaws, FaultsLaws, CaptureLaws}
 
 frame-laws : FrameLaws
 frame-laws =
@@ -496,6 +503,80 @@ command-laws =
       acknowledge-lowest-wins = Command.acknowledge-lowest-wins;
     }
 
+faults-laws : FaultsLaws
+faults-laws =
+    record {
+      told-service-point-same = FaultsFields.told-service-point-same;
+      packed-rows-only = FaultsFields.packed-rows-only;
+      row-at-only = FaultsFields.row-at-only;
+      read-field-only = FaultsFields.read-field-only;
+      write-field-only = FaultsFields.write-field-only;
+      read-service-point-only = FaultsFields.read-service-point-only;
+      write-service-point-only = FaultsFields.write-service-point-only;
+      service-point-refusal-only = FaultsFields.service-point-refusal-only;
+      rows-keep-rule = FaultsFields.rows-keep-rule;
+      rows-ruled = FaultsFields.rows-ruled;
+      table-is-rows = FaultsFields.table-is-rows;
+      rows-apart = FaultsFields.rows-apart;
+      plain-parts = FaultsFields.plain-parts;
+      field-refused-keeps = FaultsFields.field-refused-keeps;
+      service-point-refused-keeps = FaultsFields.service-point-refused-keeps;
+      field-lowest-wins = FaultsFields.field-lowest-wins;
+      service-point-lowest-wins = FaultsFields.service-point-lowest-wins;
+      service-point-fits = FaultsFields.service-point-fits;
+      service-point-bytes = FaultsFields.service-point-bytes;
+      service-point-reads-back = FaultsFields.service-point-reads-back;
+      service-point-alone = FaultsFields.service-point-alone;
+      service-point-example = FaultsFields.service-point-example;
+      told-adding-same = Faults.told-adding-same;
+      told-clearing-same = Faults.told-clearing-same;
+      told-stepping-same = Faults.told-stepping-same;
+      told-requesting-same = Faults.told-requesting-same;
+      start-only = Faults.start-only;
+      add-only = Faults.add-only;
+      clear-only = Faults.clear-only;
+      step-only = Faults.step-only;
+      request-only = Faults.request-only;
+      reply-only = Faults.reply-only;
+      adding-refusal-only = Faults.adding-refusal-only;
+      clearing-refusal-only = Faults.clearing-refusal-only;
+      stepping-refusal-only = Faults.stepping-refusal-only;
+      requesting-refusal-only = Faults.requesting-refusal-only;
+      add-refused-keeps = Faults.add-refused-keeps;
+      clear-refused-keeps = Faults.clear-refused-keeps;
+      step-refused-keeps = Faults.step-refused-keeps;
+      request-refused-keeps = Faults.request-refused-keeps;
+      request-keeps = Faults.request-keeps;
+      reply-keeps = Faults.reply-keeps;
+      add-lowest = Faults.add-lowest;
+      clear-lowest = Faults.clear-lowest;
+      step-lowest = Faults.step-lowest;
+      request-lowest = FaultsRequests.request-lowest;
+      run-sound = Faults.run-sound;
+      start-sound = Faults.start-sound;
+      added-lowest = Faults.added-lowest;
+      one-a-step = Faults.one-a-step;
+      lowest-answers = FaultsRequests.lowest-answers;
+      priority-ignored = FaultsRequests.priority-ignored;
+      only-dgn-read = FaultsRequests.only-dgn-read;
+      dm-rv-is-sound = FaultsRequests.dm-rv-is-sound;
+      dm-rv-example = FaultsRequests.dm-rv-example;
+      step-example = FaultsRequests.step-example;
+      reply-no-nak = FaultsRequests.reply-no-nak;
+      reply-else-host = FaultsRequests.reply-else-host;
+      host-alone = FaultsRequests.host-alone;
+      every-run-runs = FaultsPlayed.every-run-runs;
+      fair = FaultsFair.fair;
+      sent-within = FaultsFair.sent-within;
+      fair-added = FaultsWaiting.fair-added;
+      fair-again = FaultsWaiting.fair-again;
+      sent-is-own = FaultsWaiting.sent-is-own;
+      never-early = FaultsWaiting.never-early;
+      never-cleared = FaultsWaiting.never-cleared;
+      longest-due = FaultsLongest.longest-due;
+      sharp = FaultsPlayed.sharp;
+    }
+
 capture-laws : CaptureLaws
 capture-laws =
     record {
@@ -542,5 +623,6 @@ every-law =
       claim = claim-laws;
       nodes = nodes-laws;
       command = command-laws;
+      faults = faults-laws;
       capture = capture-laws;
     }

@@ -12,6 +12,9 @@ use Rattle.nodes.specs.Laws as Nodes
 use Rattle.nodes.specs.Runs as NodesRuns
 use Rattle.command.specs.Laws as Command
 use Rattle.command.specs.Editions as CommandEditions
+use Rattle.faults.specs.FieldLaws as FaultsFields
+use Rattle.faults.specs.Laws as Faults
+use Rattle.faults.specs.Runs as FaultsRuns
 use Rattle.capture.specs.Laws as Capture
 use Rattle.demands.specs.EveryCall.{EveryCall}
 use Rattle.demands.specs.BusyBus.{BusyBus, OpenOnBus, ToldOnBus, NoPlaceFree, PauseCount, SumsOfPauses, StartKept, RulesKept, EveryRunRuns, NoPlaceFreeAt, PauseCountAt}
@@ -44,6 +47,12 @@ pub record DemandOne : Type 2 where
   pub route : Command.RouteRefusedKeeps
   pub request : Command.RequestRefusedKeeps
   pub acknowledge : Command.AcknowledgeRefusedKeeps
+  pub dm-rv-write : FaultsFields.FieldRefusedKeeps
+  pub service-point-write : FaultsFields.ServicePointRefusedKeeps
+  pub fault-add : Faults.AddRefusedKeeps
+  pub fault-clear : Faults.ClearRefusedKeeps
+  pub fault-step : Faults.StepRefusedKeeps
+  pub fault-request : Faults.RequestRefusedKeeps
   pub line : Capture.MalformedKeeps
 
 -- 2. Frames, fields and long messages are read and written as RV-C and J1939 define them; what the splitter splits, the
@@ -119,6 +128,32 @@ pub record DemandTwo : Type 0 where
   pub claim-for-any-instance : CommandEditions.ClaimForAnyInstance
   pub one-ignores-byte-three : CommandEditions.OneIgnoresByteThree
   pub one-as-before : CommandEditions.OneAsBefore
+  -- DM_RV: its rows by the rule of the catalogue, found by the catalogue's calls; its service point number, read back
+  -- as it was written, with no other bit altered
+  pub dm-rv-rows : FaultsFields.RowsRuled
+  pub dm-rv-table : FaultsFields.TableIsRows
+  pub service-point-reads-back : FaultsFields.ServicePointReadsBack
+  pub service-point-alone : FaultsFields.ServicePointAlone
+  -- the sender of faults, in every run of calls: each step sends the fault that has been due longest; a due fault waits for
+  -- at most 31 others, and 31 is reached; what is sent is what was added, never before it is due, never when cleared
+  pub longest-due : FaultsRuns.LongestDue
+  pub fair : FaultsRuns.Fair
+  pub sent-within : FaultsRuns.SentWithin
+  pub fair-added : FaultsRuns.FairAdded
+  pub fair-again : FaultsRuns.FairAgain
+  pub sharp : FaultsRuns.Sharp
+  pub sent-is-own : FaultsRuns.SentIsOwn
+  pub never-early : FaultsRuns.NeverEarly
+  pub never-cleared : FaultsRuns.NeverCleared
+  pub faults-every-run-runs : FaultsRuns.EveryRunRuns
+  pub faults-run-sound : Faults.RunSound
+  pub one-a-step : Faults.OneAStep
+  -- a request for DM_RV gets the lowest active place, changes nothing, and is never refused on the bus by the host
+  pub fault-request-keeps : Faults.RequestKeeps
+  pub lowest-answers : Faults.LowestAnswers
+  pub dm-rv-is-sound : Faults.DmRvIsSound
+  pub reply-no-nak : Faults.ReplyNoNak
+  pub reply-else-host : Faults.ReplyElseHost
   -- captures
   pub written-taken-apart : Capture.WrittenTakenApart
   pub taken-apart-written : Capture.TakenApartWritten

@@ -108,6 +108,24 @@ use Rattle.command.proofs.Starting.refusal as command-starting-refusal
 use Rattle.command.proofs.Routing.refusal as command-routing-refusal
 use Rattle.command.proofs.Requesting.refusal as command-requesting-refusal
 use Rattle.command.proofs.Acknowledging.refusal as command-acknowledging-refusal
+use Rattle.faults.specs.Laws as Faults
+use Rattle.faults.proofs.packed_rows as faults-packed-rows
+use Rattle.faults.proofs.row_at as faults-row-at
+use Rattle.faults.proofs.read as faults-read
+use Rattle.faults.proofs.write as faults-write
+use Rattle.faults.proofs.read_service_point as faults-read-service-point
+use Rattle.faults.proofs.write_service_point as faults-write-service-point
+use Rattle.faults.proofs.ServicePoint.refusal as faults-service-point-refusal
+use Rattle.faults.proofs.Sender.start as faults-start
+use Rattle.faults.proofs.Sender.add as faults-add
+use Rattle.faults.proofs.Sender.clear as faults-clear
+use Rattle.faults.proofs.Sender.step as faults-step
+use Rattle.faults.proofs.Sender.request as faults-request
+use Rattle.faults.proofs.Sender.reply as faults-reply
+use Rattle.faults.proofs.Adding.refusal as faults-adding-refusal
+use Rattle.faults.proofs.Clearing.refusal as faults-clearing-refusal
+use Rattle.faults.proofs.Stepping.refusal as faults-stepping-refusal
+use Rattle.faults.proofs.Requesting.refusal as faults-requesting-refusal
 use Rattle.capture.specs.Laws as Capture
 use Rattle.capture.proofs.take_apart as capture-take-apart
 use Rattle.capture.proofs.write as capture-write
@@ -359,6 +377,49 @@ module _ (M : Type 1) where
     pub command-acknowledging-refusal :
         Answers command-acknowledging-refusal.ended command-acknowledging-refusal.Symbol.routine
         command-acknowledging-refusal.spec Command.AcknowledgingRefusalOnly
+    -- Faults
+    pub faults-packed-rows :
+        Answers faults-packed-rows.ended faults-packed-rows.Symbol.routine faults-packed-rows.spec
+        Faults.PackedRowsOnly
+    pub faults-row-at :
+        Answers faults-row-at.ended faults-row-at.Symbol.routine faults-row-at.spec Faults.RowAtOnly
+    pub faults-read :
+        Answers faults-read.ended faults-read.Symbol.routine faults-read.spec Faults.ReadFieldOnly
+    pub faults-write :
+        Answers faults-write.ended faults-write.Symbol.routine faults-write.spec Faults.WriteFieldOnly
+    pub faults-read-service-point :
+        Answers faults-read-service-point.ended faults-read-service-point.Symbol.routine faults-read-service-point.spec
+        Faults.ReadServicePointOnly
+    pub faults-write-service-point :
+        Answers faults-write-service-point.ended faults-write-service-point.Symbol.routine
+        faults-write-service-point.spec Faults.WriteServicePointOnly
+    pub faults-service-point-refusal :
+        Answers faults-service-point-refusal.ended faults-service-point-refusal.Symbol.routine
+        faults-service-point-refusal.spec Faults.ServicePointRefusalOnly
+    pub faults-start :
+        Answers faults-start.ended faults-start.Symbol.routine faults-start.spec Faults.StartOnly
+    pub faults-add :
+        Answers faults-add.ended faults-add.Symbol.routine faults-add.spec Faults.AddOnly
+    pub faults-clear :
+        Answers faults-clear.ended faults-clear.Symbol.routine faults-clear.spec Faults.ClearOnly
+    pub faults-step :
+        Answers faults-step.ended faults-step.Symbol.routine faults-step.spec Faults.StepOnly
+    pub faults-request :
+        Answers faults-request.ended faults-request.Symbol.routine faults-request.spec Faults.RequestOnly
+    pub faults-reply :
+        Answers faults-reply.ended faults-reply.Symbol.routine faults-reply.spec Faults.ReplyOnly
+    pub faults-adding-refusal :
+        Answers faults-adding-refusal.ended faults-adding-refusal.Symbol.routine faults-adding-refusal.spec
+        Faults.AddingRefusalOnly
+    pub faults-clearing-refusal :
+        Answers faults-clearing-refusal.ended faults-clearing-refusal.Symbol.routine faults-clearing-refusal.spec
+        Faults.ClearingRefusalOnly
+    pub faults-stepping-refusal :
+        Answers faults-stepping-refusal.ended faults-stepping-refusal.Symbol.routine faults-stepping-refusal.spec
+        Faults.SteppingRefusalOnly
+    pub faults-requesting-refusal :
+        Answers faults-requesting-refusal.ended faults-requesting-refusal.Symbol.routine faults-requesting-refusal.spec
+        Faults.RequestingRefusalOnly
     -- The capture reader
     pub capture-take-apart :
         Answers capture-take-apart.ended capture-take-apart.Symbol.routine capture-take-apart.spec

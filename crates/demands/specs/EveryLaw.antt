@@ -23,6 +23,9 @@ use Rattle.nodes.specs.Laws as Nodes
 use Rattle.nodes.specs.Runs as NodesRuns
 use Rattle.command.specs.Laws as Command
 use Rattle.command.specs.Editions as CommandEditions
+use Rattle.faults.specs.FieldLaws as FaultsFields
+use Rattle.faults.specs.Laws as Faults
+use Rattle.faults.specs.Runs as FaultsRuns
 use Rattle.capture.specs.Laws as Capture
 use Rattle.message.specs.declared.Place.{Place}
 use Rattle.catalogue.specs.declared.Row.{Row}
@@ -463,6 +466,79 @@ pub record CommandLaws : Type 0 where
   pub lowest-wins : (id : ℕ) (bytes : List ℕ) (h : Host) (c : Claim) → Command.LowestWins id bytes h c
   pub acknowledge-lowest-wins : (c : Claim) (a : Acknowledgment) → Command.AcknowledgeLowestWins c a
 
+pub record FaultsLaws : Type 0 where
+  pub told-service-point-same : Faults.ToldServicePointSame
+  pub packed-rows-only : Faults.PackedRowsOnly
+  pub row-at-only : Faults.RowAtOnly
+  pub read-field-only : Faults.ReadFieldOnly
+  pub write-field-only : Faults.WriteFieldOnly
+  pub read-service-point-only : Faults.ReadServicePointOnly
+  pub write-service-point-only : Faults.WriteServicePointOnly
+  pub service-point-refusal-only : Faults.ServicePointRefusalOnly
+  pub rows-keep-rule : FaultsFields.RowsKeepRule
+  pub rows-ruled : FaultsFields.RowsRuled
+  pub table-is-rows : FaultsFields.TableIsRows
+  pub rows-apart : FaultsFields.RowsApart
+  pub plain-parts : FaultsFields.PlainParts
+  pub field-refused-keeps : FaultsFields.FieldRefusedKeeps
+  pub service-point-refused-keeps : FaultsFields.ServicePointRefusedKeeps
+  pub field-lowest-wins :
+      (n id : ℕ) (bytes : List ℕ) (value : Value) → FaultsFields.FieldLowestWins n id bytes value
+  pub service-point-lowest-wins :
+      (id : ℕ) (bytes : List ℕ) (number : ℕ) → FaultsFields.ServicePointLowestWins id bytes number
+  pub service-point-fits : FaultsFields.ServicePointFits
+  pub service-point-bytes : FaultsFields.ServicePointBytes
+  pub service-point-reads-back : FaultsFields.ServicePointReadsBack
+  pub service-point-alone : FaultsFields.ServicePointAlone
+  pub service-point-example : FaultsFields.ServicePointExample
+  pub told-adding-same : Faults.ToldAddingSame
+  pub told-clearing-same : Faults.ToldClearingSame
+  pub told-stepping-same : Faults.ToldSteppingSame
+  pub told-requesting-same : Faults.ToldRequestingSame
+  pub start-only : Faults.StartOnly
+  pub add-only : Faults.AddOnly
+  pub clear-only : Faults.ClearOnly
+  pub step-only : Faults.StepOnly
+  pub request-only : Faults.RequestOnly
+  pub reply-only : Faults.ReplyOnly
+  pub adding-refusal-only : Faults.AddingRefusalOnly
+  pub clearing-refusal-only : Faults.ClearingRefusalOnly
+  pub stepping-refusal-only : Faults.SteppingRefusalOnly
+  pub requesting-refusal-only : Faults.RequestingRefusalOnly
+  pub add-refused-keeps : Faults.AddRefusedKeeps
+  pub clear-refused-keeps : Faults.ClearRefusedKeeps
+  pub step-refused-keeps : Faults.StepRefusedKeeps
+  pub request-refused-keeps : Faults.RequestRefusedKeeps
+  pub request-keeps : Faults.RequestKeeps
+  pub reply-keeps : Faults.ReplyKeeps
+  pub add-lowest : Faults.AddLowest
+  pub clear-lowest : Faults.ClearLowest
+  pub step-lowest : Faults.StepLowest
+  pub request-lowest : Faults.RequestLowest
+  pub run-sound : Faults.RunSound
+  pub start-sound : Faults.StartSound
+  pub added-lowest : Faults.AddedLowest
+  pub one-a-step : Faults.OneAStep
+  pub lowest-answers : Faults.LowestAnswers
+  pub priority-ignored : Faults.PriorityIgnored
+  pub only-dgn-read : Faults.OnlyDgnRead
+  pub dm-rv-is-sound : Faults.DmRvIsSound
+  pub dm-rv-example : Faults.DmRvExample
+  pub step-example : Faults.StepExample
+  pub reply-no-nak : Faults.ReplyNoNak
+  pub reply-else-host : Faults.ReplyElseHost
+  pub host-alone : Faults.HostAlone
+  pub every-run-runs : FaultsRuns.EveryRunRuns
+  pub fair : FaultsRuns.Fair
+  pub sent-within : FaultsRuns.SentWithin
+  pub fair-added : FaultsRuns.FairAdded
+  pub fair-again : FaultsRuns.FairAgain
+  pub sent-is-own : FaultsRuns.SentIsOwn
+  pub never-early : FaultsRuns.NeverEarly
+  pub never-cleared : FaultsRuns.NeverCleared
+  pub longest-due : FaultsRuns.LongestDue
+  pub sharp : FaultsRuns.Sharp
+
 pub record CaptureLaws : Type 0 where
   pub told-reading-same : Capture.ToldReadingSame
   pub take-apart-only : Capture.TakeApartOnly
@@ -504,4 +580,5 @@ pub record EveryLaw : Type 1 where
   pub claim : ClaimLaws
   pub nodes : NodesLaws
   pub command : CommandLaws
+  pub faults : FaultsLaws
   pub capture : CaptureLaws

@@ -14,6 +14,9 @@ use Rattle.nodes.specs.Laws as Nodes
 use Rattle.nodes.specs.Runs as NodesRuns
 use Rattle.command.specs.Laws as Command
 use Rattle.command.specs.Editions as CommandEditions
+use Rattle.faults.specs.FieldLaws as FaultsFields
+use Rattle.faults.specs.Laws as Faults
+use Rattle.faults.specs.Runs as FaultsRuns
 use Rattle.capture.specs.Laws as Capture
 use Rattle.demands.specs.EveryCall.{EveryCall}
 use Rattle.demands.specs.EveryLaw.{EveryLaw}
@@ -45,6 +48,12 @@ pub record FieldsOfOne : Type 2 where
   pub route : Command.RouteRefusedKeeps
   pub request : Command.RequestRefusedKeeps
   pub acknowledge : Command.AcknowledgeRefusedKeeps
+  pub dm-rv-write : FaultsFields.FieldRefusedKeeps
+  pub service-point-write : FaultsFields.ServicePointRefusedKeeps
+  pub fault-add : Faults.AddRefusedKeeps
+  pub fault-clear : Faults.ClearRefusedKeeps
+  pub fault-step : Faults.StepRefusedKeeps
+  pub fault-request : Faults.RequestRefusedKeeps
   pub line : Capture.MalformedKeeps
 
 pub record FieldsOfTwo : Type 0 where
@@ -102,6 +111,27 @@ pub record FieldsOfTwo : Type 0 where
   pub claim-for-any-instance : CommandEditions.ClaimForAnyInstance
   pub one-ignores-byte-three : CommandEditions.OneIgnoresByteThree
   pub one-as-before : CommandEditions.OneAsBefore
+  pub dm-rv-rows : FaultsFields.RowsRuled
+  pub dm-rv-table : FaultsFields.TableIsRows
+  pub service-point-reads-back : FaultsFields.ServicePointReadsBack
+  pub service-point-alone : FaultsFields.ServicePointAlone
+  pub longest-due : FaultsRuns.LongestDue
+  pub fair : FaultsRuns.Fair
+  pub sent-within : FaultsRuns.SentWithin
+  pub fair-added : FaultsRuns.FairAdded
+  pub fair-again : FaultsRuns.FairAgain
+  pub sharp : FaultsRuns.Sharp
+  pub sent-is-own : FaultsRuns.SentIsOwn
+  pub never-early : FaultsRuns.NeverEarly
+  pub never-cleared : FaultsRuns.NeverCleared
+  pub faults-every-run-runs : FaultsRuns.EveryRunRuns
+  pub faults-run-sound : Faults.RunSound
+  pub one-a-step : Faults.OneAStep
+  pub fault-request-keeps : Faults.RequestKeeps
+  pub lowest-answers : Faults.LowestAnswers
+  pub dm-rv-is-sound : Faults.DmRvIsSound
+  pub reply-no-nak : Faults.ReplyNoNak
+  pub reply-else-host : Faults.ReplyElseHost
   pub written-taken-apart : Capture.WrittenTakenApart
   pub taken-apart-written : Capture.TakenApartWritten
   pub blocks-do-not-matter : Capture.BlocksDoNotMatter
