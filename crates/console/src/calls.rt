@@ -9,7 +9,7 @@ use std::num::wrapping_add_usize;
 pub fn part(notes: &[u64]) -> usize {
     words::part(
         notes,
-        b"frame message fast catalogue claim nodes command capture exercise",
+        b"frame message fast catalogue claim nodes command faults capture exercise",
     )
 }
 
@@ -27,6 +27,8 @@ pub fn asked(notes: &mut [u64], part: usize) -> usize {
           Claim::holds_list |\
           empty hear look_up find_address pause find_challenger |\
           Host::start Host::route Host::request acknowledge |\
+          packed_rows row_at read write read_service_point write_service_point Sender::start Sender::add \
+          Sender::clear Sender::step Sender::request Sender::reply |\
           take_apart write Cutter::new Cutter::next Cutter::last |\
           long_message fast_packet row |",
         part,
@@ -40,6 +42,7 @@ pub fn asked(notes: &mut [u64], part: usize) -> usize {
           8b 4b 2 . . . . |\
           . 4b 1 8 2 1 |\
           8d 4b 4b 1114 |\
+          . 8 84b 84bv 4b 4b4 e e2 8 . 4b 4b |\
           b 24e . b8 . |\
           b b1 8 |",
         part,
@@ -63,6 +66,8 @@ pub fn refusals(notes: &[u64]) {
           nodes::FoundChallenger::refusal \
           command::Starting::refusal command::Routing::refusal command::Requesting::refusal \
           command::Acknowledging::refusal \
+          faults::ServicePoint::refusal faults::Adding::refusal faults::Clearing::refusal \
+          faults::Stepping::refusal faults::Requesting::refusal \
           capture::Reading::refusal",
     );
     if n == words::NONE {

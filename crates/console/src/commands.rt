@@ -20,6 +20,7 @@ use command::Edition;
 use command::Entry;
 use command::Host;
 use command::Positions;
+use command::Requested;
 use command::Requesting;
 use command::Routing;
 use command::Starting;
@@ -80,7 +81,12 @@ fn number_of_routing(answer: Routing) -> usize {
 
 fn request(notes: &mut [u64], bytes: &[u8]) {
     let host = host(notes);
-    let requested = host.request(claim(notes), get_u32(notes, notes::FIRST), bytes);
+    let asked = host.request(claim(notes), get_u32(notes, notes::FIRST), bytes);
+    requested(notes, asked);
+}
+
+// What the host makes of a request.
+pub fn requested(notes: &mut [u64], requested: Requested) {
     let answer = requested.answer;
     tell_requesting(notes, answer);
     show_positions(requested.positions);
@@ -164,7 +170,7 @@ fn show_position(position: u8) {
 }
 
 // The host of the notes.
-fn host(notes: &[u64]) -> Host {
+pub fn host(notes: &[u64]) -> Host {
     Host {
         entries: entries(notes, notes::HOST_ENTRIES),
         count: get(notes, notes::HOST_COUNT) as usize,

@@ -76,8 +76,13 @@ fn look_in_these(n: usize, notes: &mut [u64], packed: &[u64]) {
 // The catalogue becomes the lent table.
 fn packed_rows(notes: &mut [u64], packed: &mut [u64]) {
     let rows = catalogue::packed_rows();
-    put_all(packed, 0, &rows);
-    put(notes, notes::PACKED, catalogue::rows() as u64);
+    lend(notes, packed, &rows);
+}
+
+// Packed rows become the lent table.
+pub fn lend(notes: &mut [u64], packed: &mut [u64], rows: &[u64]) {
+    put_all(packed, 0, rows);
+    put(notes, notes::PACKED, rows.len() as u64);
     say::form(b"# packed rows are lent\n", notes, notes::PACKED);
 }
 
@@ -103,7 +108,7 @@ fn row_of_in(notes: &mut [u64], packed: &[u64]) {
 }
 
 // A row that was found becomes the console's row.
-fn looked(notes: &mut [u64], answer: Looked) {
+pub fn looked(notes: &mut [u64], answer: Looked) {
     tell_looked(notes, answer);
     say::end(notes, notes::CATALOGUE_LOOKED, answer.refusal());
     if answer.refusal() == 0 {
@@ -155,7 +160,7 @@ fn read_row(notes: &mut [u64], bytes: &[u8]) {
     reading(notes, answer);
 }
 
-fn reading(notes: &mut [u64], answer: Reading) {
+pub fn reading(notes: &mut [u64], answer: Reading) {
     tell_reading(notes, answer);
     say::end(notes, notes::CATALOGUE_READING, answer.refusal());
 }
@@ -221,7 +226,7 @@ fn value(value: Value) {
 }
 
 // The value that was typed; its number is noted at `slot`.
-fn typed_value(notes: &[u64], slot: usize) -> Value {
+pub fn typed_value(notes: &[u64], slot: usize) -> Value {
     let number = get_i64(notes, slot);
     match get(notes, notes::VALUE) {
         0 => Value::NoData,
@@ -262,7 +267,7 @@ fn write_row(notes: &mut [u64], bytes: &mut [u8]) {
 }
 
 // What writing answered, and the lent bytes after it.
-fn written(notes: &mut [u64], bytes: &[u8], answer: Writing) {
+pub fn written(notes: &mut [u64], bytes: &[u8], answer: Writing) {
     tell_writing(notes, answer);
     say::bytes(b" bytes=", bytes);
     say::end(notes, notes::CATALOGUE_WRITING, answer.refusal());

@@ -1,6 +1,7 @@
 // A console for class: it reads a call a line from standard input and prints the answer in words, with the number of a
-// refusal, the state and the lent bytes. It keeps one receiver of each kind with its storage, a claim, a host, a node
-// table, a row and a cutter of lines. docs/CONSOLE.md has its words.
+// refusal, the state and the lent bytes. It keeps one receiver of each kind with its storage, a claim, a host, a sender
+// of faults, a node table, a row and a cutter of lines. docs/CONSOLE.md has its words.
+mod active_faults;
 mod arguments;
 mod calls;
 mod captures;
@@ -157,6 +158,7 @@ fn answer(notes: &mut [u64], bytes: &mut [u8], desk: Desk, part: usize, n: usize
         1 => with_long(notes, bytes, desk, n),
         2 => with_fast(notes, bytes, desk, n),
         3 => with_packed(notes, bytes, desk, n),
+        7 => with_faults(notes, bytes, desk, n),
         _ => {
             answer_alone(notes, bytes, part, n);
             desk
@@ -188,6 +190,14 @@ fn with_packed(notes: &mut [u64], bytes: &mut [u8], desk: Desk, n: usize) -> Des
     after
 }
 
+fn with_faults(notes: &mut [u64], bytes: &mut [u8], desk: Desk, n: usize) -> Desk {
+    let mut after = desk;
+    let mut packed = desk.packed;
+    active_faults::call(n, notes, bytes, &mut packed);
+    after.packed = packed;
+    after
+}
+
 // The parts that need no storage and no packed rows.
 fn answer_alone(notes: &mut [u64], bytes: &[u8], part: usize, n: usize) {
     match part {
@@ -195,7 +205,7 @@ fn answer_alone(notes: &mut [u64], bytes: &[u8], part: usize, n: usize) {
         4 => claims::call(n, notes, bytes),
         5 => node_table::call(n, notes, bytes),
         6 => commands::call(n, notes, bytes),
-        7 => captures::call(n, notes, bytes),
+        8 => captures::call(n, notes, bytes),
         _ => exercises::call(n, notes, bytes),
     }
 }
@@ -272,12 +282,13 @@ fn show(notes: &[u64], desk: Desk) {
 }
 
 fn show_noted(notes: &[u64]) {
-    match words::find_state(notes, b"catalogue claim nodes command capture") {
+    match words::find_state(notes, b"catalogue claim nodes command faults capture") {
         0 => fields::show(notes),
         1 => claims::show(notes),
         2 => node_table::show(notes),
         3 => commands::show(notes),
-        4 => captures::show(notes),
+        4 => active_faults::show(notes),
+        5 => captures::show(notes),
         _ => say::unknown(),
     }
 }

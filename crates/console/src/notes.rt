@@ -5,7 +5,7 @@ use std::num::wrapping_add_usize;
 ghost use Rattle.io.specs.Counts.{Counts};
 
 // How many notes there are.
-pub const NOTES: usize = 8192;
+pub const NOTES: usize = 8552;
 
 // The arguments of a line that are numbers, in order.
 pub const FIRST: usize = 0;
@@ -112,12 +112,17 @@ pub const COMMAND_REQUESTING: usize = 61;
 
 pub const COMMAND_ACKNOWLEDGING: usize = 62;
 
-pub const CAPTURE_READING: usize = 63;
+pub const FAULTS_SERVICE_POINT: usize = 63;
 
-// The numbers of a list that was typed, up to 32.
-pub const NUMBERS: usize = 64;
+pub const FAULTS_ADDING: usize = 64;
 
-pub const MOST_NUMBERS: usize = 32;
+pub const FAULTS_CLEARING: usize = 65;
+
+pub const FAULTS_STEPPING: usize = 66;
+
+pub const FAULTS_REQUESTING: usize = 67;
+
+pub const CAPTURE_READING: usize = 68;
 
 // State that is a number each, in the order in which `state` names them: of the receiver of fast packets how many DGNs
 // are named; of the claim its name, candidates, position, wait, silent; of the host how many entries it has, and its
@@ -163,6 +168,11 @@ pub const HOST_ENTRIES: usize = 424;
 // The node table: 300 records of present, name, challenger, wait.
 pub const NODES: usize = 500;
 
+// The numbers of a list that was typed, up to 32.
+pub const NUMBERS: usize = 1700;
+
+pub const MOST_NUMBERS: usize = 32;
+
 // The bytes that were typed, up to 2,048.
 pub const DATA: usize = 2000;
 
@@ -170,6 +180,11 @@ pub const MOST_BYTES: usize = 2048;
 
 // The letters of the line, up to 4,096.
 pub const LINE: usize = 4096;
+
+// The sender of faults: 32 places of eight bytes, period, until_due, age; and the eight bytes of no fault.
+pub const FAULTS: usize = 8192;
+
+pub const NO_FAULT: usize = 8544;
 
 // A note; 0 for a place that there is not.
 pub fn get(notes: &[u64], at: usize) -> u64 {

@@ -1,4 +1,5 @@
 // State that stands in the notes: how it is shown, and how `set` changes it.
+use crate::active_faults;
 use crate::arguments::argument;
 use crate::arguments::values;
 use crate::node_table::MOST_RECORDS;
@@ -106,10 +107,14 @@ fn lend(notes: &mut [u64], n: usize, most: u64) {
 
 // A number of a list: `set claim.list[2] 80h`.
 fn set_listed(notes: &mut [u64]) {
-    match find_state(notes, b"fast.dgns claim.list capture.cutter.carry") {
+    match find_state(
+        notes,
+        b"fast.dgns claim.list capture.cutter.carry faults.no_fault",
+    ) {
         0 => set_in_list(notes, b"84", notes::FAST_DGNS, fast::limits::DGNS),
         1 => set_in_list(notes, b"81", notes::CLAIM_LIST, claim::CANDIDATES),
         2 => set_in_list(notes, b"81", notes::CUTTER_CARRY, capture::LONGEST_LINE),
+        3 => set_in_list(notes, b"81", notes::NO_FAULT, 8),
         _ => set_place(notes),
     }
 }
@@ -190,7 +195,10 @@ fn set_answer(notes: &mut [u64], shape: &[u8], at: usize) {
 
 // An entry or a record: `set nodes[3].name 500`.
 fn set_record(notes: &mut [u64]) {
-    match find_state(notes, b"command.entries command.host.entries nodes") {
+    match find_state(
+        notes,
+        b"command.entries command.host.entries nodes faults.faults",
+    ) {
         0 => set_entry(notes, notes::ENTRIES),
         1 => set_entry(notes, notes::HOST_ENTRIES),
         2 => set_field(
@@ -200,6 +208,7 @@ fn set_record(notes: &mut [u64]) {
             notes::NODES,
             MOST_RECORDS,
         ),
+        3 => set_fault(notes),
         _ => say::unknown(),
     }
 }
@@ -223,6 +232,39 @@ fn set_entry(notes: &mut [u64], at: usize) {
     if values(notes, b"8441t") {
         put_four(notes, record(at, 4, position), notes::SECOND);
     }
+}
+
+// A field of a place of the sender, of which the first eight notes are its bytes: `set faults.faults[3].period 100`,
+// `set faults.faults[3].bytes[0] 5`.
+fn set_fault(notes: &mut [u64]) {
+    let position = position(notes);
+    if faults::PLACES <= position {
+        return no_such_position();
+    }
+    let begins = record(notes::FAULTS, active_faults::FIELDS, position);
+    match find_field(notes, b".bytes .period .until_due .age") {
+        0 => set_fault_byte(notes, begins),
+        1 => set_number(notes, 4, b'2', wrapping_add_usize(begins, 8)),
+        2 => set_number(notes, 4, b'2', wrapping_add_usize(begins, 9)),
+        3 => set_number(notes, 4, b'1', wrapping_add_usize(begins, 10)),
+        _ => say::unknown(),
+    }
+}
+
+fn set_fault_byte(notes: &mut [u64], begins: usize) {
+    let at = number_in(notes, nth_word(notes, 4));
+    if !at.is {
+        return say::malformed(4, b"no such position");
+    }
+    if 8 <= at.value {
+        return say::malformed(4, b"no such position");
+    }
+    set_number(
+        notes,
+        5,
+        b'1',
+        wrapping_add_usize(begins, at.value as usize),
+    );
 }
 
 // A field of a record. The letters of the fields stand in the order of their names.
