@@ -1,12 +1,14 @@
-// A panel for tanks, chargers and slides: it claims an address, answers requests, shows who has which address and what
-// the tanks, chargers and slides of a coach said last, and says when that is stale. It hears a recorded exchange on
-// standard input, a line for each frame; a frame that it would send is printed behind the word `send`.
+// A panel for tanks, chargers and slides: it claims an address, answers requests, broadcasts a fault of its own, shows
+// who has which address and what the tanks, chargers and slides of a coach said last, and says when that is stale. It
+// hears a recorded exchange on standard input, a line for each frame; a frame that it would send is printed behind the
+// word `send`.
 ghost use mathlib.Core.Path.{_≡_};
 ghost use Prim.Native.Nat.{_<_};
 ghost use lib.ListN.{length};
 
 mod names;
 mod network;
+mod own_faults;
 mod replies;
 mod show;
 mod state;
@@ -195,7 +197,8 @@ fn hear_sound(panel: Panel, parts: Parts, id: u32, bytes: [u8; 8], storage: &mut
     let nodes = network::hear_own_claim(nodes, contested);
     let receiver = network::join(panel.receiver, id, bytes, storage);
     let host = panel.host;
-    replies::answer_request(host, claim, id, bytes);
+    let faults = panel.faults;
+    replies::answer_request(faults.sender, host, claim, id, bytes);
     replies::answer_command(host, claim, parts.source, id, bytes);
     let tanks = panel.tanks;
     let chargers = panel.chargers;
@@ -204,6 +207,7 @@ fn hear_sound(panel: Panel, parts: Parts, id: u32, bytes: [u8; 8], storage: &mut
         claim,
         nodes,
         host,
+        faults,
         receiver,
         tanks: state::hear_tank(tanks, parts.dgn, id, bytes),
         chargers: state::hear_charger(chargers, parts.dgn, id, bytes),

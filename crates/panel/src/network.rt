@@ -1,5 +1,6 @@
 // The panel as a node of the network: its address, and the long messages that it joins.
 use crate::names;
+use crate::own_faults;
 use crate::replies;
 use crate::show;
 use crate::state;
@@ -34,12 +35,14 @@ pub fn start() -> Panel {
         Starting::ListMalformed => show::refused(answer.refusal()),
     }
     let nodes = names::hear_claim(rvc::node_table::empty(), started.id, bytes);
-    state::new(claim, nodes, replies::start())
+    state::new(claim, nodes, replies::start(), own_faults::start())
 }
 
-// Time passes for the claim, for the node table, for the open messages, and for what the panel shows.
+// Time passes for the claim, for our faults, for the node table, for the open messages, and for what the panel shows.
+// For simplicity the whole pause is the claim's first: an address that is held at its end is held for all its steps.
 pub fn pause(panel: Panel, gap: u16) -> Panel {
     let claim = pause_claim(panel.claim, gap);
+    let faults = own_faults::pause(panel.faults, claim, gap);
     let nodes = panel.nodes;
     let nodes = names::pause_nodes(nodes, gap);
     let receiver = pause_receiver(panel.receiver, gap);
@@ -49,6 +52,7 @@ pub fn pause(panel: Panel, gap: u16) -> Panel {
     let chargers = state::pause_chargers(chargers, gap);
     let mut panel = panel;
     panel.claim = claim;
+    panel.faults = faults;
     panel.nodes = nodes;
     panel.receiver = receiver;
     panel.tanks = tanks;

@@ -1,5 +1,6 @@
 // What the panel answers for two tanks whose senders are wired to the panel itself: requests for their status, and
 // commands.
+use crate::own_faults;
 use crate::show;
 use rvc::claims::Claim;
 use rvc::claims::Standing;
@@ -9,8 +10,10 @@ use rvc::commands::Edition;
 use rvc::commands::Entry;
 use rvc::commands::Host;
 use rvc::commands::Positions;
+use rvc::commands::Requested;
 use rvc::commands::Requesting;
 use rvc::commands::Routing;
+use rvc::diagnostics::Sender;
 use rvc::fields::Row;
 use rvc::fields::Value;
 use rvc::fields::dgns::TANK_CALIBRATION_COMMAND;
@@ -47,9 +50,17 @@ fn entry(command: u32, status: u32, instance: u8) -> Entry {
     }
 }
 
-// A request for a DGN, answered by our claim, by our statuses or by a NAK.
-pub fn answer_request(host: Host, claim: Claim, id: u32, bytes: [u8; 8]) {
-    let requested = host.request(claim, id, &bytes);
+// A request for a DGN: one for DM_RV is the sender's, and any other the host's.
+pub fn answer_request(sender: Sender, host: Host, claim: Claim, id: u32, bytes: [u8; 8]) {
+    let replied = sender.reply(host, claim, id, &bytes);
+    let of_faults = replied.faults;
+    let of_host = replied.host;
+    own_faults::answer_request(of_faults);
+    answer_by_host(claim, of_host);
+}
+
+// What the host says: our claim, our statuses or a NAK.
+fn answer_by_host(claim: Claim, requested: Requested) {
     let answer = requested.answer;
     let to_send = requested.bytes;
     match answer {

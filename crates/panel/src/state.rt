@@ -1,4 +1,5 @@
 // What the panel keeps, and how the status of a tank, a charger or a slide changes it.
+use crate::own_faults::Faults;
 use crate::show;
 use rvc::claims::Claim;
 use rvc::commands::Host;
@@ -64,6 +65,7 @@ pub struct Panel {
     pub claim: Claim,
     pub nodes: [Node; RECORDS],
     pub host: Host,
+    pub faults: Faults,
     pub receiver: Receiver,
     pub tanks: [Tank; 4],
     pub chargers: [Charger; 2],
@@ -71,7 +73,7 @@ pub struct Panel {
 }
 
 // A panel that has heard no tank, no charger and no slide.
-pub fn new(claim: Claim, nodes: [Node; RECORDS], host: Host) -> Panel {
+pub fn new(claim: Claim, nodes: [Node; RECORDS], host: Host, faults: Faults) -> Panel {
     let nothing = Shown::Not(Missing::NoData);
     let tank = Tank {
         heard: false,
@@ -94,6 +96,7 @@ pub fn new(claim: Claim, nodes: [Node; RECORDS], host: Host) -> Panel {
         claim,
         nodes,
         host,
+        faults,
         receiver: Receiver::new(),
         tanks: [tank; 4],
         chargers: [charger; 2],
