@@ -10,10 +10,10 @@ use native.Mathlib.Omega.{arith}
 use lib.Pow.{pow-pos, pow-mono}
 use lib.ListN.{length, take, drop, getD, length-take, length-drop}
 use lib.Seq.{take-suc, take-all, getD-take, getD-drop}
-use Rattle.frame.proofs.Tests.{tests}
+use Rattle.words.proofs.Tests.{tests}
 use Rattle.frame.specs.Identifier.{catalogueForm}
-use Rattle.frame.specs.Words.{_<?_, gives}
-use Rattle.frame.proofs.Words.{refused-gives, gives-same}
+use Rattle.words.specs.Words.{_<?_, gives}
+use Rattle.words.proofs.Words.{refused-gives, gives-same}
 use Rattle.catalogue.specs.Rows.{rows}
 use Rattle.catalogue.specs.Table.{noRow, rowIn, rowAt, rowOf, spanOf}
 use Rattle.catalogue.specs.Field.{fieldOf}

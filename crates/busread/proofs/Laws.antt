@@ -6,9 +6,9 @@ use mathlib.Core.List.{List, [], _∷_, _++_, append-assoc}
 use Prim.Native.Nat.{ℕ, _-_, _^_, _≤_, _<_}
 use native.Mathlib.Omega.{arith}
 use borrow.Author.Tests.{ltb-true, ltb-false}
-use Rattle.frame.specs.Words.{_<?_, _≤?_}
-use Rattle.frame.proofs.Words.{by-test}
-use Rattle.frame.proofs.Tests.{tests}
+use Rattle.words.specs.Words.{_<?_, _≤?_}
+use Rattle.words.proofs.Words.{by-test}
+use Rattle.words.proofs.Tests.{tests}
 use Rattle.capture.specs.Stream.{Piece, pieceRead, mostLines, linesOf}
 use Rattle.capture.specs.Cutter.{endingOf}
 use Rattle.capture.specs.Promises.{Next}

@@ -7,8 +7,8 @@ use Prim.Native.Nat.{ℕ, _+_, _*_, _≤_}
 use native.Mathlib.Omega.{arith}
 use borrow.Author.Tests.{ltb-false}
 use lib.ListN.{length, take, drop, length-take}
-use Rattle.frame.specs.Words.{if_then_else_, _<?_, _≤?_, _or_, Told, refused, gives}
-use Rattle.frame.proofs.Tests.{tests}
+use Rattle.words.specs.Words.{if_then_else_, _<?_, _≤?_, _or_, Told, refused, gives}
+use Rattle.words.proofs.Tests.{tests}
 use Rattle.message.specs.LongMessage.{longest}
 use Rattle.message.specs.Receiver.{placeCount, room, Outcome, nothingToDo, opened, stored, finished}
 use Rattle.message.specs.Promises.{toldAnswer, messageIn, Message, Hear, Pause}

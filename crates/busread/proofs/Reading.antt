@@ -6,8 +6,8 @@ use Prim.Native.Nat.{ℕ, _+_, _-_, _≤_, _<_}
 use native.Mathlib.Omega.{arith}
 use lib.ListN.{length, take, drop}
 use borrow.Author.Tests.{leb-true, leb-false}
-use Rattle.frame.specs.Words.{_≤?_, _=?_}
-use Rattle.frame.proofs.Words.{by-test}
+use Rattle.words.specs.Words.{_≤?_, _=?_}
+use Rattle.words.proofs.Words.{by-test}
 use Rattle.capture.specs.Stream.{mostLines, lineIn, Piece, whole, tooLong, pieceRead}
 use Rattle.capture.specs.Cutter.{hasNewline, isTooLong, cuttingOf, cutterAfter, carriedOn, closed, lineAt, endingOf}
 use Rattle.capture.specs.Promises.{Next, Last}

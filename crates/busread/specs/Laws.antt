@@ -3,7 +3,7 @@
 use mathlib.Core.Path.{_≡_}
 use mathlib.Core.List.{List, [], _∷_, _++_}
 use Prim.Native.Nat.{ℕ, _-_, _^_, _≤_, _<_}
-use Rattle.frame.specs.Words.{gives}
+use Rattle.words.specs.Words.{gives}
 use Rattle.capture.specs.Digits.{numberRead}
 use Rattle.capture.specs.Cutter.{fresh}
 use Rattle.capture.specs.Feeding.{joined, Place, between, inside}

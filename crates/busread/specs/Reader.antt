@@ -4,7 +4,7 @@ use mathlib.Core.Path.{_≡_}
 use mathlib.Core.List.{List, [], _++_}
 use Prim.Native.Nat.{ℕ, _≤_, _<_}
 use lib.ListN.{length, take}
-use Rattle.frame.specs.Words.{Told, refused}
+use Rattle.words.specs.Words.{Told, refused}
 use Rattle.capture.specs.Line.{Frame}
 use Rattle.capture.specs.Stream.{mostLines, Piece, pieceRead}
 use Rattle.capture.specs.Cutter.{endingOf}

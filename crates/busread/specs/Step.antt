@@ -2,7 +2,7 @@
 use mathlib.Core.Path.{_≡_}
 use mathlib.Core.List.{List}
 use Prim.Native.Nat.{ℕ, _+_, _≤_}
-use Rattle.frame.specs.Words.{Told, refused}
+use Rattle.words.specs.Words.{Told, refused}
 use Rattle.message.specs.declared.Receiver.{Receiver}
 use Rattle.capture.specs.Line.{Frame}
 use Rattle.busread.specs.Text.{Wrote}

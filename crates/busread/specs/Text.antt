@@ -6,7 +6,7 @@ use Prim.Native.Nat.{ℕ, _+_, _≤_}
 use Prim.Native.Char.{code}
 use Prim.Native.String.{String, [] as done, _∷_ as _then_}
 use lib.ListN.{length, take}
-use Rattle.frame.specs.Words.{if_then_else_, _<?_}
+use Rattle.words.specs.Words.{if_then_else_, _<?_}
 use Rattle.capture.specs.Digits.{digits}
 
 -- the codes of a word

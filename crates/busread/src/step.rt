@@ -2,7 +2,7 @@
 ghost use mathlib.Core.Path.{_≡_};
 ghost use Prim.Native.Nat.{_+_, _≤_, _<_};
 ghost use lib.ListN.{length};
-ghost use Rattle.frame.specs.Words.{gives, numberIn};
+ghost use Rattle.words.specs.Words.{gives, numberIn};
 ghost use Rattle.frame.specs.Bytes.{numberOf};
 ghost use Rattle.frame.specs.Identifier.{sourceOf, dgnOf};
 ghost use Rattle.message.specs.Receiver.{room};

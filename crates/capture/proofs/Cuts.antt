@@ -7,8 +7,8 @@ use Prim.Native.Nat.{ℕ, _+_, _-_, _≤_, _<_}
 use native.Mathlib.Omega.{arith}
 use borrow.Author.Tests.{ltb-false, ne-eqb, lt-ltb, le-ltb, le-leb, lt-leb}
 use lib.ListN.{length, take, drop, length-drop}
-use Rattle.frame.specs.Words.{_=?_}
-use Rattle.frame.proofs.Words.{by-test}
+use Rattle.words.specs.Words.{_=?_}
+use Rattle.words.proofs.Words.{by-test}
 use Rattle.capture.specs.Stream.{newline, longestLine, mostLines, lineIn}
 use Rattle.capture.specs.Cutter.{isTooLong, carriedOn, closed, lineAt, cuttingOf, cutterAfter, nextAfter}
 use Rattle.capture.specs.declared.Cutter.{Cutter}

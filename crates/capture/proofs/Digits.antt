@@ -13,8 +13,8 @@ use lib.Arith.{lt-one, digits-lt, digits-div, digits-mod}
 use lib.Dec.{lit<}
 use lib.ListN.{length, getD, drop, length-append, drop-of-length-le}
 use lib.Seq.{drop-cons}
-use Rattle.frame.specs.Words.{if_then_else_, _<?_, _≤?_, Told, refused, gives}
-use Rattle.frame.proofs.Words.{by-test, both-true, before-refusal, gives-same}
+use Rattle.words.specs.Words.{if_then_else_, _<?_, _≤?_, Told, refused, gives}
+use Rattle.words.proofs.Words.{by-test, both-true, before-refusal, gives-same}
 use Rattle.capture.specs.Digits.{digit0, digit9, letterA, letterF, glyph, digits, valueOf, areDigits, numberFrom, number, numberRead}
 
 -- what the value of a code is

@@ -7,8 +7,8 @@ use native.Mathlib.Omega.{arith}
 use borrow.Author.Tests.{ltb-true, ltb-false, leb-true, leb-false, eqb-true, eqb-false, lt-ltb, le-ltb, eq-eqb, ne-eqb}
 use lib.ListN.{length, take, drop, length-append, length-drop}
 use lib.Seq.{take-paste, length-paste, take-all, take-nil, drop-drop}
-use Rattle.frame.specs.Words.{_<?_, _≤?_, _=?_}
-use Rattle.frame.proofs.Words.{by-test}
+use Rattle.words.specs.Words.{_<?_, _≤?_, _=?_}
+use Rattle.words.proofs.Words.{by-test}
 use Rattle.capture.specs.Stream.{newline, longestLine, mostLines, linesFrom, lineIn, Piece, whole, tooLong, pieceOf, linesOf}
 use Rattle.capture.specs.Cutter.{fresh, kept, isTooLong, carriedOn, closed, lineAt, hasNewline, cuttingOf, cutterAfter, nextAfter, endingOf}
 use Rattle.capture.specs.Promises.{Next}

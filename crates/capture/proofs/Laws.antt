@@ -8,8 +8,8 @@ use native.Mathlib.Omega.{arith}
 use borrow.Author.Tests.{ltb-true, lt-leb, le-leb, ne-eqb}
 use lib.ListN.{length, take, length-append, length-take}
 use lib.Seq.{take-at}
-use Rattle.frame.specs.Words.{if_then_else_, given_then_, _<?_, _=?_, Told, refused, gives}
-use Rattle.frame.proofs.Words.{by-test, gives-same, refused-gives, refused-same}
+use Rattle.words.specs.Words.{if_then_else_, given_then_, _<?_, _=?_, Told, refused, gives}
+use Rattle.words.proofs.Words.{by-test, gives-same, refused-gives, refused-same}
 use Rattle.capture.specs.Digits.{numberRead, areDigits, number}
 use Rattle.capture.specs.Line.{Frame, lineOf, lineRead, IsLineOf, hasShape, gapRead, bytesRead, gapWidth, gapIn, idIn, dataIn, byteDigits}
 use Rattle.capture.specs.Stream.{newline, longestLine, mostLines, linesFrom, Piece, pieceOf, linesOf, pieceRead}

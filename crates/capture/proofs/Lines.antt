@@ -11,14 +11,14 @@ use borrow.Author.Tests.{eq-eqb, ne-eqb, leb-true, ltb-false, eqb-true}
 use lib.Dec.{lit<, lit≤}
 use lib.ListN.{length, getD, take, drop, set, length-take, drop-of-length-le}
 use lib.Seq.{drop-cons, drop-drop, take-suc-set, take-all}
-use Rattle.frame.specs.Words.{if_then_else_, given_then_, _≤?_, _<?_, _=?_, Told, refused, gives}
+use Rattle.words.specs.Words.{if_then_else_, given_then_, _≤?_, _<?_, _=?_, Told, refused, gives}
 use Rattle.capture.specs.Digits.{numberRead}
 use Rattle.capture.specs.Line.{hasShape, beginsWith, gapRead, bytesRead, gapIn, idIn, dataIn, gapWidth, lineRead}
 use Rattle.capture.specs.Promises.{TakeApart, frameIn, frameIf}
 use Rattle.capture.specs.Private.{blank}
 use Rattle.capture.specs.declared.Line.{Line}
 use Rattle.capture.specs.declared.Reading.the-variants as Reading
-use Rattle.frame.proofs.Words.{both-true, past-refusal, not-flips, gives-same, refused-gives}
+use Rattle.words.proofs.Words.{both-true, past-refusal, not-flips, gives-same, refused-gives}
 use Rattle.capture.proofs.Digits.{read-below}
 
 -- the loop that looks for a key

@@ -10,9 +10,9 @@ use borrow.Author.Tests.{ltb-true, ltb-false, eqb-true, le-ltb, le-leb, eq-eqb}
 use lib.Dec.{lit<, lit≤}
 use lib.ListN.{length, take, drop, length-append, length-drop, take-append-drop}
 use lib.Seq.{take-at, drop-at, take-all, drop-drop, length-take-le}
-use Rattle.frame.specs.Words.{given_then_, _<?_, _≤?_, _=?_, Told, refused, gives}
+use Rattle.words.specs.Words.{given_then_, _<?_, _≤?_, _=?_, Told, refused, gives}
 use Rattle.frame.specs.Bytes.{AreBytes}
-use Rattle.frame.proofs.Words.{by-test, both-true, past-refusal, not-flips, gives-same, refused-gives, true-false}
+use Rattle.words.proofs.Words.{by-test, both-true, past-refusal, not-flips, gives-same, refused-gives, true-false}
 use Rattle.capture.specs.Digits.{digits, numberRead}
 use Rattle.capture.specs.Line.{Frame, gapKey, idKey, dataKey, gapWidth, bytePairs, lineOf, IsFrame, IsLineOf, widthIn, beginsWith, hasShape, gapRead, bytesRead, gapIn, idIn, dataIn, lineRead}
 use Rattle.capture.proofs.Digits.{length-digits, spelled-read, read-spelled, read-below}

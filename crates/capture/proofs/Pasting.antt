@@ -9,8 +9,8 @@ use native.Mathlib.Omega.{arith}
 use lib.ListN.{length, getD, take, drop, set, replicate, length-append, length-set}
 use lib.Seq.{paste, paste-zero, paste-suc, take-paste, drop-paste, take-set-le, set-split, drop-at, take-at, take-all, take-add, drop-drop, drop-append-add, length-take-le}
 use Rattle.capture.specs.Digits.{glyph, digits}
-use Rattle.frame.specs.Words.{_<?_}
-use Rattle.frame.proofs.Words.{by-test}
+use Rattle.words.specs.Words.{_<?_}
+use Rattle.words.proofs.Words.{by-test}
 use Rattle.capture.specs.Line.{Frame, gapKey, idKey, dataKey, gapWidth, bytePairs, lineOf}
 use Rattle.capture.specs.Promises.{padded}
 use Rattle.capture.proofs.Digits.{length-digits}

@@ -5,7 +5,7 @@ use mathlib.Core.List.{List}
 use Prim.Native.Nat.{ℕ, _+_, _-_}
 use lib.ListN.{length, replicate}
 use lib.Seq.{paste}
-use Rattle.frame.specs.Words.{if_then_else_, _<?_, _≤?_, _=?_}
+use Rattle.words.specs.Words.{if_then_else_, _<?_, _≤?_, _=?_}
 use Rattle.capture.specs.Stream.{longestLine, mostLines, lineIn}
 use Rattle.capture.specs.declared.Cutter.{Cutter}
 use Rattle.capture.specs.declared.Cutting.{Cutting}

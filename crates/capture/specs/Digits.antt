@@ -3,7 +3,7 @@
 use mathlib.Core.Bool.{Bool, true}
 use mathlib.Core.List.{List, [], _∷_, _++_}
 use Prim.Native.Nat.{ℕ, zero, suc, _+_, _*_, _-_, _/_, _%_}
-use Rattle.frame.specs.Words.{if_then_else_, _<?_, _≤?_, _and_, Told, refused, gives}
+use Rattle.words.specs.Words.{if_then_else_, _<?_, _≤?_, _and_, Told, refused, gives}
 
 -- the codes of `0`, `9`, `A` and `F`
 abbrev pub digit0 : ℕ

@@ -5,7 +5,7 @@ use mathlib.Core.List.{List, [], _∷_, _++_}
 use mathlib.Core.Logic.{_↔_}
 use Prim.Native.Nat.{ℕ, _-_, _^_, _≤_, _<_}
 use lib.ListN.{length, take}
-use Rattle.frame.specs.Words.{refused, gives}
+use Rattle.words.specs.Words.{refused, gives}
 use Rattle.frame.specs.Frame.{frameBytes}
 use Rattle.capture.specs.Digits.{greatestBase, digits, numberRead}
 use Rattle.capture.specs.Line.{Frame, lineOf, lineRead, IsFrame, IsLineOf, gapWidth, greatestGap, shortestLine, longestSound}

@@ -7,7 +7,7 @@ use mathlib.Core.Bool.{Bool, true, false, not}
 use mathlib.Core.List.{List, [], _∷_, _++_}
 use Prim.Native.Nat.{ℕ, zero, suc, _+_, _-_, _^_, _≤_, _<_}
 use lib.ListN.{length, take, drop}
-use Rattle.frame.specs.Words.{if_then_else_, given_then_, _<?_, _≤?_, _=?_, _and_, Told, refused, gives}
+use Rattle.words.specs.Words.{if_then_else_, given_then_, _<?_, _≤?_, _=?_, _and_, Told, refused, gives}
 use Rattle.frame.specs.Bytes.{AreBytes}
 use Rattle.frame.specs.Frame.{frameBytes}
 use Rattle.capture.specs.Digits.{digits, numberRead}

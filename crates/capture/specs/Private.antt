@@ -2,7 +2,7 @@
 use mathlib.Core.List.{List}
 use Prim.Native.Nat.{ℕ}
 use lib.ListN.{replicate}
-use Rattle.frame.specs.Words.{if_then_else_, Told, refused, gives}
+use Rattle.words.specs.Words.{if_then_else_, Told, refused, gives}
 use Rattle.frame.specs.Frame.{frameBytes}
 use Rattle.capture.specs.declared.Reading.the-variants as Reading
 use Rattle.capture.specs.declared.Line.{Line}

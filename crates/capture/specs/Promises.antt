@@ -4,7 +4,7 @@ use mathlib.Core.Path.{_≡_}
 use mathlib.Core.List.{List, _++_}
 use Prim.Native.Nat.{ℕ, _-_}
 use lib.ListN.{length, drop, replicate}
-use Rattle.frame.specs.Words.{Told, refused, gives, numberIn}
+use Rattle.words.specs.Words.{Told, refused, gives, numberIn}
 use Rattle.frame.specs.Frame.{frameBytes}
 use Rattle.capture.specs.Line.{Frame, lineOf, lineRead, longestSound}
 use Rattle.capture.specs.Cutter.{fresh, cuttingOf, cutterAfter, nextAfter, endingOf}

@@ -4,7 +4,7 @@
 use mathlib.Core.List.{List, [], _∷_, _++_, map}
 use Prim.Native.Nat.{ℕ}
 use lib.ListN.{length, take}
-use Rattle.frame.specs.Words.{if_then_else_, _<?_, _=?_, Told, refused}
+use Rattle.words.specs.Words.{if_then_else_, _<?_, _=?_, Told, refused}
 use Rattle.capture.specs.Line.{Frame, lineRead}
 
 abbrev pub newline : ℕ

@@ -7,8 +7,8 @@ use Prim.Native.Nat.{ℕ, _+_, _*_, _-_, _/_, _^_, _≤_, _<_}
 use native.Mathlib.Omega.{arith}
 use borrow.Author.Tests.{eq-eqb, ne-eqb, lt-leb, le-leb, ltb-true, ltb-false, leb-false, eqb-true}
 use lib.Pow.{pow-pos, pow-mono, pow-add, high}
-use Rattle.frame.specs.Words.{if_then_else_, _<?_, _≤?_, _=?_, _and_}
-use Rattle.frame.proofs.Words.{by-test, both-true, true-false, not-flips}
+use Rattle.words.specs.Words.{if_then_else_, _<?_, _≤?_, _=?_, _and_}
+use Rattle.words.proofs.Words.{by-test, both-true, true-false, not-flips}
 use Rattle.catalogue.specs.Classes.{greatestCode, hasNoData, hasThree, classAt, classIn, belowGreatest}
 use Rattle.catalogue.specs.Classes.{hasTwoStates, errorCode, isError}
 use Rattle.catalogue.specs.Laws as Laws

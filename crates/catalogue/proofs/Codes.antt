@@ -8,8 +8,8 @@ use native.Mathlib.Omega.{arith}
 use borrow.Author.Tests.{eq-eqb, ne-eqb, lt-leb, ltb-true, ltb-false, leb-false, eqb-true}
 use lib.IntN.{ℤ, pos, negsuc}
 use lib.Pow.{pow-pos}
-use Rattle.frame.specs.Words.{if_then_else_, _<?_, _≤?_, _=?_, refused, gives}
-use Rattle.frame.proofs.Words.{past-refusal, before-refusal, not-flips, gives-same, by-test}
+use Rattle.words.specs.Words.{if_then_else_, _<?_, _≤?_, _=?_, refused, gives}
+use Rattle.words.proofs.Words.{past-refusal, before-refusal, not-flips, gives-same, by-test}
 use Rattle.catalogue.specs.Classes.{greatestCode, classIn, belowGreatest, _is_}
 use Rattle.catalogue.specs.Scale.{scaledOf, stepsOf, valueAs, valueOf}
 use Rattle.catalogue.specs.Codes.{codeWhere, classCode, steppedCode, scaledCode, codeOf}

@@ -6,13 +6,13 @@ use mathlib.Core.List.{List}
 use Prim.Native.Nat.{ℕ, _<_}
 use borrow.Author.Tests.{ltb-true, ltb-false, eqb-true, eq-eqb, ne-eqb}
 use lib.ListN.{length, List·getD-eq-default}
-use Rattle.frame.specs.Words.{given_then_, _<?_, _=?_, Told, refused, gives}
+use Rattle.words.specs.Words.{given_then_, _<?_, _=?_, Told, refused, gives}
 use Rattle.frame.specs.Bytes.{numberOf}
 use Rattle.frame.specs.Identifier.{dgnOf, catalogueForm}
 use Rattle.frame.specs.Frame.{checkedOf, frameBytes}
 use Rattle.frame.specs.Promises.{bytesIf}
 use Rattle.frame.specs.declared.Parts.{Parts}
-use Rattle.frame.proofs.Words.{by-test, before-refusal, past-refusal, not-flips, gives-same, refused-gives}
+use Rattle.words.proofs.Words.{by-test, before-refusal, past-refusal, not-flips, gives-same, refused-gives}
 use Rattle.frame.proofs.Frame.{checked-given}
 use Rattle.catalogue.specs.Rows.{rows}
 use Rattle.catalogue.specs.Table.{noRow, rowIn, liesInFrame, rowAt, rowOf}

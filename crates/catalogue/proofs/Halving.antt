@@ -7,8 +7,8 @@ use native.Mathlib.Nat.{not-suc-le-zero, le-refl}
 use native.Mathlib.Omega.{arith}
 use borrow.Author.Tests.{ltb-true, ltb-false, lt-ltb, le-ltb}
 use lib.ListN.{length}
-use Rattle.frame.specs.Words.{_<?_}
-use Rattle.frame.proofs.Words.{by-test}
+use Rattle.words.specs.Words.{_<?_}
+use Rattle.words.proofs.Words.{by-test}
 use Rattle.catalogue.specs.Table.{nth, below, having, KeepsRule}
 use Rattle.catalogue.specs.Packed.{middle, halve, halved}
 use Rattle.catalogue.specs.declared.Row.{Row}

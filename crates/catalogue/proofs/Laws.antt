@@ -8,13 +8,13 @@ use Prim.Native.Nat.{ℕ, _+_, _-_, _^_, _≤_, _<_}
 use native.Mathlib.Omega.{arith}
 use borrow.Author.Tests.{eq-eqb, le-ltb, le-leb, ltb-true, ltb-false, leb-true, leb-false}
 use lib.ListN.{length, List·getD-eq-default}
-use Rattle.frame.specs.Words.{if_then_else_, given_then_, _<?_, _≤?_, _=?_, Told, refused, gives}
+use Rattle.words.specs.Words.{if_then_else_, given_then_, _<?_, _≤?_, _=?_, Told, refused, gives}
 use Rattle.frame.specs.Bytes.{numberOf, AreBytes}
 use Rattle.frame.specs.Frame.{frameBytes}
 use Rattle.frame.specs.Promises.{refusalOf}
 use Rattle.frame.specs.declared.BadFrame.{BadFrame}
 use Rattle.frame.specs.declared.BadFrame.the-variants.{IdentifierTooLarge, NotEightBytes, ReservedBitSet, SourceNotAllowed}
-use Rattle.frame.proofs.Words.{by-test, refused-gives, gives-same}
+use Rattle.words.proofs.Words.{by-test, refused-gives, gives-same}
 use Rattle.frame.proofs.Bytes.{number-below, number-of-bytes, length-bytes, bytes-small}
 use Rattle.frame.proofs.Laws.{badBack, bad-back}
 use Rattle.catalogue.specs.Rows.{rows, rowCount}

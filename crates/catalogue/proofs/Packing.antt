@@ -9,8 +9,8 @@ use native.Mathlib.Omega.{arith}
 use borrow.Author.Tests.{lt-ltb, le-ltb, ltb-true}
 use lib.ListN.{length, drop, getD, length-map, List·getD-map, List·getD-eq-default, drop-of-length-le}
 use lib.Seq.{drop-cons}
-use Rattle.frame.specs.Words.{given_then_, _and_, _<?_, _=?_, Told, refused, gives}
-use Rattle.frame.proofs.Words.{by-test}
+use Rattle.words.specs.Words.{given_then_, _and_, _<?_, _=?_, Told, refused, gives}
+use Rattle.words.proofs.Words.{by-test}
 use Rattle.catalogue.specs.Rows.{rows}
 use Rattle.catalogue.specs.Table.{noRow, nth, rowIn, rowWith, liesInFrame, KeepsRule, rowOf, spanIn, spanOf}
 use Rattle.catalogue.specs.Packed.{unitOf, unpacked, pack, packedRows, tableRows, lying, tableRow, tableRowWith, tableSpan}

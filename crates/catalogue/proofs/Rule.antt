@@ -10,8 +10,8 @@ use native.Mathlib.Omega.{arith}
 use borrow.Author.Tests.{leb-true, leb-false, ltb-true, ltb-false, lt-ltb, le-ltb, eq-eqb, ne-eqb, eqb-true, eqb-false}
 use lib.Arith.{lt-of-le-ne}
 use lib.ListN.{length, getD}
-use Rattle.frame.specs.Words.{if_then_else_, _and_, _<?_, _≤?_, _=?_, gives}
-use Rattle.frame.proofs.Words.{by-test, both-true, true-false, gives-same, refused-gives}
+use Rattle.words.specs.Words.{if_then_else_, _and_, _<?_, _≤?_, _=?_, gives}
+use Rattle.words.proofs.Words.{by-test, both-true, true-false, gives-same, refused-gives}
 use Rattle.catalogue.specs.Rows.{rows, rowCount}
 use Rattle.catalogue.specs.Table.{nth, noRow, howMany, below, having, rowWith, liesInFrame, bitFrom, bitPast, inOrder, KeepsRule}
 use Rattle.catalogue.specs.Field.{InFrame, widest, frameBits}

@@ -12,8 +12,8 @@ use borrow.Author.Tests.{lt-ltb, le-ltb, ltb-true, ltb-false}
 use mir.Syntax.{w64}
 use mir.Val.{SFits, toZ, ofZ}
 use mir.ValLaws.{toZ-ofZ}
-use Rattle.frame.specs.Words.{_<?_, _=?_}
-use Rattle.frame.proofs.Words.{by-test, true-false}
+use Rattle.words.specs.Words.{_<?_, _=?_}
+use Rattle.words.proofs.Words.{by-test, true-false}
 use Rattle.catalogue.specs.Scale.{scaledOf, celsiusSteps, ampereSteps, stepsOf, signOf}
 use Rattle.catalogue.specs.declared.Unit.{Unit}
 use Rattle.catalogue.specs.declared.Unit.the-variants.{Other, Percent, Celsius, Volt, Ampere, Hertz}

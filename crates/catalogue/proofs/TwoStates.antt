@@ -10,12 +10,12 @@ use borrow.Author.Tests.{eqb-true, eqb-false, ltb-true, ltb-false}
 use lib.IntN.{pos, negsuc}
 use lib.Arith.{lt-of-le-ne}
 use lib.ListN.{length, List·getD-eq-default}
-use Rattle.frame.specs.Words.{if_then_else_, given_then_, _<?_, _≤?_, _=?_, _and_, Told, refused, gives}
+use Rattle.words.specs.Words.{if_then_else_, given_then_, _<?_, _≤?_, _=?_, _and_, Told, refused, gives}
 use Rattle.frame.specs.Bytes.{numberOf}
 use Rattle.frame.specs.Identifier.{catalogueForm}
 use Rattle.frame.specs.Frame.{checkedOf}
 use Rattle.frame.specs.declared.Parts.{Parts}
-use Rattle.frame.proofs.Words.{by-test, both-true, true-false, gives-same}
+use Rattle.words.proofs.Words.{by-test, both-true, true-false, gives-same}
 use Rattle.catalogue.specs.Rows.{rows, rowCount}
 use Rattle.catalogue.specs.Table.{nth, noRow, liesInFrame, rowAt}
 use Rattle.catalogue.specs.Field.{fieldOf}

@@ -4,7 +4,7 @@ use mathlib.Core.Bool.{not}
 use mathlib.Core.List.{List}
 use Prim.Native.Nat.{ℕ}
 use lib.ListN.{length}
-use Rattle.frame.specs.Words.{if_then_else_, given_then_, _=?_, Told, refused, gives}
+use Rattle.words.specs.Words.{if_then_else_, given_then_, _=?_, Told, refused, gives}
 use Rattle.frame.specs.Bytes.{numberOf, bytesOf}
 use Rattle.frame.specs.Identifier.{catalogueForm}
 use Rattle.frame.specs.Frame.{checkedOf, frameBytes}

@@ -3,7 +3,7 @@
 -- a number. In a row of two states 10b is an error, out-of-range.
 use mathlib.Core.Bool.{Bool}
 use Prim.Native.Nat.{ℕ, _-_, _^_}
-use Rattle.frame.specs.Words.{if_then_else_, _≤?_, _=?_, _and_, _or_}
+use Rattle.words.specs.Words.{if_then_else_, _≤?_, _=?_, _and_, _or_}
 use Rattle.catalogue.specs.declared.Row.{Row}
 use Rattle.catalogue.specs.declared.Class.{Class}
 use Rattle.catalogue.specs.declared.Class.the-variants.{Number, NoData, OutOfRange, Reserved}

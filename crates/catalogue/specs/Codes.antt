@@ -2,7 +2,7 @@
 use mathlib.Core.Bool.{not}
 use Prim.Native.Nat.{ℕ, _+_, _-_, _/_, _%_, _^_}
 use lib.IntN.{ℤ}
-use Rattle.frame.specs.Words.{if_then_else_, _<?_, _≤?_, _=?_, Told, refused, gives}
+use Rattle.words.specs.Words.{if_then_else_, _<?_, _≤?_, _=?_, Told, refused, gives}
 use Rattle.catalogue.specs.Classes.{greatestCode, classIn, belowGreatest, _is_}
 use Rattle.catalogue.specs.Scale.{stepsOf, signOf}
 use Rattle.catalogue.specs.declared.Row.{Row}

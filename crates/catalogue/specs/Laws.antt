@@ -7,7 +7,7 @@ use mathlib.Core.Logic.{_↔_, _⊎_}
 use Prim.Native.Nat.{ℕ, _+_, _*_, _-_, _^_, _≤_, _<_}
 use lib.IntN.{pos, negsuc}
 use lib.ListN.{length, getD}
-use Rattle.frame.specs.Words.{if_then_else_, _<?_, _=?_, _or_, refused, gives}
+use Rattle.words.specs.Words.{if_then_else_, _<?_, _=?_, _or_, refused, gives}
 use Rattle.frame.specs.Bytes.{numberOf, AreBytes}
 use Rattle.frame.specs.Frame.{checkedOf, frameBytes}
 use Rattle.frame.specs.declared.Parts.{Parts}

@@ -4,7 +4,7 @@ use mathlib.Core.Bool.{not}
 use mathlib.Core.List.{List, map}
 use Prim.Native.Nat.{ℕ, zero, suc, _+_, _*_, _-_, _/_, _%_}
 use lib.ListN.{length}
-use Rattle.frame.specs.Words.{if_then_else_, given_then_, _<?_, _=?_, Told, refused, gives}
+use Rattle.words.specs.Words.{if_then_else_, given_then_, _<?_, _=?_, Told, refused, gives}
 use Rattle.catalogue.specs.Rows.{rows}
 use Rattle.catalogue.specs.Table.{nth, rowIn, rowWith, liesInFrame}
 use Rattle.catalogue.specs.declared.Row.{Row}

@@ -2,7 +2,7 @@
 -- amperes in 1/20, hertz in 1/128; other rows give the code.
 use Prim.Native.Nat.{ℕ}
 use lib.IntN.{ℤ, pos, negsuc, _-ℤ_, _*ℤ_}
-use Rattle.frame.specs.Words.{if_then_else_, _=?_}
+use Rattle.words.specs.Words.{if_then_else_, _=?_}
 use Rattle.catalogue.specs.declared.Row.{Row}
 use Rattle.catalogue.specs.declared.Unit.{Unit}
 use Rattle.catalogue.specs.declared.Unit.the-variants.{Other, Percent, Celsius, Volt, Ampere, Hertz}

@@ -5,7 +5,7 @@ use mathlib.Core.Bool.{Bool, true}
 use mathlib.Core.List.{List, [], _∷_}
 use Prim.Native.Nat.{ℕ, _+_, _*_}
 use lib.ListN.{length, getD}
-use Rattle.frame.specs.Words.{if_then_else_, _and_, _<?_, _≤?_, _=?_, Told, refused, gives}
+use Rattle.words.specs.Words.{if_then_else_, _and_, _<?_, _≤?_, _=?_, Told, refused, gives}
 use Rattle.catalogue.specs.Rows.{row, rows, classed}
 use Rattle.catalogue.specs.Field.{widest, frameBits}
 use Rattle.catalogue.specs.declared.Row.{Row}

@@ -3,7 +3,7 @@
 ghost use mathlib.Core.Path.{_≡_};
 ghost use Prim.Native.Nat.{_<_};
 ghost use lib.ListN.{length};
-ghost use Rattle.frame.specs.Words.{_=?_, _and_};
+ghost use Rattle.words.specs.Words.{_=?_, _and_};
 ghost use Rattle.catalogue.specs.Table.{noRow, nth, liesInFrame};
 ghost use Rattle.catalogue.specs.Packed.{unitOf, unpacked, tableRows, lying, tableRow, tableRowWith, halved, tableSpan};
 ghost use Rattle.catalogue.specs.Promises.{toldLooked};

@@ -7,7 +7,7 @@ use Prim.Native.Nat.{ℕ, _<_}
 use native.Mathlib.Omega.{arith}
 use borrow.Author.Tests.{eq-eqb, ne-eqb}
 use lib.ListN.{length}
-use Rattle.frame.specs.Words.{_=?_, Told, refused, gives, given_then_}
+use Rattle.words.specs.Words.{_=?_, Told, refused, gives, given_then_}
 use Rattle.frame.specs.Bytes.{numberOf}
 use Rattle.frame.specs.Frame.{checkedOf}
 use Rattle.frame.specs.Standard.{claimDgn, noFrame}
@@ -16,7 +16,7 @@ use Rattle.frame.specs.declared.Parts.{Parts}
 use Rattle.frame.specs.declared.BadFrame.{BadFrame}
 use Rattle.frame.specs.declared.Verdict.{Verdict}
 use Rattle.frame.specs.declared.Verdict.the-variants.{Sound, Bad}
-use Rattle.frame.proofs.Words.{past-refusal, refused-gives, gives-same, not-flips, by-test}
+use Rattle.words.proofs.Words.{past-refusal, refused-gives, gives-same, not-flips, by-test}
 use Rattle.claim.specs.Candidates.{padded}
 use Rattle.claim.specs.Claim.{keepsRules, holdsList, claimId, claimBytes, begun, Outcome, nothingToDo, ownName, repeated, moved, fellSilent, outcomeOf, after}
 use Rattle.claim.specs.Promises.{Hear, toldHearing, meetsFrame, metOf, heardOf, afterTold, isSentTold, done, isSound, soundOf}

@@ -9,9 +9,9 @@ use native.Mathlib.Omega.{arith}
 use borrow.Author.Tests.{leb-true, eq-eqb, ne-eqb, le-leb, lt-leb}
 use lib.ListN.{length, take, drop, getD, set, replicate, drop-of-length-le}
 use lib.Seq.{drop-cons, take-all, take-suc, set-at, length-take-le}
-use Rattle.frame.specs.Words.{_≤?_}
+use Rattle.words.specs.Words.{_≤?_}
 use Rattle.frame.specs.Standard.{greatestAddress}
-use Rattle.frame.proofs.Words.{both-true}
+use Rattle.words.proofs.Words.{both-true}
 use Rattle.claim.specs.Candidates.{longestList, areAddresses, isAbsent, areDistinct, isWellFormed, padded}
 
 -- each loop passes an element, stops at one, or ends

@@ -8,7 +8,7 @@ use native.Mathlib.Omega.{arith}
 use borrow.Author.Tests.{ne-eqb, le-leb}
 use lib.ListN.{length, replicate, List·getD-append}
 use lib.Seq.{take-append-seam}
-use Rattle.frame.specs.Words.{if_then_else_, _=?_, Told, refused, gives, given_then_}
+use Rattle.words.specs.Words.{if_then_else_, _=?_, Told, refused, gives, given_then_}
 use Rattle.frame.specs.Bytes.{bytesOf}
 use Rattle.frame.specs.Identifier.{identifierOf, identifiers, priorityOf, reservedOf, dgnOf, sourceOf}
 use Rattle.frame.specs.Frame.{frameBytes, sourceAllowed, checkedOf}
@@ -17,7 +17,7 @@ use Rattle.frame.specs.Laws.{toldButPriority}
 use Rattle.frame.specs.declared.Parts.{Parts}
 use Rattle.frame.specs.declared.BadFrame.{BadFrame}
 use Rattle.frame.specs.declared.BadFrame.the-variants.{IdentifierTooLarge, NotEightBytes, ReservedBitSet, SourceNotAllowed}
-use Rattle.frame.proofs.Words.{past-refusal, before-refusal, refused-gives, not-flips, by-test, both-true, true-false}
+use Rattle.words.proofs.Words.{past-refusal, before-refusal, refused-gives, not-flips, by-test, both-true, true-false}
 use Rattle.frame.proofs.Bytes.{length-bytes}
 use Rattle.frame.proofs.Laws as frame-laws
 use Rattle.claim.specs.Candidates.{longestList, isWellFormed, padded}

@@ -7,9 +7,9 @@ use mathlib.Core.Logic.{_↔_}
 use Prim.Native.Nat.{ℕ, _≤_, min}
 use native.Mathlib.Omega.{arith}
 use borrow.Author.Tests.{eq-eqb, ne-eqb, eqb-true, eqb-false}
-use Rattle.frame.specs.Words.{_=?_}
+use Rattle.words.specs.Words.{_=?_}
 use Rattle.frame.specs.Standard.{greatestAddress}
-use Rattle.frame.proofs.Words.{true-false, by-test, both-true}
+use Rattle.words.proofs.Words.{true-false, by-test, both-true}
 use Rattle.claim.specs.Claim.{heldAfter, keepsRules, holdsList, address, held, claiming, silent, standOf, begun, Outcome, nothingToDo, ownName, repeated, moved, fellSilent, outcomeOf, after, pause}
 use Rattle.claim.specs.History.{Event, heard, paused, step, run, met, markOf, history, waitedAfter, waitedSince}
 use Rattle.claim.specs.Promises.{isSound}

@@ -5,8 +5,8 @@ use mathlib.Core.Bool.{true, false}
 use Prim.Native.Nat.{ℕ, _+_, _≤_, _<_}
 use native.Mathlib.Omega.{arith}
 use borrow.Author.Tests.{eqb-true, eqb-false, ltb-true, ltb-false}
-use Rattle.frame.specs.Words.{_<?_, _=?_}
-use Rattle.frame.proofs.Words.{true-false, by-test}
+use Rattle.words.specs.Words.{_<?_, _=?_}
+use Rattle.words.proofs.Words.{true-false, by-test}
 use Rattle.claim.specs.Claim.{address, Outcome, nothingToDo, ownName, repeated, moved, fellSilent, lostBy, outcomeOf, after, pause}
 use Rattle.claim.specs.declared.Claim.{Claim}
 use Rattle.claim.proofs.Sound.{Rules, pause-silent, pause-awake}

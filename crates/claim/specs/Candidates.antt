@@ -3,7 +3,7 @@ use mathlib.Core.Bool.{Bool, true, not}
 use mathlib.Core.List.{List, [], _∷_, _++_}
 use Prim.Native.Nat.{ℕ, _-_}
 use lib.ListN.{length, replicate}
-use Rattle.frame.specs.Words.{_≤?_, _=?_, _and_}
+use Rattle.words.specs.Words.{_≤?_, _=?_, _and_}
 use Rattle.frame.specs.Standard.{greatestAddress}
 
 abbrev pub longestList : ℕ

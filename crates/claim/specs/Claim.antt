@@ -4,7 +4,7 @@ use mathlib.Core.Bool.{Bool, true, false, not}
 use mathlib.Core.List.{List}
 use Prim.Native.Nat.{ℕ, _+_, min}
 use lib.ListN.{length, getD, take}
-use Rattle.frame.specs.Words.{if_then_else_, _<?_, _≤?_, _=?_, _and_}
+use Rattle.words.specs.Words.{if_then_else_, _<?_, _≤?_, _=?_, _and_}
 use Rattle.frame.specs.Bytes.{bytesOf}
 use Rattle.frame.specs.Identifier.{identifierOf}
 use Rattle.frame.specs.Frame.{frameBytes}

@@ -6,7 +6,7 @@ use mathlib.Core.List.{List}
 use mathlib.Core.Logic.{_↔_}
 use Prim.Native.Nat.{ℕ, _≤_, _<_, _%_, _^_}
 use lib.ListN.{length, getD}
-use Rattle.frame.specs.Words.{refused, gives}
+use Rattle.words.specs.Words.{refused, gives}
 use Rattle.frame.specs.Bytes.{numberOf, bytesOf}
 use Rattle.frame.specs.Identifier.{identifierOf, identifiers}
 use Rattle.frame.specs.Frame.{frameBytes, checkedOf}

@@ -5,7 +5,7 @@ use mathlib.Core.Bool.{Bool, false, not}
 use mathlib.Core.List.{List}
 use Prim.Native.Nat.{ℕ}
 use lib.ListN.{length, replicate}
-use Rattle.frame.specs.Words.{if_then_else_, _=?_, _and_, Told, refused, gives, numberIn, given_then_}
+use Rattle.words.specs.Words.{if_then_else_, _=?_, _and_, Told, refused, gives, numberIn, given_then_}
 use Rattle.frame.specs.Bytes.{numberOf}
 use Rattle.frame.specs.Frame.{checkedOf}
 use Rattle.frame.specs.Standard.{claimDgn, noFrame}

@@ -8,7 +8,7 @@ use frame::Verdict;
 use frame::standard;
 ghost use mathlib.Core.Path.{_≡_};
 ghost use Prim.Native.Nat.{_<_};
-ghost use Rattle.frame.specs.Words.{gives};
+ghost use Rattle.words.specs.Words.{gives};
 ghost use Rattle.frame.specs.Standard.{noFrame};
 ghost use Rattle.claim.specs.Claim.{claimId, claimBytes, lostBy, outcomeOf};
 ghost use Rattle.claim.specs.Promises.{toldHearing, metOf, heardOf};

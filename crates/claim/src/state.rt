@@ -6,7 +6,7 @@ use crate::Standing;
 use frame::standard;
 ghost use mathlib.Core.Path.{_≡_};
 ghost use Prim.Native.Nat.{_+_, _<_};
-ghost use Rattle.frame.specs.Words.{gives};
+ghost use Rattle.words.specs.Words.{gives};
 ghost use Rattle.claim.specs.Claim.{claimSource, claimId, standOf, atNext, fallen, pause};
 ghost use Rattle.claim.specs.Promises.{blank, toldStanding};
 

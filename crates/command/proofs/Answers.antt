@@ -8,19 +8,19 @@ use native.Mathlib.Nat.{div-one}
 use native.Mathlib.Omega.{arith}
 use borrow.Author.Tests.{eq-eqb, ne-eqb, lt-ltb, le-ltb}
 use lib.ListN.{take, getD}
-use Rattle.frame.specs.Words.{if_then_else_, Told, refused, gives, given_then_}
+use Rattle.words.specs.Words.{if_then_else_, Told, refused, gives, given_then_}
+use Rattle.words.specs.Lists.{any}
 use Rattle.frame.specs.Bytes.{numberOf}
 use Rattle.frame.specs.Identifier.{greatestDgn, destinationOf, catalogueForm}
 use Rattle.frame.specs.Standard.{Frame, addressClaimed, dgnAt, everyone, greatestAddress, noAddress, noFrame, requestDgn}
 use Rattle.frame.specs.Promises.{destined}
 use Rattle.frame.specs.declared.Parts.{Parts}
-use Rattle.places.specs.Layout.{any}
 use Rattle.claim.specs.Claim.{keepsRules, holdsList, Stand, held, standOf}
 use Rattle.claim.specs.Promises.{isSound, soundOf, toldStanding}
 use Rattle.claim.specs.declared.Claim.{Claim}
 use Rattle.claim.specs.declared.Standing.{Standing}
 use Rattle.claim.proofs.Calls.{sound-well}
-use Rattle.frame.proofs.Words.{both-true}
+use Rattle.words.proofs.Words.{both-true}
 use Rattle.command.specs.Hosted.{hosted}
 use Rattle.command.specs.Positions.{positionsWhere, filled, listed}
 use Rattle.command.specs.Handed.{handedIn, addressHeld}

@@ -10,15 +10,15 @@ use native.Mathlib.Omega.{arith}
 use borrow.Author.Tests.{eq-eqb, eqb-true, eqb-false, leb-true}
 use lib.ListN.{length, take, getD}
 use lib.Seq.{getD-take, length-take-le}
-use Rattle.frame.specs.Words.{if_then_else_, _≤?_, _<?_, _=?_, _and_, _or_, Told, refused, gives, given_then_}
+use Rattle.words.specs.Words.{if_then_else_, _≤?_, _<?_, _=?_, _and_, _or_, Told, refused, gives, given_then_}
+use Rattle.words.specs.Lists.{any, every}
 use Rattle.frame.specs.Bytes.{numberOf, bytesOf}
 use Rattle.frame.specs.Identifier.{identifierOf, greatestDgn, priorityOf, reservedOf, dgnOf, sourceOf, partsOf, isAddressed, destinationOf, catalogueForm}
 use Rattle.frame.specs.Frame.{sourceAllowed, checkedOf}
 use Rattle.frame.specs.Standard.{Frame, addressClaimed, dgnAt, everyone, noAddress, noFrame, requestDgn}
 use Rattle.frame.specs.declared.Parts.{Parts}
-use Rattle.frame.proofs.Words.{by-test, both-true, true-false, before-refusal}
-use Rattle.places.specs.Layout.{any, every}
-use Rattle.places.proofs.Search.{every-at}
+use Rattle.words.proofs.Words.{by-test, both-true, true-false, before-refusal}
+use Rattle.words.proofs.Lists.{every-at}
 use Rattle.claim.specs.Claim.{keepsRules, holdsList, Stand, held, claiming, silent, standOf}
 use Rattle.claim.specs.Promises.{done}
 use Rattle.claim.specs.declared.Claim.{Claim}

@@ -6,14 +6,14 @@ use mathlib.Core.List.{List}
 use Prim.Native.Nat.{ℕ, _≤_}
 use borrow.Author.Tests.{leb-true}
 use lib.ListN.{length, replicate}
-use Rattle.frame.specs.Words.{if_then_else_, _≤?_, _and_, Told, refused, gives}
+use Rattle.words.specs.Words.{if_then_else_, _≤?_, _and_, Told, refused, gives}
 use Rattle.frame.specs.Frame.{frameBytes, checkedOf}
 use Rattle.frame.specs.Promises.{refusalOf, toldVerdict, bytesIf}
 use Rattle.frame.specs.declared.Parts.{Parts}
 use Rattle.frame.specs.declared.BadFrame.{BadFrame}
 use Rattle.frame.specs.declared.Verdict.{Verdict}
 use Rattle.frame.specs.declared.Verdict.the-variants.{Sound, Bad}
-use Rattle.frame.proofs.Words.{past-refusal, not-flips, both-true}
+use Rattle.words.proofs.Words.{past-refusal, not-flips, both-true}
 use Rattle.claim.specs.Claim.{keepsRules, holdsList}
 use Rattle.claim.specs.Promises.{isSound}
 use Rattle.claim.specs.declared.Claim.{Claim}

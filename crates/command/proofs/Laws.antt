@@ -9,16 +9,16 @@ use native.Mathlib.Omega.{arith}
 use borrow.Author.Tests.{ne-eqb, eqb-true}
 use lib.ListN.{length, take, getD, replicate}
 use lib.Seq.{take-at, length-take-le, getD-take}
-use Rattle.frame.specs.Words.{if_then_else_, _≤?_, _=?_, _and_, Told, refused, gives, given_then_}
+use Rattle.words.specs.Words.{if_then_else_, _≤?_, _=?_, _and_, Told, refused, gives, given_then_}
+use Rattle.words.specs.Lists.{any, every}
 use Rattle.frame.specs.Identifier.{greatestDgn, destinationOf, catalogueForm}
 use Rattle.frame.specs.Frame.{checkedOf}
 use Rattle.frame.specs.Standard.{Frame, dgnAt}
 use Rattle.frame.specs.Laws.{toldButPriority}
 use Rattle.frame.specs.declared.Parts.{Parts}
 use Rattle.frame.specs.declared.BadFrame.the-variants.{IdentifierTooLarge, NotEightBytes, ReservedBitSet, SourceNotAllowed}
-use Rattle.frame.proofs.Words.{by-test, both-true, before-refusal, refused-gives}
+use Rattle.words.proofs.Words.{by-test, both-true, before-refusal, refused-gives}
 use Rattle.frame.proofs.Laws as frame-laws
-use Rattle.places.specs.Layout.{any, every}
 use Rattle.claim.specs.Claim.{keepsRules, holdsList, standOf}
 use Rattle.claim.specs.Promises.{Done, done}
 use Rattle.claim.specs.declared.Claim.{Claim}

@@ -8,7 +8,7 @@ use native.Mathlib.Numerals.{add-one}
 use native.Mathlib.Omega.{arith}
 use lib.ListN.{length, take, drop, getD, set, replicate, drop-of-length-le}
 use lib.Seq.{drop-cons, take-suc, set-at, length-take-le}
-use Rattle.places.specs.Layout.{any}
+use Rattle.words.specs.Lists.{any}
 use Rattle.command.specs.Hosted.{isSamePair, noPairRepeats, blankEntry}
 use Rattle.command.specs.declared.Entry.{Entry}
 

@@ -8,9 +8,9 @@ use native.Mathlib.Numerals.{add-one}
 use native.Mathlib.Omega.{arith}
 use lib.ListN.{length, take, getD, replicate, length-append}
 use lib.Seq.{take-suc, set-at, length-take-le, take-append-seam}
-use Rattle.frame.specs.Words.{if_then_else_}
-use Rattle.frame.proofs.Words.{by-test}
-use Rattle.places.specs.Layout.{any}
+use Rattle.words.specs.Words.{if_then_else_}
+use Rattle.words.specs.Lists.{any}
+use Rattle.words.proofs.Words.{by-test}
 use Rattle.command.specs.Hosted.{mostEntries, blankEntry}
 use Rattle.command.specs.Positions.{positionsFrom, positionsWhere, filled, listed}
 use Rattle.command.specs.Private.{added}

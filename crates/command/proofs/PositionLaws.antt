@@ -8,13 +8,13 @@ use native.Mathlib.Nat.{le-of-suc-le-suc, not-suc-le-zero}
 use native.Mathlib.Omega.{arith}
 use borrow.Author.Tests.{eq-eqb, ne-eqb, eqb-true}
 use lib.ListN.{length, getD}
-use Rattle.frame.specs.Words.{if_then_else_, _≤?_, _=?_, _and_, _or_, Told, refused, gives, given_then_}
+use Rattle.words.specs.Words.{if_then_else_, _≤?_, _=?_, _and_, _or_, Told, refused, gives, given_then_}
+use Rattle.words.specs.Lists.{any, every}
 use Rattle.frame.specs.Identifier.{dgnOf, catalogueForm}
 use Rattle.frame.specs.Promises.{destined}
 use Rattle.frame.specs.declared.Parts.{Parts}
-use Rattle.frame.proofs.Words.{by-test, both-true, true-false}
+use Rattle.words.proofs.Words.{by-test, both-true, true-false}
 use Rattle.frame.proofs.Frame.{checked-given}
-use Rattle.places.specs.Layout.{any, every}
 use Rattle.claim.specs.Claim.{Stand, standOf}
 use Rattle.command.specs.Hosted.{mostEntries, isEntry, isSamePair, noPairRepeats, hosted, isWellFormed}
 use Rattle.command.specs.Positions.{positionsFrom, positionsWhere, filled}

@@ -8,16 +8,16 @@ use Prim.Native.Nat.{ℕ, _+_, _≤_, _<_}
 use native.Mathlib.Omega.{arith}
 use borrow.Author.Tests.{ne-eqb, eqb-true, eqb-false, ltb-false}
 use lib.ListN.{length}
-use Rattle.frame.specs.Words.{_≤?_, _<?_, _=?_, gives}
+use Rattle.words.specs.Words.{_≤?_, _<?_, _=?_, gives}
+use Rattle.words.specs.Lists.{any}
 use Rattle.frame.specs.Bytes.{bytesOf}
 use Rattle.frame.specs.Identifier.{identifierOf, identifiers, greatestDgn, priorityOf, reservedOf, dgnOf, sourceOf, partsOf, catalogueForm}
 use Rattle.frame.specs.Frame.{frameBytes, sourceAllowed, checkedOf}
 use Rattle.frame.specs.Standard.{Frame, acknowledgmentDgn, addressClaimed, everyone, greatestAddress, noAddress, noFrame, requestDgn}
 use Rattle.frame.specs.declared.Parts.{Parts}
-use Rattle.frame.proofs.Words.{by-test, both-true, true-false, past-refusal, before-refusal, refused-gives, gives-same, not-flips}
+use Rattle.words.proofs.Words.{by-test, both-true, true-false, past-refusal, before-refusal, refused-gives, gives-same, not-flips}
 use Rattle.frame.proofs.Frame.{checked-given}
 use Rattle.frame.proofs.Laws as frame-laws
-use Rattle.places.specs.Layout.{any}
 use Rattle.claim.specs.Claim.{heldAfter, keepsRules, holdsList, address, claimSource, claimId, Stand, held, claiming, silent, standOf}
 use Rattle.claim.specs.Promises.{isSound}
 use Rattle.claim.specs.declared.Claim.{Claim}

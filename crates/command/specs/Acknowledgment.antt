@@ -3,7 +3,7 @@
 use mathlib.Core.Bool.{not}
 use mathlib.Core.List.{List, _∷_}
 use Prim.Native.Nat.{ℕ, _+_}
-use Rattle.frame.specs.Words.{if_then_else_, _<?_, Told, refused, gives, given_then_}
+use Rattle.words.specs.Words.{if_then_else_, _<?_, Told, refused, gives, given_then_}
 use Rattle.frame.specs.Identifier.{identifierOf, greatestDgn}
 use Rattle.frame.specs.Standard.{Frame, acknowledgmentDgn, dgnBytes, greatestAddress, unused}
 use Rattle.claim.specs.Claim.{keepsRules, holdsList, claimId, claimBytes, standOf}

@@ -3,12 +3,12 @@ use mathlib.Core.Bool.{Bool, false, not}
 use mathlib.Core.List.{List}
 use Prim.Native.Nat.{ℕ}
 use lib.ListN.{getD}
-use Rattle.frame.specs.Words.{if_then_else_, _=?_, _and_, Told, gives, given_then_}
+use Rattle.words.specs.Words.{if_then_else_, _=?_, _and_, Told, gives, given_then_}
+use Rattle.words.specs.Lists.{any}
 use Rattle.frame.specs.Identifier.{catalogueForm}
 use Rattle.frame.specs.Promises.{destined}
 use Rattle.frame.specs.declared.Destination.{Destination}
 use Rattle.frame.specs.declared.Destination.the-variants.{NotAddressed, All, One}
-use Rattle.places.specs.Layout.{any}
 use Rattle.claim.specs.Claim.{Stand, standOf}
 use Rattle.claim.specs.declared.Claim.{Claim}
 use Rattle.command.specs.Hosted.{hosted}

@@ -7,12 +7,12 @@ use mathlib.Core.List.{List, [], _∷_, _++_}
 use mathlib.Core.Logic.{_⊎_, _↔_}
 use Prim.Native.Nat.{ℕ, _+_, _≤_, _<_}
 use lib.ListN.{length, take, getD, replicate}
-use Rattle.frame.specs.Words.{if_then_else_, _<?_, _=?_, Told, refused, gives, given_then_}
+use Rattle.words.specs.Words.{if_then_else_, _<?_, _=?_, Told, refused, gives, given_then_}
+use Rattle.words.specs.Lists.{any}
 use Rattle.frame.specs.Identifier.{greatestDgn, dgnOf, sourceOf, partsOf, destinationOf, catalogueForm}
 use Rattle.frame.specs.Frame.{checkedOf}
 use Rattle.frame.specs.Standard.{addressClaimed, dgnBytes, everyone, noAddress, requestDgn}
 use Rattle.frame.specs.declared.Parts.{Parts}
-use Rattle.places.specs.Layout.{any}
 use Rattle.claim.specs.Claim.{held, standOf}
 use Rattle.claim.specs.Promises.{isSound}
 use Rattle.claim.specs.Laws.{NoFrame}

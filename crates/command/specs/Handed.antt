@@ -4,7 +4,7 @@ use mathlib.Core.Bool.{not}
 use mathlib.Core.List.{List}
 use Prim.Native.Nat.{ℕ}
 use lib.ListN.{length}
-use Rattle.frame.specs.Words.{if_then_else_, _and_, Told, refused, gives, given_then_}
+use Rattle.words.specs.Words.{if_then_else_, _and_, Told, refused, gives, given_then_}
 use Rattle.frame.specs.Frame.{checkedOf}
 use Rattle.frame.specs.declared.Parts.{Parts}
 use Rattle.claim.specs.Claim.{keepsRules, holdsList, Stand, held, claiming, silent}

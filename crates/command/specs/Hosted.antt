@@ -3,9 +3,9 @@ use mathlib.Core.Bool.{Bool, true, false, not}
 use mathlib.Core.List.{List, [], _∷_, _++_}
 use Prim.Native.Nat.{ℕ, _-_}
 use lib.ListN.{take, replicate}
-use Rattle.frame.specs.Words.{_≤?_, _=?_, _and_}
+use Rattle.words.specs.Words.{_≤?_, _=?_, _and_}
+use Rattle.words.specs.Lists.{any, every}
 use Rattle.frame.specs.Identifier.{greatestDgn, catalogueForm}
-use Rattle.places.specs.Layout.{any, every}
 use Rattle.command.specs.declared.Edition.{Edition}
 use Rattle.command.specs.declared.Entry.{Entry}
 use Rattle.command.specs.declared.Host.{Host}

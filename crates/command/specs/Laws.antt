@@ -6,14 +6,14 @@ use mathlib.Core.List.{List, [], _∷_}
 use mathlib.Core.Logic.{_↔_}
 use Prim.Native.Nat.{ℕ, _+_, _≤_, _<_, _%_, _^_}
 use lib.ListN.{length, take, getD}
-use Rattle.frame.specs.Words.{refused, gives, numberIn}
+use Rattle.words.specs.Words.{refused, gives, numberIn}
+use Rattle.words.specs.Lists.{any}
 use Rattle.frame.specs.Identifier.{identifiers, greatestDgn, dgnOf, sourceOf, partsOf, isAddressed, destinationOf, catalogueForm}
 use Rattle.frame.specs.Frame.{checkedOf}
 use Rattle.frame.specs.Standard.{Frame, acknowledgmentDgn, addressClaimed, everyone, greatestAddress, requestDgn}
 use Rattle.frame.specs.Promises.{destined}
 use Rattle.frame.specs.declared.Parts.{Parts}
 use Rattle.frame.specs.declared.Destination.the-variants.{One}
-use Rattle.places.specs.Layout.{any}
 use Rattle.claim.specs.Claim.{keepsRules, holdsList, claimSource, held, claiming, silent, standOf}
 use Rattle.claim.specs.Promises.{done, isSound}
 use Rattle.claim.specs.Laws.{NoFrame}

@@ -4,7 +4,7 @@ use mathlib.Core.Bool.{Bool}
 use mathlib.Core.List.{List, [], _∷_, _++_}
 use Prim.Native.Nat.{ℕ, suc, _-_}
 use lib.ListN.{length, take, replicate}
-use Rattle.frame.specs.Words.{if_then_else_}
+use Rattle.words.specs.Words.{if_then_else_}
 use Rattle.command.specs.Hosted.{mostEntries}
 use Rattle.command.specs.declared.Entry.{Entry}
 use Rattle.command.specs.declared.Positions.{Positions}

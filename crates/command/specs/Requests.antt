@@ -4,11 +4,11 @@ use mathlib.Core.Bool.{Bool, false, not}
 use mathlib.Core.List.{List}
 use Prim.Native.Nat.{ℕ}
 use lib.ListN.{getD}
-use Rattle.frame.specs.Words.{if_then_else_, _<?_, _=?_, _and_, _or_, Told, refused, gives, given_then_}
+use Rattle.words.specs.Words.{if_then_else_, _<?_, _=?_, _and_, _or_, Told, refused, gives, given_then_}
+use Rattle.words.specs.Lists.{any}
 use Rattle.frame.specs.Identifier.{greatestDgn, destinationOf, catalogueForm}
 use Rattle.frame.specs.Standard.{Frame, addressClaimed, dgnAt, everyone, noAddress, requestDgn}
 use Rattle.frame.specs.declared.Parts.{Parts}
-use Rattle.places.specs.Layout.{any}
 use Rattle.claim.specs.Claim.{Stand, held, claiming, silent, standOf}
 use Rattle.claim.specs.declared.Claim.{Claim}
 use Rattle.command.specs.Hosted.{hosted}

@@ -8,7 +8,7 @@ use crate::picking::Wanted;
 use frame::Destination;
 ghost use mathlib.Core.Path.{_≡_};
 ghost use Prim.Native.Nat.{_≤_};
-ghost use Rattle.frame.specs.Words.{if_then_else_, gives};
+ghost use Rattle.words.specs.Words.{if_then_else_, gives};
 ghost use Rattle.frame.specs.Identifier.{catalogueForm};
 ghost use Rattle.frame.specs.Promises.{destined};
 ghost use Rattle.command.specs.Hosted.{hosted};

@@ -8,7 +8,7 @@ use frame::Verdict;
 ghost use mathlib.Core.Path.{_≡_};
 ghost use mathlib.Core.Bool.{not};
 ghost use lib.ListN.{replicate};
-ghost use Rattle.frame.specs.Words.{if_then_else_, _and_, refused, gives};
+ghost use Rattle.words.specs.Words.{if_then_else_, _and_, refused, gives};
 ghost use Rattle.claim.specs.Claim.{holdsList};
 ghost use Rattle.command.specs.Hosted.{isWellFormed};
 ghost use Rattle.command.specs.Handed.{handedIn};

@@ -7,7 +7,7 @@ use frame::standard;
 ghost use mathlib.Core.Path.{_≡_};
 ghost use Prim.Native.Nat.{_+_, _<_, _≤_};
 ghost use lib.ListN.{drop, getD};
-ghost use Rattle.places.specs.Layout.{any, every};
+ghost use Rattle.words.specs.Lists.{any, every};
 ghost use Rattle.command.specs.Hosted.{isHostedDgn, isEntry, isSamePair, noPairRepeats, hosted, isWellFormed, blankEntry, begun, empty};
 
 // An instance is 1 to 250.

@@ -8,7 +8,7 @@ use crate::requests::Asked;
 ghost use mathlib.Core.Path.{_≡_};
 ghost use mathlib.Core.List.{[]};
 ghost use Prim.Native.Nat.{_<_, _≤_};
-ghost use Rattle.frame.specs.Words.{if_then_else_};
+ghost use Rattle.words.specs.Words.{if_then_else_};
 ghost use Rattle.command.specs.Hosted.{hosted};
 ghost use Rattle.command.specs.Positions.{positionsWhere, filled};
 ghost use Rattle.command.specs.Commands.{isMeant};

@@ -15,7 +15,7 @@ use frame::standard;
 ghost use mathlib.Core.Path.{_≡_};
 ghost use mathlib.Core.Bool.{true};
 ghost use Prim.Native.Nat.{_≤_};
-ghost use Rattle.frame.specs.Words.{gives};
+ghost use Rattle.words.specs.Words.{gives};
 ghost use Rattle.claim.specs.Promises.{isSound};
 ghost use Rattle.command.specs.Hosted.{hosted};
 ghost use Rattle.claim.specs.Claim.{claiming};

@@ -7,8 +7,8 @@ use Prim.Native.Nat.{ℕ, _+_, _≤_, _<_}
 use mathlib.Core.Option.{some, none}
 use native.Mathlib.Omega.{arith}
 use borrow.Author.Tests.{ltb-false, le-ltb, lt-ltb, ltb-true}
-use Rattle.frame.specs.Words.{if_then_else_, _=?_, _<?_, Told, refused, gives}
-use Rattle.frame.proofs.Words.{by-test}
+use Rattle.words.specs.Words.{if_then_else_, _=?_, _<?_, Told, refused, gives}
+use Rattle.words.proofs.Words.{by-test}
 use Rattle.places.specs.Format.{opens, goes, ends}
 use Rattle.places.specs.OneKey.{pauseAlone}
 use Rattle.places.proofs.Calls as Calls

@@ -3,7 +3,7 @@
 use mathlib.Core.Path.{_≡_, refl, sym, ap, _∙_}
 use Prim.Native.Nat.{ℕ}
 use lib.ListN.{length}
-use Rattle.frame.specs.Words.{gives}
+use Rattle.words.specs.Words.{gives}
 use Rattle.frame.specs.Frame.{checkedOf}
 use Rattle.frame.specs.Standard.{claimDgn}
 use Rattle.frame.specs.Bytes.{numberOf}

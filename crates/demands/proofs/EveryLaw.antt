@@ -6,7 +6,7 @@ use Rattle.frame.proofs.Laws as Frame
 use Rattle.places.specs.Format.{Format}
 use Rattle.places.specs.Layout.{Layout}
 use Rattle.places.specs.Calls.{Calls, KeepsPlaces}
-use Rattle.places.proofs.Search as PlacesSearch
+use Rattle.words.proofs.Lists as PlacesSearch
 use Rattle.places.proofs.Stretch as PlacesStretch
 use Rattle.places.proofs.View as PlacesView
 use Rattle.places.proofs.Receiver as PlacesReceiver

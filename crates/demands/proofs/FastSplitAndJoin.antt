@@ -7,9 +7,9 @@ use mathlib.Core.List.{List, [], _∷_, _++_, append-assoc}
 use mathlib.Core.Option.{Option, none}
 use Prim.Native.Nat.{ℕ}
 use native.Mathlib.Omega.{arith}
-use Rattle.frame.specs.Words.{Told, gives}
+use Rattle.words.specs.Words.{Told, gives}
 use Rattle.frame.specs.Standard.{Frame}
-use Rattle.frame.proofs.Words.{by-test}
+use Rattle.words.proofs.Words.{by-test}
 use Rattle.places.specs.Format.{Event, frame, pause}
 use Rattle.places.specs.OneKey.{solo, hearAlone, pauseAlone, openAfter}
 use Rattle.fast.specs.FastPacket.{pairOf}

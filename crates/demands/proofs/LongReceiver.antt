@@ -11,20 +11,21 @@ use native.Mathlib.Omega.{arith}
 use borrow.Author.Tests.{eq-eqb, ne-eqb, eqb-true, eqb-false, lt-ltb, le-ltb, le-leb, lt-leb, ltb-false, not-true}
 use lib.ListN.{length, take, drop, getD, set, replicate, length-take, length-drop, length-map}
 use lib.Seq.{paste, length-paste, take-paste, take-take}
-use Rattle.frame.specs.Words.{if_then_else_, _≤?_, _<?_, _=?_, _and_, Told, refused, gives}
+use Rattle.words.specs.Words.{if_then_else_, _≤?_, _<?_, _=?_, _and_, Told, refused, gives}
+use Rattle.words.specs.Lists.{every, count, first}
 use Rattle.frame.specs.Identifier.{sourceOf, greatestDgn}
 use Rattle.frame.specs.Frame.{frameBytes}
 use Rattle.frame.specs.Standard.{Frame}
 use Rattle.frame.specs.declared.BadFrame.the-variants.{IdentifierTooLarge, NotEightBytes, ReservedBitSet, SourceNotAllowed}
-use Rattle.frame.proofs.Words.{by-test, both-true}
+use Rattle.words.proofs.Words.{by-test, both-true}
 use Rattle.places.specs.Format.{fixed, opens, feeds, goes, ends}
-use Rattle.places.specs.Places.{Out, full, said, rest, closes, count}
-use Rattle.places.specs.Layout.{first, every, stretch, AgreeBut, openBy, seat, view, oneEach}
+use Rattle.places.specs.Places.{Out, full, said, rest, closes}
+use Rattle.places.specs.Layout.{stretch, AgreeBut, openBy, seat, view, oneEach}
 use Rattle.places.specs.Receiver.{Shows}
 use Rattle.places.specs.Calls.{KeepsPlaces}
-use Rattle.places.specs.declared.Found.{Found}
-use Rattle.places.specs.declared.Found.the-variants.{At, Nowhere}
-use Rattle.places.proofs.Search.{found-at, every-at, every-set, every-map, every-replicate}
+use Rattle.words.specs.declared.Found.{Found}
+use Rattle.words.specs.declared.Found.the-variants.{At, Nowhere}
+use Rattle.words.proofs.Lists.{found-at, every-at, every-set, every-map, every-replicate}
 use Rattle.places.proofs.Stretch.{stretch-same, stretch-other}
 use Rattle.places.proofs.View.{one-each-view, length-view, blank-view, view-pass, view-closes}
 use Rattle.places.proofs.Receiver.{shows-fixed, shows-opens-held, shows-opens-free, shows-full, shows-feeds-nowhere, shows-feeds-goes, shows-feeds-ends, shows-keeps, pass-keeps}

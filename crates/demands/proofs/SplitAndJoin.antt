@@ -9,12 +9,12 @@ use native.Mathlib.Omega.{arith}
 use borrow.Author.Tests.{eq-eqb, ne-eqb, le-ltb, le-leb}
 use lib.ListN.{length, take, drop, replicate, length-drop, length-take, length-append}
 use lib.Seq.{take-add, take-all, take-append-le, take-take}
-use Rattle.frame.specs.Words.{if_then_else_, _=?_, _<?_, _≤?_, _or_, _and_, Told, refused, gives}
+use Rattle.words.specs.Words.{if_then_else_, _=?_, _<?_, _≤?_, _or_, _and_, Told, refused, gives}
 use Rattle.frame.specs.Bytes.{bytesOf}
 use Rattle.frame.specs.Identifier.{sourceOf, dgnOf, reservedOf, identifierOf, identifiers, greatestDgn, lowestPriority}
 use Rattle.frame.specs.Frame.{frameBytes, sourceAllowed}
 use Rattle.frame.specs.Standard.{Frame, announcementDgn, packetDgn, unused}
-use Rattle.frame.proofs.Words.{true-false}
+use Rattle.words.proofs.Words.{true-false}
 use Rattle.frame.proofs.Bytes.{number-of-bytes}
 use Rattle.frame.proofs.Laws.{lowest-wins}
 use Rattle.places.specs.Format.{Event, frame, pause, step, fixed}

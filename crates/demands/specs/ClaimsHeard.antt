@@ -5,7 +5,7 @@ use mathlib.Core.Bool.{true}
 use mathlib.Core.List.{List}
 use Prim.Native.Nat.{ℕ, _≤_, _<_, _^_}
 use lib.ListN.{length, take}
-use Rattle.frame.specs.Words.{gives}
+use Rattle.words.specs.Words.{gives}
 use Rattle.frame.specs.Frame.{frameBytes}
 use Rattle.claim.specs.Claim.{claimSource}
 use Rattle.claim.specs.Laws.{OurFrameOf}

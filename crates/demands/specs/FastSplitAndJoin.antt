@@ -3,7 +3,7 @@
 use mathlib.Core.Path.{_≡_}
 use mathlib.Core.List.{List, [], _∷_, _++_}
 use Prim.Native.Nat.{ℕ}
-use Rattle.frame.specs.Words.{Told, gives}
+use Rattle.words.specs.Words.{Told, gives}
 use Rattle.frame.specs.Standard.{Frame}
 use Rattle.places.specs.Format.{Event}
 use Rattle.places.specs.Places.{History, toldTo, admitted, answered}

@@ -6,12 +6,12 @@ use mathlib.Core.List.{List, [], _∷_, _++_}
 use Prim.Native.Nat.{ℕ}
 use native.Mathlib.Nat.{le-refl}
 use lib.ListN.{length-replicate, replicate}
-use Rattle.frame.specs.Words.{_=?_, Told}
+use Rattle.words.specs.Words.{_=?_, Told}
 use Rattle.frame.specs.Identifier.{priorityOf, reservedOf, dgnOf, sourceOf, identifierOf}
 use Rattle.frame.specs.Bytes.{numberOf, bytesOf}
 use Rattle.frame.specs.Frame.{sourceAllowed, checkedOf, formedOf}
 use Rattle.frame.specs.Standard.{Frame}
-use Rattle.frame.proofs.Words.{by-test}
+use Rattle.words.proofs.Words.{by-test}
 use Rattle.places.specs.Format.{Event, frame, pause}
 use Rattle.places.specs.Places.{Place as Seat, Out, hear, run, toldTo}
 use Rattle.places.specs.Statements.{onBusyBus}

@@ -7,7 +7,7 @@ use mathlib.Core.List.{List, [], _∷_, _++_}
 use Prim.Native.Nat.{ℕ, _+_}
 use lib.IntN.{ℤ, pos, negsuc}
 use lib.ListN.{replicate}
-use Rattle.frame.specs.Words.{if_then_else_, _=?_, Told, refused, gives}
+use Rattle.words.specs.Words.{if_then_else_, _=?_, Told, refused, gives}
 use Rattle.frame.specs.Identifier.{sourceOf, identifierOf}
 use Rattle.frame.specs.Frame.{formedOf}
 use Rattle.frame.specs.Standard.{Frame}

@@ -11,10 +11,10 @@ use denote.Enum.Declared.{tagOf}
 use types.Run.{OneOf, miss}
 use lib.ListN.{length, take, drop, replicate, length-drop}
 use lib.Seq.{paste, take-all, take-append-le, take-append-add}
-use Rattle.frame.specs.Words.{if_then_else_, _≤?_, _<?_, gives}
+use Rattle.words.specs.Words.{if_then_else_, _≤?_, _<?_, gives}
 use Rattle.frame.specs.Frame.{frameBytes}
 use Rattle.frame.specs.Standard.{unused}
-use Rattle.frame.proofs.Words.{by-test}
+use Rattle.words.proofs.Words.{by-test}
 use Rattle.fast.specs.FastPacket.{firstByteOf, greatestSequence, firstBytes, laterBytes, longest, offsetOf, lastFrame, neededFirst, needed}
 use Rattle.fast.specs.Splitter.{refusalIn, firstBytesOf, laterBytesOf, frameBytesOf, frameOf}
 use Rattle.fast.specs.Promises.{cuttingNumber, FrameOf}

@@ -9,8 +9,8 @@ use native.Mathlib.Omega.{arith}
 use borrow.Author.Tests.{leb-true, le-leb}
 use lib.ListN.{length, take, drop, getD, set, replicate, drop-of-length-le}
 use lib.Seq.{drop-cons, take-all, take-suc, set-at, length-take-le}
-use Rattle.frame.specs.Words.{_≤?_}
-use Rattle.frame.proofs.Words.{both-true}
+use Rattle.words.specs.Words.{_≤?_}
+use Rattle.words.proofs.Words.{both-true}
 use Rattle.fast.specs.Names.{mostNamed, isNamed, noneTwice, isWellFormed, padded}
 use Rattle.fast.specs.Receiver.{holdsNames, namesOf}
 use Rattle.fast.specs.declared.Receiver.{Receiver}

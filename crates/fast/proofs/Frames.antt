@@ -9,13 +9,13 @@ use native.Mathlib.Omega.{arith}
 use borrow.Author.Tests.{eqb-true, eqb-false, leb-true}
 use lib.Dec.{lit<}
 use lib.ListN.{length}
-use Rattle.frame.specs.Words.{if_then_else_, _≤?_, _=?_, _and_, bits, Told, refused, gives}
+use Rattle.words.specs.Words.{if_then_else_, _≤?_, _=?_, _and_, bits, Told, refused, gives}
+use Rattle.words.specs.Lists.{every}
 use Rattle.frame.specs.Identifier.{sourceOf, dgnOf, reservedOf, partsOf, identifiers, greatestDgn}
 use Rattle.frame.specs.Frame.{sourceAllowed, checkedOf, frameBytes}
 use Rattle.frame.specs.Standard.{greatestAddress, announcementDgn, packetDgn}
 use Rattle.frame.specs.declared.Parts.{Parts}
-use Rattle.frame.proofs.Words.{both-true, by-test, not-flips, true-false}
-use Rattle.places.specs.Layout.{every}
+use Rattle.words.proofs.Words.{both-true, by-test, not-flips, true-false}
 use Rattle.fast.specs.FastPacket.{sequenceOf, frameNumberOf, greatestSequence, longest, byteAt, Meaning, other, begins, continues, begun, carried, meant, meaningOf}
 use Rattle.fast.specs.Names.{mayBeNamed, isNamed}
 

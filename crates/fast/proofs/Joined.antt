@@ -10,11 +10,11 @@ use native.Mathlib.Omega.{arith}
 use borrow.Author.Tests.{eq-eqb, ne-eqb, le-ltb, le-leb, lt-leb, leb-true}
 use lib.ListN.{length, take, drop, replicate, length-drop, length-take, length-append, length-replicate}
 use lib.Seq.{take-add, take-all, take-append-le, take-take}
-use Rattle.frame.specs.Words.{_≤?_, Told, refused, gives}
+use Rattle.words.specs.Words.{_≤?_, Told, refused, gives}
 use Rattle.frame.specs.Identifier.{sourceOf, dgnOf, reservedOf, identifierOf, identifiers, greatestDgn, lowestPriority}
 use Rattle.frame.specs.Frame.{frameBytes, sourceAllowed}
 use Rattle.frame.specs.Standard.{Frame, greatestAddress, unused}
-use Rattle.frame.proofs.Words.{both-true, true-false}
+use Rattle.words.proofs.Words.{both-true, true-false}
 use Rattle.frame.proofs.Laws.{lowest-wins}
 use Rattle.places.specs.Format.{Event, step, fixed}
 use Rattle.places.specs.OneKey.{solo, hearAlone}

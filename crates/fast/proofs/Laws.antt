@@ -10,21 +10,21 @@ use native.Mathlib.Omega.{arith}
 use borrow.Author.Tests.{eqb-true, eqb-false, leb-true, leb-false, ltb-true, ltb-false, not-true, eq-eqb, ne-eqb, le-leb, lt-leb}
 use lib.ListN.{List·getD-append, length, take, drop, getD, length-drop, length-take}
 use lib.Seq.{paste, getD-take, getD-drop, getD-append-add, take-paste, drop-paste, take-append-seam}
-use Rattle.frame.specs.Words.{if_then_else_, _=?_, _<?_, _≤?_, _and_, bits, Told, refused, gives, numberIn}
+use Rattle.words.specs.Words.{if_then_else_, _=?_, _<?_, _≤?_, _and_, bits, Told, refused, gives, numberIn}
+use Rattle.words.specs.Lists.{every, count, first}
 use Rattle.frame.specs.Identifier.{greatestDgn}
 use Rattle.frame.specs.Standard.{announcementDgn, packetDgn}
 use Rattle.frame.specs.Frame.{frameBytes}
 use Rattle.frame.specs.Promises.{refusalOf}
 use Rattle.frame.specs.declared.BadFrame as Frames
 use Rattle.frame.specs.declared.BadFrame.the-variants.{IdentifierTooLarge, NotEightBytes, ReservedBitSet, SourceNotAllowed}
-use Rattle.frame.proofs.Words.{by-test, both-true, true-false}
-use Rattle.frame.proofs.Tests.{tests}
+use Rattle.words.proofs.Words.{by-test, both-true, true-false}
+use Rattle.words.proofs.Tests.{tests}
 use Rattle.frame.proofs.Laws.{badBack, bad-back}
-use Rattle.places.specs.Places.{placeCount, count}
-use Rattle.places.specs.Layout.{first, every}
-use Rattle.places.specs.declared.Found.{Found}
-use Rattle.places.specs.declared.Found.the-variants.{At, Nowhere}
-use Rattle.places.proofs.Search.{every-at, every-replicate}
+use Rattle.places.specs.Places.{placeCount}
+use Rattle.words.specs.declared.Found.{Found}
+use Rattle.words.specs.declared.Found.the-variants.{At, Nowhere}
+use Rattle.words.proofs.Lists.{every-at, every-replicate}
 use Rattle.fast.specs.FastPacket.{greatestSequence, firstBytes, longest, offsetOf, lastFrame, neededFirst, needed, pairOf, frameNumberOf, byteAt, Meaning, other, begins, continues, begun, carried, meaningOf}
 use Rattle.fast.specs.Names.{mostNamed, mayBeNamed, isNamed, noneTwice, isWellFormed, padded}
 use Rattle.fast.specs.Receiver.{room, freePlace, isOpenBy, namesOf, isZero, placeKeepsRules, keepsRules, Outcome, nothingToDo, opened, stored, finished, After, leaves, placing, placeFor, newPlace, firstKept, keptAt, frameAt, byMeaning, heard, pausedState, pausedAnswer}

@@ -8,15 +8,16 @@ use Prim.Native.Nat.{ℕ, _+_, _<_, _≤_}
 use native.Mathlib.Omega.{arith}
 use borrow.Author.Tests.{leb-true, ltb-true, eqb-true, eqb-false, not-true, eq-eqb, ne-eqb, lt-ltb, le-ltb, le-leb, lt-leb, leb-false}
 use lib.ListN.{length, getD}
-use Rattle.frame.specs.Words.{_≤?_, _=?_, _<?_, _and_, Told, refused, gives}
+use Rattle.words.specs.Words.{_≤?_, _=?_, _<?_, _and_, Told, refused, gives}
+use Rattle.words.specs.Lists.{every, first}
 use Rattle.frame.specs.Frame.{checkedOf}
 use Rattle.frame.specs.Standard.{greatestAddress}
 use Rattle.frame.specs.declared.Parts.{Parts}
-use Rattle.frame.proofs.Words.{both-true, by-test}
-use Rattle.places.specs.Layout.{first, every, oneEach}
-use Rattle.places.proofs.Search.{found-at, every-at}
-use Rattle.places.specs.declared.Found.{Found}
-use Rattle.places.specs.declared.Found.the-variants.{At, Nowhere}
+use Rattle.words.proofs.Words.{both-true, by-test}
+use Rattle.places.specs.Layout.{oneEach}
+use Rattle.words.proofs.Lists.{found-at, every-at}
+use Rattle.words.specs.declared.Found.{Found}
+use Rattle.words.specs.declared.Found.the-variants.{At, Nowhere}
 use Rattle.fast.specs.FastPacket.{greatestSequence, firstBytes, longest, lastFrame, idleLimit, pairOf, other, carried, meant, meaningOf}
 use Rattle.fast.specs.Names.{mostNamed, mayBeNamed, isNamed, isWellFormed}
 use Rattle.fast.specs.Receiver.{room, freePlace, isFree, isOpenBy, layout, namesOf, holdsNames, keepsLimits, placeKeepsRules, keepsRules, Outcome, opened, stored, finished, After, leaves, placing, placeFor, entered, entersAt, begins, keptAt, expecting, advanced, frameAt, continues, byMeaning, heard}

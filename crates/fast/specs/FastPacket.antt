@@ -3,7 +3,7 @@
 use mathlib.Core.List.{List}
 use Prim.Native.Nat.{ℕ, _+_, _-_, _*_, _/_, min}
 use lib.ListN.{length, getD}
-use Rattle.frame.specs.Words.{if_then_else_, _≤?_, _=?_, _and_, bits, Told, refused, gives, given_then_}
+use Rattle.words.specs.Words.{if_then_else_, _≤?_, _=?_, _and_, bits, Told, refused, gives, given_then_}
 use Rattle.frame.specs.Frame.{checkedOf}
 use Rattle.fast.specs.Names.{isNamed}
 

@@ -7,14 +7,14 @@ use mathlib.Core.List.{List}
 use mathlib.Core.Logic.{_≢_, _⊎_}
 use Prim.Native.Nat.{ℕ, _+_, _-_, _*_, _≤_, _<_}
 use lib.ListN.{length, getD, replicate}
-use Rattle.frame.specs.Words.{refused, gives, bits}
+use Rattle.words.specs.Words.{refused, gives, bits}
+use Rattle.words.specs.Lists.{first}
 use Rattle.frame.specs.Identifier.{greatestDgn}
 use Rattle.frame.specs.Frame.{checkedOf, frameBytes}
 use Rattle.frame.specs.Standard.{announcementDgn, packetDgn}
 use Rattle.frame.specs.declared.Parts.{Parts}
 use Rattle.places.specs.Places.{placeCount}
-use Rattle.places.specs.Layout.{first}
-use Rattle.places.specs.declared.Found.the-variants.{At}
+use Rattle.words.specs.declared.Found.the-variants.{At}
 use Rattle.fast.specs.FastPacket.{frameNumberOf, sequenceOf, firstByteOf, greatestSequence, firstBytes, laterBytes, longest, offsetOf, lastFrame, neededFirst, needed, pairOf, byteAt, begins, continues, meaningOf}
 use Rattle.fast.specs.Names.{mostNamed, mayBeNamed, isNamed}
 use Rattle.fast.specs.Receiver.{room, freePlace, isOpenBy, namesOf, keepsRules, placing, placeFor, nothingToDo}

@@ -3,10 +3,10 @@ use mathlib.Core.Bool.{Bool, true, not}
 use mathlib.Core.List.{List, [], _∷_, _++_}
 use Prim.Native.Nat.{ℕ, _-_}
 use lib.ListN.{length, replicate}
-use Rattle.frame.specs.Words.{_≤?_, _=?_, _and_, bits}
+use Rattle.words.specs.Words.{_≤?_, _=?_, _and_, bits}
+use Rattle.words.specs.Lists.{any, every}
 use Rattle.frame.specs.Identifier.{greatestDgn}
 use Rattle.frame.specs.Standard.{announcementDgn, packetDgn}
-use Rattle.places.specs.Layout.{any, every}
 
 abbrev pub mostNamed : ℕ
 mostNamed = 16

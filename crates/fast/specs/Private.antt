@@ -2,8 +2,8 @@
 use mathlib.Core.Path.{_≡_}
 use mathlib.Core.List.{map}
 use Prim.Native.Nat.{ℕ, _≤_, _<_}
-use Rattle.frame.specs.Words.{Told, refused, gives}
-use Rattle.places.specs.Places.{count}
+use Rattle.words.specs.Words.{Told, refused, gives}
+use Rattle.words.specs.Lists.{count}
 use Rattle.fast.specs.FastPacket.{firstBytes, longest, lastFrame, Meaning, begins, continues}
 use Rattle.fast.specs.Receiver.{holding, closes, idled}
 use Rattle.fast.specs.Promises.{toldPausing}

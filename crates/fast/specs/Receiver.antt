@@ -5,12 +5,13 @@ use mathlib.Core.List.{List, map}
 use Prim.Native.Nat.{ℕ, _+_, _*_}
 use lib.ListN.{length, take, drop, getD, set}
 use lib.Seq.{paste}
-use Rattle.frame.specs.Words.{if_then_else_, _<?_, _≤?_, _=?_, _and_, Told, refused, gives}
+use Rattle.words.specs.Words.{if_then_else_, _<?_, _≤?_, _=?_, _and_, Told, refused, gives}
+use Rattle.words.specs.Lists.{every, count, first}
 use Rattle.frame.specs.Standard.{greatestAddress}
-use Rattle.places.specs.declared.Found.{Found}
-use Rattle.places.specs.declared.Found.the-variants.{At, Nowhere}
-use Rattle.places.specs.Places.{placeCount, count}
-use Rattle.places.specs.Layout.{first, every, Layout, openBy, oneEach}
+use Rattle.words.specs.declared.Found.{Found}
+use Rattle.words.specs.declared.Found.the-variants.{At, Nowhere}
+use Rattle.places.specs.Places.{placeCount}
+use Rattle.places.specs.Layout.{Layout, openBy, oneEach}
 use Rattle.fast.specs.FastPacket as FastPacket
 use Rattle.fast.specs.FastPacket.{greatestSequence, firstBytes, longest, offsetOf, lastFrame, neededFirst, needed, idleLimit, pairOf, Meaning, other, meaningOf}
 use Rattle.fast.specs.Names.{mostNamed, isNamed, isWellFormed}

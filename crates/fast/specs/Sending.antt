@@ -7,7 +7,7 @@ use mathlib.Core.List.{List, [], _∷_, _++_}
 use mathlib.Core.Option.{Option}
 use Prim.Native.Nat.{ℕ, _+_, _≤_, _<_}
 use lib.ListN.{length}
-use Rattle.frame.specs.Words.{Told, refused, gives}
+use Rattle.words.specs.Words.{Told, refused, gives}
 use Rattle.frame.specs.Identifier.{identifierOf, lowestPriority}
 use Rattle.frame.specs.Standard.{Frame, greatestAddress}
 use Rattle.places.specs.Format.{Event, frame, pause}

@@ -2,7 +2,7 @@
 use mathlib.Core.List.{List, _∷_, _++_}
 use Prim.Native.Nat.{ℕ}
 use lib.ListN.{length, take, drop, replicate}
-use Rattle.frame.specs.Words.{if_then_else_, _<?_, _=?_, Told, refused, gives}
+use Rattle.words.specs.Words.{if_then_else_, _<?_, _=?_, Told, refused, gives}
 use Rattle.frame.specs.Standard.{unused}
 use Rattle.fast.specs.FastPacket.{firstByteOf, greatestSequence, firstBytes, laterBytes, longest, offsetOf, lastFrame}
 

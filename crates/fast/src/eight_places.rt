@@ -4,7 +4,7 @@ ghost use mathlib.Core.Bool.{true};
 ghost use mathlib.Core.List.{List};
 ghost use Prim.Native.Nat.{ℕ, _<_, _≤_};
 ghost use lib.ListN.{length, getD};
-ghost use Rattle.places.specs.Layout.{first};
+ghost use Rattle.words.specs.Lists.{first};
 ghost use Rattle.fast.specs.FastPacket.{meant, meaningOf};
 ghost use Rattle.fast.specs.Receiver.{room, freePlace, isFree, isOpenBy, namesOf, keepsRules, placing, placeFor, begins, entersAt, entered, frameAt, continues, byMeaning, advanced};
 ghost use Rattle.fast.specs.Promises.{LeftBy};
@@ -24,7 +24,7 @@ use crate::names;
 use crate::one_place;
 use crate::storage;
 use frame::Verdict;
-use places::Found;
+use words::Found;
 
 // The state as it came, with an answer.
 pub fn keeps(r: Receiver, answer: Answer) -> Heard

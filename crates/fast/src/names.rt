@@ -2,7 +2,7 @@
 ghost use mathlib.Core.Path.{_≡_};
 ghost use Prim.Native.Nat.{_≤_};
 ghost use lib.ListN.{length, drop};
-ghost use Rattle.places.specs.Layout.{every};
+ghost use Rattle.words.specs.Lists.{every};
 ghost use Rattle.fast.specs.Names.{mayBeNamed, isNamed, noneTwice, isWellFormed, padded};
 ghost use Rattle.fast.specs.Receiver.{namesOf};
 use crate::Receiver;

@@ -2,7 +2,8 @@
 ghost use mathlib.Core.Path.{_≡_};
 ghost use Prim.Native.Nat.{_+_, _<_, _≤_};
 ghost use lib.ListN.{drop, getD};
-ghost use Rattle.places.specs.Layout.{any, every, alone, oneEach};
+ghost use Rattle.words.specs.Lists.{any, every};
+ghost use Rattle.places.specs.Layout.{alone, oneEach};
 ghost use Rattle.fast.specs.Receiver.{freePlace, isOpenBy, layout, namesOf, holdsNames, placeKeepsRules, keepsRules};
 use crate::Place;
 use crate::Receiver;

@@ -9,10 +9,10 @@ use native.Mathlib.Nat.{le-of-suc-le-suc, not-suc-le-zero}
 use native.Mathlib.Omega.{arith}
 use borrow.Author.Tests.{ltb-true, ltb-false, eqb-true, eq-eqb}
 use lib.ListN.{length, getD}
-use Rattle.frame.specs.Words.{_<?_, _=?_, _and_}
-use Rattle.frame.proofs.Words.{by-test, both-true, true-false}
-use Rattle.places.specs.declared.Found.the-variants.{At, Nowhere}
-use Rattle.places.proofs.Search.{found-at, found-nowhere}
+use Rattle.words.specs.Words.{_<?_, _=?_, _and_}
+use Rattle.words.proofs.Words.{by-test, both-true, true-false}
+use Rattle.words.specs.declared.Found.the-variants.{At, Nowhere}
+use Rattle.words.proofs.Lists.{found-at, found-nowhere}
 use Rattle.faults.specs.Fault.{noFault, isDue}
 use Rattle.faults.specs.Sender.{longer, longestDue, isChosen, chosen}
 use Rattle.faults.specs.declared.Fault.{Fault}

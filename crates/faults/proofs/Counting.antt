@@ -7,9 +7,9 @@ use Prim.Native.Nat.{ℕ, zero, suc, _+_, _≤_, _<_}
 use native.Mathlib.Nat.{le-of-suc-le-suc, not-suc-le-zero}
 use native.Mathlib.Omega.{arith}
 use lib.ListN.{length, getD, set}
-use Rattle.frame.specs.Words.{if_then_else_}
-use Rattle.frame.proofs.Words.{by-test}
-use Rattle.places.specs.Places.{count}
+use Rattle.words.specs.Words.{if_then_else_}
+use Rattle.words.specs.Lists.{count}
+use Rattle.words.proofs.Words.{by-test}
 
 -- a test as a number
 abbrev one : Bool → ℕ

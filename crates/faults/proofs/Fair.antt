@@ -8,12 +8,11 @@ use native.Mathlib.Omega.{arith}
 use borrow.Author.Tests.{eqb-true, eqb-false, eq-eqb, not-true}
 use lib.ListN.{length, getD, set, length-set}
 use lib.Seq.{getD-set-other, getD-set-same}
-use Rattle.frame.specs.Words.{if_then_else_, _=?_, _and_, _or_, Told, refused, gives}
-use Rattle.frame.proofs.Words.{by-test, both-true, true-false, gives-same}
-use Rattle.places.specs.Places.{count}
-use Rattle.places.specs.Layout.{any, first}
-use Rattle.places.specs.declared.Found.the-variants.{At}
-use Rattle.places.proofs.Search.{found-at}
+use Rattle.words.specs.Words.{if_then_else_, _=?_, _and_, _or_, Told, refused, gives}
+use Rattle.words.specs.Lists.{any, count, first}
+use Rattle.words.proofs.Words.{by-test, both-true, true-false, gives-same}
+use Rattle.words.specs.declared.Found.the-variants.{At}
+use Rattle.words.proofs.Lists.{found-at}
 use Rattle.claim.specs.declared.Claim.{Claim}
 use Rattle.faults.specs.Fault.{oldest, noFault, isEmpty, isActive, isDue, passed, added, sent}
 use Rattle.faults.specs.Sender.{faultPlaces, faultAt, replacing, passedAll, chosen, nothingDue, sends}

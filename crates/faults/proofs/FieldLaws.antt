@@ -8,7 +8,7 @@ use Prim.Native.Nat.{ℕ, _<_}
 use native.Mathlib.Omega.{arith}
 use borrow.Author.Tests.{ltb-true, ltb-false}
 use lib.ListN.{length}
-use Rattle.frame.specs.Words.{if_then_else_, _<?_, _=?_, Told, refused, gives}
+use Rattle.words.specs.Words.{if_then_else_, _<?_, _=?_, Told, refused, gives}
 use Rattle.frame.specs.Bytes.{numberOf, bytesOf, AreBytes}
 use Rattle.frame.specs.Identifier.{priorityOf, reservedOf, dgnOf, sourceOf, isAddressed, catalogueForm}
 use Rattle.frame.specs.Frame.{sourceAllowed, checkedOf}
@@ -16,7 +16,7 @@ use Rattle.frame.specs.Promises.{refusalOf}
 use Rattle.frame.specs.declared.Parts.{Parts}
 use Rattle.frame.specs.declared.BadFrame.{BadFrame}
 use Rattle.frame.specs.declared.BadFrame.the-variants.{IdentifierTooLarge, NotEightBytes, ReservedBitSet, SourceNotAllowed}
-use Rattle.frame.proofs.Words.{by-test, refused-gives, gives-same}
+use Rattle.words.proofs.Words.{by-test, refused-gives, gives-same}
 use Rattle.frame.proofs.Laws.{badBack, bad-back}
 use Rattle.catalogue.specs.Rows as Catalogue
 use Rattle.catalogue.specs.Table.{noRow, nth, having, liesInFrame}

@@ -9,16 +9,16 @@ use native.Mathlib.Omega.{arith}
 use borrow.Author.Tests.{eqb-true, eqb-false, eq-eqb, ne-eqb, le-leb, leb-true, not-true, not-false}
 use lib.ListN.{length, getD, set, replicate}
 use lib.Seq.{getD-set-other}
-use Rattle.frame.specs.Words.{if_then_else_, given_then_, _=?_, _≤?_, _and_, _or_, Told, refused, gives}
+use Rattle.words.specs.Words.{if_then_else_, given_then_, _=?_, _≤?_, _and_, _or_, Told, refused, gives}
+use Rattle.words.specs.Lists.{every, first}
 use Rattle.frame.specs.Bytes.{numberOf}
 use Rattle.frame.specs.Standard.{Frame}
 use Rattle.frame.specs.declared.BadFrame.the-variants.{IdentifierTooLarge, NotEightBytes, ReservedBitSet, SourceNotAllowed}
-use Rattle.frame.proofs.Words.{by-test, both-true, true-false, refused-gives, gives-same, past-refusal, before-refusal}
+use Rattle.words.proofs.Words.{by-test, both-true, true-false, refused-gives, gives-same, past-refusal, before-refusal}
 use Rattle.frame.proofs.Laws as frame-laws
-use Rattle.places.specs.Layout.{first, every}
-use Rattle.places.specs.declared.Found.{Found}
-use Rattle.places.specs.declared.Found.the-variants.{At, Nowhere}
-use Rattle.places.proofs.Search.{found-at, every-map, every-set, every-at}
+use Rattle.words.specs.declared.Found.{Found}
+use Rattle.words.specs.declared.Found.the-variants.{At, Nowhere}
+use Rattle.words.proofs.Lists.{found-at, every-map, every-set, every-at}
 use Rattle.claim.specs.Claim.{keepsRules as claimKeepsRules, Stand, held, claiming, silent, standOf, holdsList}
 use Rattle.claim.specs.Promises.{soundOf}
 use Rattle.claim.specs.declared.Claim.{Claim}

@@ -8,12 +8,11 @@ use native.Mathlib.Omega.{arith}
 use borrow.Author.Tests.{eqb-true, eqb-false, leb-true, leb-false, ltb-true, ltb-false, eq-eqb, ne-eqb, not-true}
 use lib.ListN.{length, getD, set, replicate, length-set}
 use lib.Seq.{getD-set-other, getD-set-same}
-use Rattle.frame.specs.Words.{if_then_else_, _=?_, _≤?_, _<?_, Told, refused, gives}
-use Rattle.frame.proofs.Words.{by-test, true-false}
-use Rattle.places.specs.Places.{count}
-use Rattle.places.specs.Layout.{first}
-use Rattle.places.specs.declared.Found.the-variants.{At, Nowhere}
-use Rattle.places.proofs.Search.{found-at}
+use Rattle.words.specs.Words.{if_then_else_, _=?_, _≤?_, _<?_, Told, refused, gives}
+use Rattle.words.specs.Lists.{count, first}
+use Rattle.words.proofs.Words.{by-test, true-false}
+use Rattle.words.specs.declared.Found.the-variants.{At, Nowhere}
+use Rattle.words.proofs.Lists.{found-at}
 use Rattle.claim.specs.declared.Claim.{Claim}
 use Rattle.faults.specs.Fault.{stepTime, noFault, isEmpty, isActive, isDue, passed, added, sent}
 use Rattle.faults.specs.Sender.{faultPlaces, faultAt, replacing, begun, passedAll, chosen, Outcome, nothingDue, sends, dmRvFrame}

@@ -7,12 +7,12 @@ use Prim.Native.Nat.{ℕ, zero, suc, _+_, _≤_, _<_}
 use native.Mathlib.Nat.{le-of-suc-le-suc, not-suc-le-zero}
 use native.Mathlib.Omega.{arith}
 use lib.ListN.{length, getD, set}
-use Rattle.frame.specs.Words.{if_then_else_, given_then_, _and_, _or_, _<?_, Told, refused, gives}
+use Rattle.words.specs.Words.{if_then_else_, given_then_, _and_, _or_, _<?_, Told, refused, gives}
+use Rattle.words.specs.Lists.{first}
 use Rattle.frame.specs.Standard.{Frame}
-use Rattle.frame.proofs.Words.{by-test, both-true, true-false, refused-gives, gives-same, past-refusal, before-refusal}
-use Rattle.places.specs.Layout.{first}
-use Rattle.places.specs.declared.Found.{Found}
-use Rattle.places.specs.declared.Found.the-variants.{At, Nowhere}
+use Rattle.words.proofs.Words.{by-test, both-true, true-false, refused-gives, gives-same, past-refusal, before-refusal}
+use Rattle.words.specs.declared.Found.{Found}
+use Rattle.words.specs.declared.Found.the-variants.{At, Nowhere}
 use Rattle.claim.specs.Claim.{Stand}
 use Rattle.claim.specs.declared.Claim.{Claim}
 use Rattle.command.specs.Handed.{addressHeld}

@@ -9,12 +9,12 @@ use borrow.Author.Tests.{leb-false, lt-leb, le-leb}
 use lib.IntN.{pos}
 use lib.ListN.{length, getD}
 use lib.Pow.{pow-pos}
-use Rattle.frame.specs.Words.{_≤?_, Told, refused, gives}
+use Rattle.words.specs.Words.{_≤?_, Told, refused, gives}
 use Rattle.frame.specs.Bytes.{numberOf, AreBytes}
 use Rattle.frame.specs.Identifier.{catalogueForm}
 use Rattle.frame.specs.Frame.{frameBytes}
 use Rattle.frame.specs.declared.Parts.{Parts}
-use Rattle.frame.proofs.Words.{past-refusal, gives-same}
+use Rattle.words.proofs.Words.{past-refusal, gives-same}
 use Rattle.frame.proofs.Frame.{checked-given}
 use Rattle.catalogue.specs.Rows.{plain}
 use Rattle.catalogue.specs.Table.{liesInFrame}

@@ -6,8 +6,8 @@ use mathlib.Core.List.{List}
 use Prim.Native.Nat.{ℕ, zero, suc, _+_, _-_, _≤_, _<_, min}
 use native.Mathlib.Omega.{arith}
 use borrow.Author.Tests.{eqb-true, eqb-false, leb-true, not-true, eq-eqb, ne-eqb, le-leb}
-use Rattle.frame.specs.Words.{_=?_, _≤?_, _and_}
-use Rattle.frame.proofs.Words.{by-test, both-true, true-false}
+use Rattle.words.specs.Words.{_=?_, _≤?_, _and_}
+use Rattle.words.proofs.Words.{by-test, both-true, true-false}
 use Rattle.faults.specs.Fault.{stepTime, oldest, older, noFault, isEmpty, isActive, isDue, passed, added, sent}
 use Rattle.faults.specs.declared.Fault.{Fault}
 

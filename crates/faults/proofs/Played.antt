@@ -5,13 +5,13 @@ use mathlib.Core.Bool.{Bool, true, false, not}
 use mathlib.Core.List.{List, [], _∷_}
 use Prim.Native.Nat.{ℕ, zero, suc}
 use lib.ListN.{replicate}
-use Rattle.frame.specs.Words.{if_then_else_, given_then_, Told, refused, gives}
+use Rattle.words.specs.Words.{if_then_else_, given_then_, Told, refused, gives}
+use Rattle.words.specs.Lists.{first}
 use Rattle.frame.specs.Standard.{Frame, noFrame}
 use Rattle.frame.specs.Bytes.{numberOf}
-use Rattle.frame.proofs.Words.{by-test}
-use Rattle.places.specs.Layout.{first}
-use Rattle.places.specs.declared.Found.{Found}
-use Rattle.places.specs.declared.Found.the-variants.{At, Nowhere}
+use Rattle.words.proofs.Words.{by-test}
+use Rattle.words.specs.declared.Found.{Found}
+use Rattle.words.specs.declared.Found.the-variants.{At, Nowhere}
 use Rattle.claim.specs.Candidates.{areAddresses, isAbsent, areDistinct, isWellFormed, padded}
 use Rattle.claim.specs.Claim.{keepsRules as claimKeepsRules, Stand, held, claiming, silent, standOf, holdsList}
 use Rattle.claim.specs.Promises.{soundOf}

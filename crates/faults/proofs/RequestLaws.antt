@@ -7,19 +7,19 @@ use Prim.Native.Nat.{ℕ, _+_, _*_, _≤_, _<_, _%_, _/_, _^_}
 use native.Mathlib.Omega.{arith}
 use borrow.Author.Tests.{ltb-true, ltb-false, eq-eqb, ne-eqb, lt-ltb, le-ltb, not-false}
 use lib.ListN.{length, getD, take, drop, replicate}
-use Rattle.frame.specs.Words.{if_then_else_, given_then_, _=?_, _<?_, _and_, _or_, Told, refused, gives}
+use Rattle.words.specs.Words.{if_then_else_, given_then_, _=?_, _<?_, _and_, _or_, Told, refused, gives}
+use Rattle.words.specs.Lists.{any, first}
 use Rattle.frame.specs.Bytes.{numberOf, bytesOf}
 use Rattle.frame.specs.Identifier.{priorityOf, reservedOf, dgnOf, sourceOf, identifierOf, identifiers, isAddressed, catalogueForm, destinationOf, greatestDgn}
 use Rattle.frame.specs.Frame.{checkedOf, sourceAllowed, formedOf, apartOf, frameBytes}
 use Rattle.frame.specs.Standard.{Frame, greatestAddress, everyone, requestDgn, addressClaimed, dgnAt}
 use Rattle.frame.specs.Laws.{toldButPriority}
 use Rattle.frame.specs.declared.Parts.{Parts}
-use Rattle.frame.proofs.Words.{by-test, both-true, true-false, refused-gives, gives-same, past-refusal, before-refusal}
+use Rattle.words.proofs.Words.{by-test, both-true, true-false, refused-gives, gives-same, past-refusal, before-refusal}
 use Rattle.frame.proofs.Laws as frame-laws
-use Rattle.places.specs.Layout.{first, any}
-use Rattle.places.specs.declared.Found.{Found}
-use Rattle.places.specs.declared.Found.the-variants.{At, Nowhere}
-use Rattle.places.proofs.Search.{found-at, found-nowhere}
+use Rattle.words.specs.declared.Found.{Found}
+use Rattle.words.specs.declared.Found.the-variants.{At, Nowhere}
+use Rattle.words.proofs.Lists.{found-at, found-nowhere}
 use Rattle.claim.specs.Candidates.{areAddresses, isAbsent, areDistinct, isWellFormed as isWellFormedList, padded}
 use Rattle.claim.specs.Claim.{keepsRules as claimKeepsRules, Stand, held, claiming, silent, standOf, holdsList}
 use Rattle.claim.specs.Promises.{soundOf}

@@ -11,17 +11,17 @@ use native.Mathlib.Omega.{arith}
 use borrow.Author.Tests.{ltb-true, ltb-false, lt-ltb}
 use lib.ListN.{length, drop, getD, drop-of-length-le}
 use lib.Seq.{drop-cons}
-use Rattle.frame.specs.Words.{if_then_else_, given_then_, _<?_, Told, refused, gives}
+use Rattle.words.specs.Words.{if_then_else_, given_then_, _<?_, Told, refused, gives}
+use Rattle.words.specs.Lists.{firstFrom, first}
 use Rattle.frame.specs.Bytes.{numberOf}
 use Rattle.frame.specs.Frame.{checkedOf}
 use Rattle.frame.specs.Standard.{noFrame, dgnAt}
 use Rattle.frame.specs.Promises.{bytesIf}
 use Rattle.frame.specs.declared.Parts.{Parts}
-use Rattle.frame.proofs.Words.{by-test, both-true}
-use Rattle.places.specs.Layout.{firstFrom, first}
-use Rattle.places.specs.declared.Found.{Found}
-use Rattle.places.specs.declared.Found.the-variants.{At, Nowhere}
-use Rattle.places.proofs.Search.{search-pass, search-stop, search-end, found-at}
+use Rattle.words.proofs.Words.{by-test, both-true}
+use Rattle.words.specs.declared.Found.{Found}
+use Rattle.words.specs.declared.Found.the-variants.{At, Nowhere}
+use Rattle.words.proofs.Lists.{search-pass, search-stop, search-end, found-at}
 use Rattle.claim.specs.Claim as Claim
 use Rattle.claim.specs.Claim.{Stand, claiming, silent}
 use Rattle.claim.specs.Promises.{toldStanding, Stands}

@@ -7,11 +7,11 @@ use Prim.Native.Nat.{ℕ, _-_, _≤_, _<_}
 use native.Mathlib.Omega.{arith}
 use borrow.Author.Tests.{ltb-true, ltb-false}
 use lib.ListN.{length, List·getD-eq-default}
-use Rattle.frame.specs.Words.{_<?_, Told, refused, gives}
+use Rattle.words.specs.Words.{_<?_, Told, refused, gives}
 use Rattle.frame.specs.Identifier.{isAddressed, destinationOf, catalogueForm}
 use Rattle.frame.specs.Frame.{checkedOf}
 use Rattle.frame.specs.declared.Parts.{Parts}
-use Rattle.frame.proofs.Words.{by-test, before-refusal, gives-same, refused-gives}
+use Rattle.words.proofs.Words.{by-test, before-refusal, gives-same, refused-gives}
 use Rattle.catalogue.specs.Table.{noRow, nth, rowIn, below, having, rowWith, spanIn, liesInFrame, inOrder, KeepsRule}
 use Rattle.catalogue.specs.Packed.{unitOf, unpacked, pack, tableRows, tableRow, tableRowWith, tableSpan}
 use Rattle.catalogue.specs.Catalogue.{openedFor, readRowOf, writtenRowOf}

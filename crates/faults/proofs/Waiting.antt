@@ -8,12 +8,12 @@ use native.Mathlib.Omega.{arith}
 use borrow.Author.Tests.{eqb-true, eqb-false, leb-true, ltb-true, ltb-false, ne-eqb}
 use lib.ListN.{length, getD, set, replicate, length-set}
 use lib.Seq.{getD-set-other, getD-set-same}
-use Rattle.frame.specs.Words.{if_then_else_, given_then_, _<?_, _=?_, _≤?_, _and_, _or_, Told, refused, gives}
+use Rattle.words.specs.Words.{if_then_else_, given_then_, _<?_, _=?_, _≤?_, _and_, _or_, Told, refused, gives}
+use Rattle.words.specs.Lists.{any, first}
 use Rattle.frame.specs.Standard.{Frame}
-use Rattle.frame.proofs.Words.{by-test, both-true, true-false}
-use Rattle.places.specs.Layout.{any, first}
-use Rattle.places.specs.declared.Found.the-variants.{At}
-use Rattle.places.proofs.Search.{found-at}
+use Rattle.words.proofs.Words.{by-test, both-true, true-false}
+use Rattle.words.specs.declared.Found.the-variants.{At}
+use Rattle.words.proofs.Lists.{found-at}
 use Rattle.claim.specs.declared.Claim.{Claim}
 use Rattle.faults.specs.Fault.{stepTime, isAllowed, noFault, isEmpty, isActive, isDue, passed, added, sent}
 use Rattle.command.specs.Handed.{addressHeld}

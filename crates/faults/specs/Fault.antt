@@ -3,7 +3,7 @@ use mathlib.Core.Bool.{Bool, true, false, not}
 use mathlib.Core.List.{List}
 use Prim.Native.Nat.{ℕ, _+_, _-_, _%_, min}
 use lib.ListN.{replicate}
-use Rattle.frame.specs.Words.{if_then_else_, _≤?_, _=?_, _and_, _or_}
+use Rattle.words.specs.Words.{if_then_else_, _≤?_, _=?_, _and_, _or_}
 use Rattle.frame.specs.Bytes.{numberOf}
 use Rattle.frame.specs.Frame.{frameBytes}
 use Rattle.faults.specs.declared.Fault.{Fault}

@@ -5,7 +5,7 @@ use mathlib.Core.List.{List, [], _∷_}
 use mathlib.Core.Logic.{_⊎_}
 use Prim.Native.Nat.{ℕ, _/_, _≤_, _<_}
 use lib.ListN.{length, getD}
-use Rattle.frame.specs.Words.{refused, gives}
+use Rattle.words.specs.Words.{refused, gives}
 use Rattle.frame.specs.Bytes.{numberOf, AreBytes}
 use Rattle.frame.specs.Frame.{checkedOf}
 use Rattle.frame.specs.declared.Parts.{Parts}

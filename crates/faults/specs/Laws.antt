@@ -6,13 +6,13 @@ use mathlib.Core.Bool.{true, false}
 use mathlib.Core.List.{List, [], _∷_}
 use Prim.Native.Nat.{ℕ, _≤_, _<_, _%_, _^_}
 use lib.ListN.{length, replicate}
-use Rattle.frame.specs.Words.{Told, refused, gives}
+use Rattle.words.specs.Words.{Told, refused, gives}
+use Rattle.words.specs.Lists.{first}
 use Rattle.frame.specs.Identifier.{identifiers, catalogueForm, destinationOf, greatestDgn}
 use Rattle.frame.specs.Frame.{checkedOf, frameBytes}
 use Rattle.frame.specs.Standard.{Frame, noFrame, greatestAddress, everyone, requestDgn, dgnAt}
 use Rattle.frame.specs.declared.Parts.{Parts}
-use Rattle.places.specs.Layout.{first}
-use Rattle.places.specs.declared.Found.the-variants.{Nowhere}
+use Rattle.words.specs.declared.Found.the-variants.{Nowhere}
 use Rattle.catalogue.specs.declared.Looked.{Looked}
 use Rattle.catalogue.specs.declared.Reading.{Reading}
 use Rattle.catalogue.specs.declared.Value.{Value}

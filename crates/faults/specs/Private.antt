@@ -2,10 +2,10 @@
 use mathlib.Core.List.{List, []}
 use Prim.Native.Nat.{ℕ}
 use mathlib.Core.Bool.{Bool, not}
-use Rattle.frame.specs.Words.{if_then_else_, _<?_, Told, refused, gives}
+use Rattle.words.specs.Words.{if_then_else_, _<?_, Told, refused, gives}
 use Rattle.frame.specs.Standard.{noFrame}
-use Rattle.places.specs.declared.Found.{Found}
-use Rattle.places.specs.declared.Found.the-variants.{At, Nowhere}
+use Rattle.words.specs.declared.Found.{Found}
+use Rattle.words.specs.declared.Found.the-variants.{At, Nowhere}
 use Rattle.command.specs.Positions.{filled}
 use Rattle.command.specs.declared.Requesting.the-variants as Hosting
 use Rattle.faults.specs.Fault.{sent}

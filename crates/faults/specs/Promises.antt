@@ -3,7 +3,7 @@
 use mathlib.Core.Path.{_≡_}
 use mathlib.Core.List.{List}
 use Prim.Native.Nat.{ℕ}
-use Rattle.frame.specs.Words.{Told, refused, gives, numberIn}
+use Rattle.words.specs.Words.{Told, refused, gives, numberIn}
 use Rattle.frame.specs.Standard.{Frame, noFrame}
 use Rattle.frame.specs.Promises.{refusalOf}
 use Rattle.catalogue.specs.Table.{rowIn}

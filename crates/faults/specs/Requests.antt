@@ -3,13 +3,13 @@ use mathlib.Core.Bool.{Bool, not}
 use mathlib.Core.List.{List, [], _∷_}
 use Prim.Native.Nat.{ℕ}
 use lib.ListN.{length, getD}
-use Rattle.frame.specs.Words.{if_then_else_, given_then_, _<?_, _=?_, _and_, _or_, Told, refused, gives}
+use Rattle.words.specs.Words.{if_then_else_, given_then_, _<?_, _=?_, _and_, _or_, Told, refused, gives}
+use Rattle.words.specs.Lists.{first}
 use Rattle.frame.specs.Identifier.{catalogueForm, destinationOf, greatestDgn}
 use Rattle.frame.specs.Frame.{checkedOf}
 use Rattle.frame.specs.Standard.{Frame, everyone, unused, requestDgn, dgnAt}
-use Rattle.places.specs.Layout.{first}
-use Rattle.places.specs.declared.Found.{Found}
-use Rattle.places.specs.declared.Found.the-variants.{At, Nowhere}
+use Rattle.words.specs.declared.Found.{Found}
+use Rattle.words.specs.declared.Found.the-variants.{At, Nowhere}
 use Rattle.claim.specs.Claim as Claim
 use Rattle.claim.specs.Claim.{Stand, held, claiming, silent}
 use Rattle.claim.specs.declared.Claim as Claims

@@ -2,7 +2,7 @@
 -- written by the catalogue's rules. Bit 47 is reserved, and bits 60 to 63 are in no field.
 use mathlib.Core.List.{List, [], _∷_, map}
 use Prim.Native.Nat.{ℕ}
-use Rattle.frame.specs.Words.{Told}
+use Rattle.words.specs.Words.{Told}
 use Rattle.catalogue.specs.Rows.{Mark, row, classed, plain}
 use Rattle.catalogue.specs.Table.{nth}
 use Rattle.catalogue.specs.Packed.{pack}

@@ -5,10 +5,9 @@ use mathlib.Core.Bool.{Bool, true, false}
 use mathlib.Core.List.{List, [], _∷_}
 use Prim.Native.Nat.{ℕ, _+_, _*_, _/_, _≤_, _<_}
 use lib.ListN.{length}
-use Rattle.frame.specs.Words.{if_then_else_, given_then_, _=?_, _or_, Told, refused, gives}
+use Rattle.words.specs.Words.{if_then_else_, given_then_, _=?_, _or_, Told, refused, gives}
+use Rattle.words.specs.Lists.{any, count}
 use Rattle.frame.specs.Standard.{Frame}
-use Rattle.places.specs.Places.{count}
-use Rattle.places.specs.Layout.{any}
 use Rattle.claim.specs.declared.Claim.{Claim}
 use Rattle.command.specs.Handed.{addressHeld}
 use Rattle.faults.specs.Fault.{stepTime, isDue, passed}

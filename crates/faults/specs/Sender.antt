@@ -3,12 +3,12 @@ use mathlib.Core.Bool.{Bool, true, false, not}
 use mathlib.Core.List.{List, [], _∷_, map}
 use Prim.Native.Nat.{ℕ}
 use lib.ListN.{length, getD, set, replicate}
-use Rattle.frame.specs.Words.{if_then_else_, given_then_, _<?_, _≤?_, _=?_, _and_, Told, refused, gives}
+use Rattle.words.specs.Words.{if_then_else_, given_then_, _<?_, _≤?_, _=?_, _and_, Told, refused, gives}
+use Rattle.words.specs.Lists.{every, first}
 use Rattle.frame.specs.Identifier.{identifierOf}
 use Rattle.frame.specs.Standard.{Frame}
-use Rattle.places.specs.Layout.{first, every}
-use Rattle.places.specs.declared.Found.{Found}
-use Rattle.places.specs.declared.Found.the-variants.{At, Nowhere}
+use Rattle.words.specs.declared.Found.{Found}
+use Rattle.words.specs.declared.Found.the-variants.{At, Nowhere}
 use Rattle.claim.specs.Claim.{Stand, standOf}
 use Rattle.claim.specs.Promises.{soundOf}
 use Rattle.claim.specs.declared.Claim.{Claim}

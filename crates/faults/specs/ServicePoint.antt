@@ -4,7 +4,7 @@ use Prim.Native.Nat.{ℕ, _+_, _*_, _/_, _%_}
 use mathlib.Core.Path.{_≡_}
 use mathlib.Core.List.{List}
 use lib.IntN.{pos}
-use Rattle.frame.specs.Words.{if_then_else_, given_then_, _≤?_, Told, refused, gives}
+use Rattle.words.specs.Words.{if_then_else_, given_then_, _≤?_, Told, refused, gives}
 use Rattle.catalogue.specs.Catalogue.{readRowOf, writtenRowOf}
 use Rattle.catalogue.specs.declared.Field.{Field}
 use Rattle.catalogue.specs.declared.Value.the-variants.{Scaled}

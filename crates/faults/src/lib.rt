@@ -284,8 +284,8 @@ impl Sender {
             };
         }
         match searches::lowest_empty(self) {
-            places::Found::At(at) => sending::add(self, at, bytes, period),
-            places::Found::Nowhere => Added {
+            words::Found::At(at) => sending::add(self, at, bytes, period),
+            words::Found::Nowhere => Added {
                 sender: self,
                 answer: Adding::NoPlace,
             },

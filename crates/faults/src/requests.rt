@@ -2,7 +2,7 @@
 ghost use mathlib.Core.Path.{_≡_};
 ghost use Prim.Native.Nat.{_<_};
 ghost use lib.ListN.{getD};
-ghost use Rattle.frame.specs.Words.{given_then_, gives};
+ghost use Rattle.words.specs.Words.{given_then_, gives};
 ghost use Rattle.claim.specs.Claim.{held, silent};
 ghost use Rattle.faults.specs.Fault.{noFault};
 ghost use Rattle.faults.specs.Requests.{isForUs, meantBy, answerAt, noneActive, replyBytes, sends, heardOf};
@@ -20,7 +20,7 @@ use claim::Claim;
 use claim::Standing;
 use command::Positions;
 use frame::standard;
-use places::Found;
+use words::Found;
 
 // What a sound frame asks for.
 pub enum Meant {

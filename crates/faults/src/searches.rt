@@ -1,6 +1,6 @@
 // Places that are looked for.
 ghost use mathlib.Core.Path.{_≡_};
-ghost use Rattle.places.specs.Layout.{first};
+ghost use Rattle.words.specs.Lists.{first};
 ghost use Rattle.faults.specs.Fault.{isEmpty, isActive};
 ghost use Rattle.faults.specs.Sender.{isActiveAt, longer, longestDue, isChosen, chosen};
 ghost use Rattle.faults.specs.Private.{lowest, foundAt};
@@ -8,7 +8,7 @@ use crate::Fault;
 use crate::PLACES;
 use crate::Sender;
 use crate::place;
-use places::Found;
+use words::Found;
 
 // The lowest empty place.
 pub fn lowest_empty(s: Sender) -> Found

@@ -1,7 +1,7 @@
 // What becomes of a sender's places, and the frame of a DM_RV.
 ghost use mathlib.Core.Path.{_≡_};
 ghost use Prim.Native.Nat.{_<_};
-ghost use Rattle.frame.specs.Words.{gives};
+ghost use Rattle.words.specs.Words.{gives};
 ghost use Rattle.faults.specs.Sender.{dmRvId, replacing, addedAt, passedAll, heldStep};
 ghost use Rattle.faults.specs.Promises.{AddedBy, SteppedBy};
 ghost use Rattle.faults.specs.Private.{sentAt, bareStepped};
@@ -16,7 +16,7 @@ use crate::Stepping;
 use crate::place;
 use crate::searches;
 use frame::standard;
-use places::Found;
+use words::Found;
 
 // The identifier of a DM_RV without its source: priority 6.
 const DM_RV_ID: u32 = 6 * 0x4000000 + DM_RV * 256;

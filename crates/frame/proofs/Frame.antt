@@ -4,11 +4,11 @@ use mathlib.Core.Path.{_≡_, sym}
 use mathlib.Core.Bool.{not}
 use Prim.Native.Nat.{ℕ}
 use borrow.Author.Tests.{eqb-true}
-use Rattle.frame.specs.Words.{if_then_else_, _≤?_, _=?_, refused, gives}
+use Rattle.words.specs.Words.{if_then_else_, _≤?_, _=?_, refused, gives}
 use Rattle.frame.specs.Identifier.{reservedOf, sourceOf, dgnOf, partsOf, identifiers}
 use Rattle.frame.specs.Frame.{sourceAllowed, checkedOf, frameBytes}
 use Rattle.frame.specs.declared.Parts.{Parts}
-use Rattle.frame.proofs.Words.{past-refusal, before-refusal, not-flips, gives-same}
+use Rattle.words.proofs.Words.{past-refusal, before-refusal, not-flips, gives-same}
 
 -- a frame that is given has eight bytes, a source that its DGN allows, and the parts of its identifier
 pub checked-given : (id size : ℕ) (p : Parts) → checkedOf id size ≡ gives p → (size ≡ frameBytes) × (p ≡ partsOf id)

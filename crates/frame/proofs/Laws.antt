@@ -9,7 +9,7 @@ use native.Mathlib.Omega.{arith}
 use borrow.Author.Tests.{eq-eqb, ne-eqb, lt-ltb, le-ltb, le-leb, lt-leb, ltb-false, leb-false, eqb-true, eqb-false}
 use lib.ListN.{length, replicate}
 use lib.Pow.{shr-shr}
-use Rattle.frame.specs.Words.{if_then_else_, _≤?_, _<?_, _=?_, Told, refused, gives}
+use Rattle.words.specs.Words.{if_then_else_, _≤?_, _<?_, _=?_, Told, refused, gives}
 use Rattle.frame.specs.Identifier.{priorityOf, reservedOf, dgnOf, sourceOf, partsOf, identifierOf, identifiers, greatestDgn, lowestPriority}
 use Rattle.frame.specs.Frame.{frameBytes, sourceAllowed, apartOf, formedOf, checkedOf}
 use Rattle.frame.specs.Promises.{toldApart, toldFormed, toldVerdict, refusalOf, bytesIf}
@@ -24,7 +24,7 @@ use Rattle.frame.specs.declared.BadFrame.the-variants.{IdentifierTooLarg
 use Rattle.frame.specs.declared.Verdict.{Verdict}
 use Rattle.frame.specs.declared.Verdict.the-variants.{Sound, Bad}
 use Rattle.frame.specs.declared.Checked.{Checked}
-use Rattle.frame.proofs.Words.{past-refusal, before-refusal, gives-same}
+use Rattle.words.proofs.Words.{past-refusal, before-refusal, gives-same}
 use Rattle.frame.proofs.Bytes.{number-of-bytes, bytes-of-number}
 
 -- an answer is read back from what it tells

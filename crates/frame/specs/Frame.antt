@@ -2,7 +2,7 @@
 -- lowest number first.
 use mathlib.Core.Bool.{Bool, true, false, not}
 use Prim.Native.Nat.{ℕ}
-use Rattle.frame.specs.Words.{if_then_else_, _<?_, _≤?_, _=?_, _or_, bits, Told, refused, gives}
+use Rattle.words.specs.Words.{if_then_else_, _<?_, _≤?_, _=?_, _or_, bits, Told, refused, gives}
 use Rattle.frame.specs.Identifier.{reservedOf, sourceOf, dgnOf, partsOf, identifierOf, identifiers, greatestDgn, lowestPriority}
 use Rattle.frame.specs.declared.Parts.{Parts}
 

@@ -2,7 +2,7 @@
 -- the address rows eight bits too high; J1939-21 decides (RULES 1.6).
 use mathlib.Core.Bool.{Bool}
 use Prim.Native.Nat.{ℕ, _+_, _*_, _-_, _^_}
-use Rattle.frame.specs.Words.{if_then_else_, _<?_, bits}
+use Rattle.words.specs.Words.{if_then_else_, _<?_, bits}
 use Rattle.frame.specs.declared.Parts.{Parts}
 
 unfoldable pub priorityOf : ℕ → ℕ

@@ -1,5 +1,4 @@
 -- RULES 2 and 3, answers, identifiers and frames.
-pub mod Words
 pub mod Bytes
 pub mod Identifier
 pub mod Frame

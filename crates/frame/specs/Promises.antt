@@ -5,7 +5,7 @@ use mathlib.Core.Bool.{Bool, true, false}
 use mathlib.Core.List.{List, [], _∷_}
 use Prim.Native.Nat.{ℕ}
 use lib.ListN.{length, replicate}
-use Rattle.frame.specs.Words.{if_then_else_, _=?_, Told, refused, gives, numberIn}
+use Rattle.words.specs.Words.{if_then_else_, _=?_, Told, refused, gives, numberIn}
 use Rattle.frame.specs.Bytes.{numberOf, bytesOf}
 use Rattle.frame.specs.Identifier.{isAddressed, destinationOf, catalogueForm}
 use Rattle.frame.specs.Frame.{apartOf, formedOf, checkedOf, frameBytes}

@@ -9,12 +9,12 @@ use native.Mathlib.Omega.{arith}
 use borrow.Author.Tests.{eqb-true, eqb-false, leb-true}
 use lib.Dec.{lit<}
 use lib.ListN.{length}
-use Rattle.frame.specs.Words.{if_then_else_, _≤?_, _<?_, _=?_, _and_, _or_, bits, Told, refused, gives}
+use Rattle.words.specs.Words.{if_then_else_, _≤?_, _<?_, _=?_, _and_, _or_, bits, Told, refused, gives}
 use Rattle.frame.specs.Identifier.{sourceOf, dgnOf, reservedOf, partsOf, identifiers, greatestDgn}
 use Rattle.frame.specs.Frame.{sourceAllowed, checkedOf, frameBytes}
 use Rattle.frame.specs.Standard.{announcementDgn, packetDgn}
 use Rattle.frame.specs.declared.Parts.{Parts}
-use Rattle.frame.proofs.Words.{both-true, by-test, not-flips, true-false}
+use Rattle.words.proofs.Words.{both-true, by-test, not-flips, true-false}
 use Rattle.message.specs.LongMessage.{shortest, longest, packetsOf, toAll, byteAt, bytesTo, Meaning, other, announcement, packet, announced, meant, meaningOf}
 use Rattle.message.specs.Receiver.{greatestSender}
 

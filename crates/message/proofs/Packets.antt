@@ -9,11 +9,11 @@ use native.Mathlib.Omega.{arith}
 use borrow.Author.Tests.{eq-eqb, ne-eqb, lt-ltb, le-ltb, leb-true, leb-false, ltb-false}
 use lib.ListN.{length, take, drop, replicate, length-drop}
 use lib.Seq.{paste, take-all, take-append-le, take-append-add}
-use Rattle.frame.specs.Words.{if_then_else_, _=?_, _<?_, _≤?_, _or_, Told, refused, gives}
+use Rattle.words.specs.Words.{if_then_else_, _=?_, _<?_, _≤?_, _or_, Told, refused, gives}
 use Rattle.frame.specs.Frame.{frameBytes}
 use Rattle.frame.specs.Identifier.{greatestDgn}
 use Rattle.frame.specs.Standard.{unused}
-use Rattle.frame.proofs.Words.{by-test, past-refusal, gives-same}
+use Rattle.words.proofs.Words.{by-test, past-refusal, gives-same}
 use Rattle.message.specs.LongMessage.{shortest, longest, packetBytes, packetsOf}
 use Rattle.message.specs.Splitter.{mostPackets, splits, numbered, announcementBytes, packetBytesOf, announcementOf, packetOf}
 use Rattle.message.specs.Promises.{CutBy, cuttingNumber}

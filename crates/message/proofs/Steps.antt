@@ -8,15 +8,16 @@ use Prim.Native.Nat.{ℕ, _+_, _<_, _≤_}
 use native.Mathlib.Omega.{arith}
 use borrow.Author.Tests.{leb-true, eqb-true, eqb-false, not-true, eq-eqb, ne-eqb, lt-ltb, le-ltb}
 use lib.ListN.{length, getD, set}
-use Rattle.frame.specs.Words.{if_then_else_, _≤?_, _=?_, _<?_, _and_, Told, refused, gives}
+use Rattle.words.specs.Words.{if_then_else_, _≤?_, _=?_, _<?_, _and_, Told, refused, gives}
+use Rattle.words.specs.Lists.{every, first}
 use Rattle.frame.specs.Identifier.{greatestDgn}
 use Rattle.frame.specs.Frame.{checkedOf}
 use Rattle.frame.specs.declared.Parts.{Parts}
-use Rattle.frame.proofs.Words.{both-true, by-test}
-use Rattle.places.specs.Layout.{first, every, oneEach}
-use Rattle.places.proofs.Search.{found-at, every-at}
-use Rattle.places.specs.declared.Found.{Found}
-use Rattle.places.specs.declared.Found.the-variants.{At, Nowhere}
+use Rattle.words.proofs.Words.{both-true, by-test}
+use Rattle.places.specs.Layout.{oneEach}
+use Rattle.words.proofs.Lists.{found-at, every-at}
+use Rattle.words.specs.declared.Found.{Found}
+use Rattle.words.specs.declared.Found.the-variants.{At, Nowhere}
 use Rattle.message.specs.LongMessage.{shortest, longest, packetsOf, idleLimit, Meaning, meant, meaningOf}
 use Rattle.message.specs.Receiver.{greatestSender, room, freePlace, isFree, isOpenBy, layout, placeKeepsRules, keepsRules, Outcome, stored, finished, After, leaves, orElse, placeFor, openedAt, announces, keptAt, expecting, advanced, packetAt, carries, byMeaning, heard}
 use Rattle.message.specs.Promises.{toldAnswer, LeftBy}

@@ -6,7 +6,7 @@ use mathlib.Core.Bool.{true}
 use mathlib.Core.List.{List}
 use Prim.Native.Nat.{ℕ, _≤_}
 use lib.ListN.{length}
-use Rattle.frame.specs.Words.{if_then_else_, _=?_, Told, refused, gives}
+use Rattle.words.specs.Words.{if_then_else_, _=?_, Told, refused, gives}
 use Rattle.frame.specs.Standard.{Frame}
 use Rattle.places.specs.Places.{Place as Seat, Out, full, said}
 use Rattle.places.specs.Layout.{view}

@@ -7,11 +7,11 @@ use mathlib.Core.List.{List}
 use mathlib.Core.Logic.{_≢_, _⊎_}
 use Prim.Native.Nat.{ℕ, _+_, _-_, _*_, _≤_, _<_}
 use lib.ListN.{length, getD, set}
-use Rattle.frame.specs.Words.{Told, refused, gives}
+use Rattle.words.specs.Words.{Told, refused, gives}
+use Rattle.words.specs.Lists.{first}
 use Rattle.frame.specs.Identifier.{greatestDgn}
 use Rattle.frame.specs.Frame.{checkedOf}
-use Rattle.places.specs.Layout.{first}
-use Rattle.places.specs.declared.Found.the-variants.{At}
+use Rattle.words.specs.declared.Found.the-variants.{At}
 use Rattle.message.specs.LongMessage.{shortest, longest, packetBytes, packetsOf, needed, packet, meaningOf}
 use Rattle.message.specs.Receiver.{placeCount, room, freePlace, isOpenBy, keepsRules, heard}
 use Rattle.message.specs.Splitter.{announcementBytes, packetBytesOf}

@@ -2,10 +2,10 @@
 use mathlib.Core.Path.{_≡_}
 use mathlib.Core.List.{List, map}
 use Prim.Native.Nat.{ℕ, _≤_}
-use Rattle.frame.specs.Words.{Told, refused, gives}
+use Rattle.words.specs.Words.{Told, refused, gives}
+use Rattle.words.specs.Lists.{count}
 use Rattle.message.specs.LongMessage.{longest, packetsOf, Meaning, other, announcement, packet}
 use Rattle.message.specs.Receiver.{closes, idled}
-use Rattle.places.specs.Places.{count}
 use Rattle.message.specs.Promises.{refusalWhy, toldPausing}
 use Rattle.message.specs.declared.Place.{Place}
 use Rattle.message.specs.declared.Paused.{Paused}

@@ -2,7 +2,7 @@
 use mathlib.Core.List.{List, [], _∷_, _++_}
 use Prim.Native.Nat.{ℕ, _+_, _-_, _*_}
 use lib.ListN.{length, take, drop, replicate}
-use Rattle.frame.specs.Words.{if_then_else_, _<?_, _≤?_, _=?_, _or_, Told, refused, gives, given_then_}
+use Rattle.words.specs.Words.{if_then_else_, _<?_, _≤?_, _=?_, _or_, Told, refused, gives, given_then_}
 use Rattle.frame.specs.Bytes.{bytesOf}
 use Rattle.frame.specs.Identifier.{greatestDgn}
 use Rattle.frame.specs.Standard.{unused}

@@ -4,7 +4,7 @@ ghost use mathlib.Core.Bool.{true};
 ghost use mathlib.Core.List.{List};
 ghost use Prim.Native.Nat.{ℕ, _<_, _≤_};
 ghost use lib.ListN.{length, getD, set};
-ghost use Rattle.places.specs.Layout.{first};
+ghost use Rattle.words.specs.Lists.{first};
 ghost use Rattle.message.specs.LongMessage.{meant, meaningOf};
 ghost use Rattle.message.specs.Receiver.{room, freePlace, isFree, isOpenBy, keepsRules, placeFor, announces, packetAt, carries, byMeaning, advanced};
 ghost use Rattle.message.specs.Promises.{LeftBy};
@@ -22,7 +22,7 @@ use crate::meaning::Meant;
 use crate::one_place;
 use crate::storage;
 use frame::Verdict;
-use places::Found;
+use words::Found;
 
 // The state as it came, with an answer.
 pub fn keeps(r: Receiver, answer: Answer) -> Heard

@@ -8,9 +8,9 @@ use native.Mathlib.Omega.{arith}
 use lib.ListN.{length, getD, take, replicate, length-append, length-replicate}
 use lib.Dec.{ltb}
 use borrow.Author.Tests.{ltb-true, ltb-false}
-use Rattle.frame.specs.Words.{gives}
+use Rattle.words.specs.Words.{gives}
 use Rattle.frame.specs.Standard.{greatestAddress}
-use Rattle.frame.proofs.Words.{by-test}
+use Rattle.words.proofs.Words.{by-test}
 use Rattle.nodes.specs.Table.{addresses, absent, hasName, isChallenged, soundRecord, holderAgain, challengerAgain, standsAgain, keepsRules}
 use Rattle.nodes.specs.Call.{nobody, holderOf, lookedUpOf, nowhere, addressFrom, foundOf, noRival, rivalOf, challengerOf}
 use Rattle.nodes.specs.Promises.{Empty}

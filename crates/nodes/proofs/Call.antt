@@ -7,7 +7,7 @@ use mathlib.Core.Bool.{true, false}
 use Prim.Native.Nat.{ℕ, _≤_, _<_}
 use borrow.Author.Tests.{lt-ltb, le-ltb}
 use lib.ListN.{length, getD}
-use Rattle.frame.specs.Words.{Told, refused, gives}
+use Rattle.words.specs.Words.{Told, refused, gives}
 use Rattle.frame.specs.Frame.{checkedOf}
 use Rattle.frame.specs.Standard.{greatestAddress}
 use Rattle.frame.specs.declared.Parts.{Parts}

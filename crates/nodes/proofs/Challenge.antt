@@ -10,12 +10,12 @@ use native.Mathlib.Omega.{arith}
 use lib.ListN.{length, getD, take}
 use lib.Dec.{ltb, eqb}
 use borrow.Author.Tests.{eqb-true, eqb-false, ltb-true, ltb-false}
-use Rattle.frame.specs.Words.{Told, refused, gives}
+use Rattle.words.specs.Words.{Told, refused, gives}
 use Rattle.frame.specs.Bytes.{numberOf}
 use Rattle.frame.specs.Frame.{checkedOf}
 use Rattle.frame.specs.Standard.{greatestAddress}
 use Rattle.frame.specs.declared.Parts.{Parts}
-use Rattle.frame.proofs.Words.{gives-same, true-false, by-test}
+use Rattle.words.proofs.Words.{gives-same, true-false, by-test}
 use Rattle.nodes.specs.Table.{addresses, takesAfter, absent, held, challenged, unchallengedOf, hasName, isChallenged, hasChallenger, givesWay, mayChallenge, clearedOf, claimedAt}
 use Rattle.nodes.specs.Call.{Asked, nothing, claims, pauses, challenges, holder, holderOf, Rival, rival, noRival, rivalOf, claimOutcome, answerOf, heardOf, sourceRecord}
 use Rattle.nodes.specs.Promises.{LookUp, FindChallenger}

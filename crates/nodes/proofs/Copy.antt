@@ -9,7 +9,7 @@ use native.Mathlib.Omega.{arith}
 use lib.ListN.{length, getD, set, take, drop, length-append, length-take, length-drop, drop-of-length-le}
 use lib.Dec.{ltb}
 use borrow.Author.Tests.{ltb-false}
-use Rattle.frame.specs.Words.{if_then_else_}
+use Rattle.words.specs.Words.{if_then_else_}
 use Rattle.nodes.specs.Table.{addresses, absent, emptyTable}
 use Rattle.nodes.specs.Inside.{readableOf, recordsOf}
 use Rattle.nodes.specs.declared.Node.{Node}

@@ -11,9 +11,9 @@ use lib.ListN.{length, getD, take, drop, drop-of-length-le, length-take}
 use lib.Dec.{ltb}
 use lib.Seq.{drop-cons, getD-take}
 use borrow.Author.Tests.{ltb-true, ltb-false}
-use Rattle.frame.specs.Words.{Told, gives}
+use Rattle.words.specs.Words.{Told, gives}
 use Rattle.frame.specs.Standard.{greatestAddress}
-use Rattle.frame.proofs.Words.{past-refusal, before-refusal, gives-same, by-test}
+use Rattle.words.proofs.Words.{past-refusal, before-refusal, gives-same, by-test}
 use Rattle.nodes.specs.Table.{addresses, absent, hasName, stands, keepsRules}
 use Rattle.nodes.specs.Call.{tableOr, Holder, nobody, holder, holderOf, lookedUpOf, Whereabouts, nowhere, there, addressFrom, foundOf}
 use Rattle.nodes.specs.Laws.{Rules, foundIn, Holds, FoundThere, FoundNowhere, FoundShown}

@@ -10,7 +10,7 @@ use native.Mathlib.Omega.{arith}
 use lib.ListN.{length, getD, take, drop, length-take}
 use lib.Dec.{eqb}
 use borrow.Author.Tests.{eqb-true, eqb-false}
-use Rattle.frame.proofs.Words.{by-test}
+use Rattle.words.proofs.Words.{by-test}
 use Rattle.nodes.specs.Table.{addresses, absent, held, hasName, hasChallenger, unchallengedOf, givesWay, mayChallenge, clearedOf, enteredOf, stands, claimedAt, pausedAt, eachFrom, claimedOf, pausedOf, keepsRules}
 use Rattle.nodes.specs.Laws.{Rules, NameOnce, TakenByLower}
 use Rattle.nodes.specs.declared.Node.{Node}

@@ -7,13 +7,13 @@ use Prim.Native.Nat.{ℕ}
 use native.Mathlib.Omega.{arith}
 use lib.ListN.{length, take, drop}
 use lib.Dec.{ltb}
-use Rattle.frame.specs.Words.{if_then_else_, given_then_, _=?_, Told, refused, gives}
+use Rattle.words.specs.Words.{if_then_else_, given_then_, _=?_, Told, refused, gives}
 use Rattle.frame.specs.Frame.{checkedOf}
 use Rattle.frame.specs.Standard.{greatestAddress}
 use Rattle.frame.specs.Laws.{toldButPriority}
 use Rattle.frame.specs.declared.Parts.{Parts}
 use Rattle.frame.specs.declared.BadFrame.the-variants as Bad
-use Rattle.frame.proofs.Words.{refused-gives, gives-same, by-test}
+use Rattle.words.proofs.Words.{refused-gives, gives-same, by-test}
 use Rattle.frame.proofs.Laws.{badBack, bad-back, priority-ignored as frame-priority}
 use Rattle.nodes.specs.Table.{addresses, givesWay, mayChallenge, claimedAt, pausedAt, eachFrom, keepsRules}
 use Rattle.nodes.specs.Call.{Asked, nothing, claims, pauses, askedBy, askedOf, pauseAsked, tableOr, Outcome, nothingToDo, taken, challenges, heldByLower, silent, replaced, sourceRecord, claimOutcome, answerOf, leftBy, Holder, nobody, holder, lookedUpOf, Whereabouts, nowhere, there, foundOf, Rival, noRival, rival, challengerOf}

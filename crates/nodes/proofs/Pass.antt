@@ -9,9 +9,9 @@ use native.Mathlib.Omega.{arith}
 use lib.ListN.{length, getD, set, take, drop, length-take}
 use lib.Dec.{leb, eqb}
 use borrow.Author.Tests.{leb-true, leb-false, eqb-true, eqb-false, eq-eqb, ne-eqb}
-use Rattle.frame.specs.Words.{if_then_else_}
+use Rattle.words.specs.Words.{if_then_else_}
 use Rattle.frame.specs.Standard.{greatestAddress}
-use Rattle.frame.proofs.Words.{by-test}
+use Rattle.words.proofs.Words.{by-test}
 use Rattle.nodes.specs.Table.{addresses, absent, clearedOf, enteredOf, claimedAt, eachFrom, claimedOf, keepsRules}
 use Rattle.nodes.specs.Laws.{clearedAll, ClearedThenEntered}
 use Rattle.nodes.specs.declared.Node.{Node}

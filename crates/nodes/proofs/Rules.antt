@@ -10,8 +10,8 @@ use lib.ListN.{length, getD, drop, drop-of-length-le, length-map}
 use lib.Seq.{drop-cons}
 use lib.Dec.{ltb, eqb}
 use borrow.Author.Tests.{eqb-true}
-use Rattle.frame.specs.Words.{_and_}
-use Rattle.frame.proofs.Words.{both-true, by-test}
+use Rattle.words.specs.Words.{_and_}
+use Rattle.words.proofs.Words.{both-true, by-test}
 use Rattle.nodes.specs.Table.{takesAfter, absent, isChallenged, stands, standsIn, soundChallenge, soundRecord, holderAgain, challengerAgain, standsAgain, keepsRules, replacesOf, replacedIn}
 use Rattle.nodes.specs.declared.Node.{Node}
 

@@ -7,7 +7,7 @@ use Prim.Native.Nat.{ℕ, _<_, _≤_}
 use native.Mathlib.Omega.{arith}
 use lib.ListN.{length, getD, take, drop}
 use lib.Dec.{leb, eqb}
-use Rattle.frame.specs.Words.{Told, refused, gives}
+use Rattle.words.specs.Words.{Told, refused, gives}
 use Rattle.frame.specs.Identifier.{reservedOf, sourceOf, dgnOf, identifiers}
 use Rattle.frame.specs.Frame.{frameBytes, sourceAllowed, checkedOf}
 use Rattle.frame.specs.Standard.{claimDgn}
@@ -15,7 +15,7 @@ use Rattle.frame.specs.Promises.{refusalOf}
 use Rattle.frame.specs.declared.Parts.{Parts}
 use Rattle.frame.specs.declared.BadFrame.{BadFrame}
 use Rattle.frame.specs.declared.BadFrame.the-variants as Bad
-use Rattle.frame.proofs.Words.{refused-gives, refused-same, by-test}
+use Rattle.words.proofs.Words.{refused-gives, refused-same, by-test}
 use Rattle.nodes.specs.Table.{addresses, absent, replacedIn}
 use Rattle.nodes.specs.Call.{Asked, nothing, claims, pauses, askedBy, claimOutcome, outcomeOf, answerOf, leftBy, heardOf, tableAfter, tablePaused}
 use Rattle.nodes.specs.Promises.{toldHeard}

@@ -7,7 +7,7 @@ use Prim.Native.Nat.{ℕ, _+_, _<_, _≤_}
 use native.Mathlib.Omega.{arith}
 use lib.Dec.{ltb}
 use borrow.Author.Tests.{ltb-true, ltb-false, lt-ltb, le-ltb}
-use Rattle.frame.proofs.Words.{true-false, by-test}
+use Rattle.words.proofs.Words.{true-false, by-test}
 use Rattle.nodes.specs.Table.{takesAfter, held, challenged, unchallengedOf, hasName, isChallenged, hasChallenger, givesWay, clearedOf, enteredOf, replacesOf}
 use Rattle.nodes.specs.Laws.{EverySentence, ReplacedCounts}
 use Rattle.nodes.specs.declared.Node.{Node}

@@ -9,12 +9,12 @@ use native.Mathlib.Omega.{arith}
 use lib.ListN.{length, getD, take}
 use lib.Dec.{ltb}
 use borrow.Author.Tests.{ltb-true, ltb-false, lt-ltb, le-ltb, eqb-true, eqb-false, eq-eqb, ne-eqb}
-use Rattle.frame.specs.Words.{given_then_, _=?_, Told, refused, gives}
+use Rattle.words.specs.Words.{given_then_, _=?_, Told, refused, gives}
 use Rattle.frame.specs.Bytes.{numberOf}
 use Rattle.frame.specs.Frame.{checkedOf}
 use Rattle.frame.specs.Standard.{greatestAddress, claimDgn}
 use Rattle.frame.specs.declared.Parts.{Parts}
-use Rattle.frame.proofs.Words.{past-refusal, before-refusal, refused-gives, gives-same, true-false, by-test}
+use Rattle.words.proofs.Words.{past-refusal, before-refusal, refused-gives, gives-same, true-false, by-test}
 use Rattle.nodes.specs.Table.{addresses, absent, held, challenged, isChallenged, givesWay, mayChallenge, clearedOf, enteredOf, claimedOf, stands, keepsRules}
 use Rattle.nodes.specs.Call.{Asked, nothing, claims, pauses, askedBy, askedOf, taken, challenges, heldByLower, silent, sourceRecord, claimOutcome, answerOf, leftBy, heardOf, tableAfter, nobody, holder, holderOf, lookedUpOf, noRival, rival, rivalOf, challengerOf}
 use Rattle.nodes.specs.Laws.{TakenShown, ChallengesShown, HeldShown, TakenFound}

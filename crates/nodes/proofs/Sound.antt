@@ -10,8 +10,8 @@ use native.Mathlib.Omega.{arith}
 use lib.ListN.{length, getD}
 use lib.Dec.{ltb, leb, eqb}
 use borrow.Author.Tests.{eqb-true, eqb-false, ltb-true, ltb-false, leb-false, eq-eqb, ne-eqb, lt-ltb, lt-leb, le-ltb, not-false}
-use Rattle.frame.specs.Words.{_and_, _or_}
-use Rattle.frame.proofs.Words.{both-true, true-false, by-test}
+use Rattle.words.specs.Words.{_and_, _or_}
+use Rattle.words.proofs.Words.{both-true, true-false, by-test}
 use Rattle.nodes.specs.Table.{takesAfter, absent, held, challenged, unchallengedOf, hasName, isChallenged, hasChallenger, stands, givesWay, mayChallenge, vacatedOf, clearedOf, enteredOf, claimedHere, claimedAt, pausedAt, soundChallenge, soundRecord, standsIn, holderAgain, challengerAgain, standsAgain, keepsRules}
 use Rattle.nodes.specs.Laws.{Rules}
 use Rattle.nodes.specs.declared.Node.{Node}

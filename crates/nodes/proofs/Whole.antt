@@ -8,8 +8,8 @@ use native.Mathlib.Omega.{arith}
 use lib.ListN.{length, take}
 use lib.Dec.{ltb}
 use borrow.Author.Tests.{ltb-true, ltb-false}
-use Rattle.frame.specs.Words.{if_then_else_, Told, refused, gives}
-use Rattle.frame.proofs.Words.{past-refusal}
+use Rattle.words.specs.Words.{if_then_else_, Told, refused, gives}
+use Rattle.words.proofs.Words.{past-refusal}
 use Rattle.nodes.specs.Table.{addresses, emptyTable, claimedOf, pausedOf, eachFrom}
 use Rattle.nodes.specs.Call.{Asked, nothing, claims, pauses, askedOf, pauseAsked, answerOf, leftBy, lookedUpOf, foundOf, challengerOf}
 use Rattle.nodes.specs.Promises.{Hear, Pause, LookUp, FindAddress, FindChallenger, toldLookedUp, toldFoundAddress, toldFoundChallenger}

@@ -3,7 +3,7 @@ use mathlib.Core.Path.{_≡_}
 use mathlib.Core.List.{List}
 use Prim.Native.Nat.{ℕ}
 use lib.ListN.{length, take}
-use Rattle.frame.specs.Words.{if_then_else_, _<?_, Told, refused, gives}
+use Rattle.words.specs.Words.{if_then_else_, _<?_, Told, refused, gives}
 use Rattle.nodes.specs.Table.{addresses, emptyTable, claimedAt, pausedAt}
 use Rattle.nodes.specs.Call.{Asked, nothing, claims, pauses, answerOf}
 use Rattle.nodes.specs.Promises.{toldHeard, toldPausing}

@@ -6,7 +6,7 @@ use mathlib.Core.List.{List, _++_, map}
 use mathlib.Core.Logic.{_⊎_}
 use Prim.Native.Nat.{ℕ, _≤_, _<_, _%_, _^_}
 use lib.ListN.{length, getD, set, take, drop}
-use Rattle.frame.specs.Words.{if_then_else_, _≤?_, Told, refused, gives}
+use Rattle.words.specs.Words.{if_then_else_, _≤?_, Told, refused, gives}
 use Rattle.frame.specs.Bytes.{numberOf}
 use Rattle.frame.specs.Identifier.{identifiers}
 use Rattle.frame.specs.Frame.{checkedOf}

@@ -4,7 +4,7 @@ use mathlib.Core.Path.{_≡_}
 use mathlib.Core.List.{List}
 use Prim.Native.Nat.{ℕ}
 use lib.ListN.{length, take}
-use Rattle.frame.specs.Words.{Told, refused, gives, numberIn}
+use Rattle.words.specs.Words.{Told, refused, gives, numberIn}
 use Rattle.frame.specs.Promises.{refusalOf}
 use Rattle.nodes.specs.Table.{addresses, emptyTable}
 use Rattle.nodes.specs.Call.{Outcome, nothingToDo, taken, challenges, heldByLower, silent, replaced, Holder, nobody, holder, heardOf, tableAfter, pauseTold, tablePaused, lookedUpOf, Whereabouts, nowhere, there, foundOf, Rival, noRival, rival, challengerOf}

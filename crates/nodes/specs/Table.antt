@@ -5,7 +5,7 @@ use mathlib.Core.Bool.{Bool, true, false, not}
 use mathlib.Core.List.{List, [], _∷_}
 use Prim.Native.Nat.{ℕ, zero, suc, _+_}
 use lib.ListN.{replicate}
-use Rattle.frame.specs.Words.{if_then_else_, _<?_, _≤?_, _=?_, _and_, _or_}
+use Rattle.words.specs.Words.{if_then_else_, _<?_, _≤?_, _=?_, _and_, _or_}
 use Rattle.nodes.specs.declared.Node.{Node}
 use Rattle.nodes.specs.declared.Claim.{Claim}
 

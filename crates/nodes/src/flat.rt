@@ -17,7 +17,7 @@ use frame::standard::GREATEST_ADDRESS;
 ghost use mathlib.Core.Path.{_≡_};
 ghost use Prim.Native.Nat.{_≤_};
 ghost use lib.ListN.{drop};
-ghost use Rattle.frame.specs.Words.{gives};
+ghost use Rattle.words.specs.Words.{gives};
 ghost use Rattle.nodes.specs.Table.{addresses, absent as absentNode, held as heldBy, challenged as challengedBy, unchallengedOf, hasName, isChallenged, hasChallenger, stands as standsFor, givesWay, mayChallenge, vacatedOf, clearedOf, enteredOf, claimedHere, claimedAt, replacesOf, pausedAt, replacedIn, soundChallenge, soundRecord, standsIn, holderAgain, challengerAgain, standsAgain, keepsRules};
 ghost use Rattle.nodes.specs.Call.{askedOf, askedBy, pauseAsked, claimOutcome, lookedUpOf, addressFrom, foundOf, challengerOf};
 ghost use Rattle.nodes.specs.Promises.{toldHeard, toldLookedUp, toldFoundAddress, toldFoundChallenger};

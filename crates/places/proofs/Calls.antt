@@ -4,7 +4,7 @@ use mathlib.Core.Path.{_≡_, refl, sym, ap, ap₂, _∙_, subst, subst⁻¹}
 use mathlib.Core.List.{List, [], _∷_, map}
 use mathlib.Core.Option.{none}
 use Prim.Native.Nat.{ℕ}
-use Rattle.frame.specs.Words.{Told, gives}
+use Rattle.words.specs.Words.{Told, gives}
 use Rattle.places.specs.Format.{Format, Event, frame, pause}
 use Rattle.places.specs.OneKey.{solo}
 use Rattle.places.specs.Places.{said, heard, paused, lookup, hear, pass, closedBy, eightFree, after, History, run, eventsOf, toldTo, only, admitted}

@@ -2,7 +2,6 @@ pub mod NineKeys
 pub mod Places
 pub mod Steps
 pub mod Statements
-pub mod Search
 pub mod Stretch
 pub mod View
 pub mod Receiver

@@ -10,8 +10,9 @@ use native.Mathlib.Decide.{ℕ-discrete}
 use native.Mathlib.Omega.{arith}
 use borrow.Author.Tests.{eq-eqb, ne-eqb}
 use lib.ListN.{length}
-use Rattle.frame.proofs.Words.{true-false}
-use Rattle.places.specs.Places.{Place, free, held, lookup, keyed, update, anyFree, takeLowest, keysOf, Absent, OnePlaceEach}
+use Rattle.words.proofs.Words.{true-false}
+use Rattle.words.specs.Lists.{Absent}
+use Rattle.places.specs.Places.{Place, free, held, lookup, keyed, update, anyFree, takeLowest, keysOf, OnePlaceEach}
 
 -- the two cases of two numbers
 pub by-equal : {P : Type 0} (i k : ℕ) → (i ≡ k → P) → (i ≢ k → P) → P

@@ -10,11 +10,12 @@ use native.Mathlib.Nat.{zero-add}
 use native.Mathlib.Omega.{arith}
 use borrow.Author.Tests.{eq-eqb, ne-eqb}
 use lib.ListN.{length, length-map}
-use Rattle.frame.specs.Words.{if_then_else_, _=?_}
-use Rattle.frame.proofs.Words.{by-test}
+use Rattle.words.specs.Words.{if_then_else_, _=?_}
+use Rattle.words.specs.Lists.{count, Absent, Distinct}
+use Rattle.words.proofs.Words.{by-test}
 use Rattle.places.specs.Format.{Asks, fixed, opens, finishes, feeds, Fed, goes, ends, Format, Event, frame, pause, step}
 use Rattle.places.specs.OneKey.{fedAlone, packetAlone, askedAlone, hearAlone, pauseAlone, solo, openAfter}
-use Rattle.places.specs.Places.{free, held, Out, full, said, heard, paused, lookup, keyed, update, anyFree, keysOf, Absent, Distinct, OnePlaceEach, count, isNone, placeCount, Places, opened, finished, fed, packet, asked, hear, rest, pass, closes, closedBy, eightFree, after, History, run, eventsOf, toldTo, only, admitted, NeverFull, answered}
+use Rattle.places.specs.Places.{free, held, Out, full, said, heard, paused, lookup, keyed, update, anyFree, keysOf, OnePlaceEach, isNone, placeCount, Places, opened, finished, fed, packet, asked, hear, rest, pass, closes, closedBy, eightFree, after, History, run, eventsOf, toldTo, only, admitted, NeverFull, answered}
 use Rattle.places.specs.Statements.{StepAgrees, PauseCloses, RunKeeps, onBusyBus, AsRulesFrom, AsRulesFromAny, OpenAsRules, ToldAsRules, BusyAsQuiet, EightOthersOpen, EightOthers, isOpening, FullExactlyWhen, FullExactlyWhenAt, ClosesAsRules, Pausing, spaced, spacing, SumsOfPauses, AllKept, PausesAdd}
 use Rattle.places.proofs.Places.{by-equal, some-none, absent-lookup, lookup-absent, update-other, update-each, freed-holders, holders-below, holders-full, full-holders}
 use Rattle.places.proofs.Steps.{said-full, no-place, one-step, pass-lookup, pass-each, closed-count}

@@ -8,11 +8,12 @@ use Prim.Native.Nat.{ℕ, _+_}
 use native.Mathlib.Nat.{zero-add}
 use native.Mathlib.Omega.{arith}
 use borrow.Author.Tests.{eq-eqb, ne-eqb}
-use Rattle.frame.specs.Words.{if_then_else_}
-use Rattle.frame.proofs.Words.{by-test, true-false}
+use Rattle.words.specs.Words.{if_then_else_}
+use Rattle.words.specs.Lists.{count, Absent}
+use Rattle.words.proofs.Words.{by-test, true-false}
 use Rattle.places.specs.Format.{Asks, fixed, opens, finishes, feeds, Fed, goes, ends, Format, Step, step}
 use Rattle.places.specs.OneKey.{fedAlone, packetAlone, askedAlone, pauseAlone}
-use Rattle.places.specs.Places.{free, held, full, said, lookup, update, anyFree, keysOf, Absent, OnePlaceEach, count, isNone, Places, opened, finished, fed, packet, asked, pass, closedBy}
+use Rattle.places.specs.Places.{free, held, full, said, lookup, update, anyFree, keysOf, OnePlaceEach, isNone, Places, opened, finished, fed, packet, asked, pass, closedBy}
 use Rattle.places.specs.Statements.{StepAgrees, OneStep, isOpening}
 use Rattle.places.proofs.Places.{by-equal, some-none, absent-lookup, keyed-other, keyed-same, keyed-each, update-other, update-same, update-each, length-update, take-other, take-same, take-each, length-lowest}
 

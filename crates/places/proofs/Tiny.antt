@@ -7,8 +7,8 @@ use Prim.Native.Nat.{ℕ, _+_, _-_, _≤_, _<_}
 use native.Mathlib.Nat.{add-zero, add-assoc}
 use native.Mathlib.Omega.{arith}
 use borrow.Author.Tests.{lt-ltb, le-ltb, ltb-true, ltb-false}
-use Rattle.frame.specs.Words.{_<?_, _≤?_, _=?_}
-use Rattle.frame.proofs.Words.{by-test}
+use Rattle.words.specs.Words.{_<?_, _≤?_, _=?_}
+use Rattle.words.proofs.Words.{by-test}
 use Rattle.places.specs.Format.{opens, goes}
 use Rattle.places.specs.OneKey.{pauseAlone}
 use Rattle.places.specs.Tiny.{Pile, Word, newPile, mostPackets, tinyIdleLimit, tinyAsks, tinyFeed, tinyWait, tiny, TinyBusyAsQuiet, TinyOpenAsRules, TinyToldAsRules, TinyFullExactlyWhen, TinyClosesAsRules, TinyPausing, TinySumsOfPauses}

@@ -10,18 +10,19 @@ use native.Mathlib.Omega.{arith}
 use borrow.Author.Tests.{eq-eqb, ne-eqb, eqb-true, eqb-false, le-leb, lt-leb, leb-true, leb-false, not-true}
 use lib.ListN.{length, take, getD, set, length-take, length-drop, length-map}
 use lib.Seq.{paste, length-paste, take-paste}
-use Rattle.frame.specs.Words.{if_then_else_, _<?_, _≤?_, _=?_, _and_, Told, gives}
-use Rattle.frame.proofs.Words.{by-test, both-true}
+use Rattle.words.specs.Words.{if_then_else_, _<?_, _≤?_, _=?_, _and_, Told, gives}
+use Rattle.words.specs.Lists.{every, count, first}
+use Rattle.words.proofs.Words.{by-test, both-true}
 use Rattle.places.specs.Format.{finishes, opens, feeds, goes, ends}
-use Rattle.places.specs.Places.{Out, full, said, placeCount, rest, closes, count}
-use Rattle.places.specs.Layout.{first, every, stretch, AgreeBut, openBy, seat, view, oneEach}
+use Rattle.places.specs.Places.{Out, full, said, placeCount, rest, closes}
+use Rattle.places.specs.Layout.{stretch, AgreeBut, openBy, seat, view, oneEach}
 use Rattle.places.specs.Receiver.{Shows}
 use Rattle.places.specs.Calls.{KeepsPlaces}
 use Rattle.places.specs.Tiny.{Card, Pile, Word, opened, stored, unknown, finished, newPile, mostPackets, tinyIdleLimit, tinyAsks, tinyFeed, tinyWait, tiny}
 use Rattle.places.specs.TinyReceiver.{Slot, freeSlot, isFreeSlot, pileIn, tinyLayout, TinyHeld, slotKeepsRules, TinyKeeps, TinyAfter, tinyLeaves, written, handed, tinyFinishes, newSlot, tinyOpens, nextSlot, tinyStores, tinyFeeds, tinyHeard, slotCloses, slotIdled, TinyStarts, TinyHears, TinyPauses, tinyCalls, TinyKeepsPlaces}
-use Rattle.places.specs.declared.Found.{Found}
-use Rattle.places.specs.declared.Found.the-variants.{At, Nowhere}
-use Rattle.places.proofs.Search.{found-at, every-at, every-set, every-map, every-replicate}
+use Rattle.words.specs.declared.Found.{Found}
+use Rattle.words.specs.declared.Found.the-variants.{At, Nowhere}
+use Rattle.words.proofs.Lists.{found-at, every-at, every-set, every-map, every-replicate}
 use Rattle.places.proofs.Stretch.{stretch-same, stretch-other}
 use Rattle.places.proofs.View.{one-each-view, length-view, blank-view, view-pass, view-closes}
 use Rattle.places.proofs.Receiver.{shows-opens-held, shows-opens-free, shows-finishes-held, shows-finishes-free, shows-full, shows-feeds-nowhere, shows-feeds-goes, shows-feeds-ends, shows-keeps, pass-keeps}

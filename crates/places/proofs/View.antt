@@ -12,13 +12,14 @@ use borrow.Author.Tests.{eq-eqb, ne-eqb, eqb-true, eqb-false, not-true}
 use lib.Dec.{eqb}
 use lib.ListN.{length, getD, set, drop, replicate, drop-of-length-le}
 use lib.Seq.{drop-cons}
-use Rattle.frame.specs.Words.{if_then_else_}
-use Rattle.frame.proofs.Words.{by-test, both-true, true-false}
+use Rattle.words.specs.Words.{if_then_else_}
+use Rattle.words.specs.Lists.{any, count, Absent}
+use Rattle.words.proofs.Words.{by-test, both-true, true-false}
 use Rattle.places.specs.Format.{Format}
-use Rattle.places.specs.Places.{Place, free, held, lookup, keyed, update, anyFree, takeLowest, keysOf, Absent, OnePlaceEach, count, rest, pass, closes, closedBy}
-use Rattle.places.specs.Layout.{any, stretch, AgreeBut, Layout, openBy, seat, viewFrom, alone, oneEach}
+use Rattle.places.specs.Places.{Place, free, held, lookup, keyed, update, anyFree, takeLowest, keysOf, OnePlaceEach, rest, pass, closes, closedBy}
+use Rattle.places.specs.Layout.{stretch, AgreeBut, Layout, openBy, seat, viewFrom, alone, oneEach}
 use Rattle.places.specs.Laws.{LookupNowhere, LookupAt, FreeNowhere, FreeAt, UpdateAt, CloseAt, TakeAt, FreeWrite, ViewPass, ViewCloses, OneEachView, LengthView, BlankView}
-use Rattle.places.proofs.Search.{Hit, here, there, Miss, end, on, hit-at, miss-at, miss-nowhere}
+use Rattle.words.proofs.Lists.{Hit, here, there, Miss, end, on, hit-at, miss-at, miss-nowhere}
 
 module _ {P S : Type 0} (L : Layout P S) where
   -- an open place, a free one, and one that is not k's

@@ -9,10 +9,11 @@ use mathlib.Core.Logic.{_↔_}
 use mathlib.Core.Option.{none}
 use Prim.Native.Nat.{ℕ}
 use lib.ListN.{length}
-use Rattle.frame.specs.Words.{Told, gives}
+use Rattle.words.specs.Words.{Told, gives}
+use Rattle.words.specs.Lists.{count}
 use Rattle.places.specs.Format.{Format, Event}
 use Rattle.places.specs.OneKey.{pauseAlone, solo}
-use Rattle.places.specs.Places.{Out, full, Happened, heard, paused, lookup, keysOf, OnePlaceEach, count, isNone, placeCount, Places, hear, pass, closedBy, eightFree, History, eventsOf, toldTo, admitted, NeverFull, answered}
+use Rattle.places.specs.Places.{Out, full, Happened, heard, paused, lookup, keysOf, OnePlaceEach, isNone, placeCount, Places, hear, pass, closedBy, eightFree, History, eventsOf, toldTo, admitted, NeverFull, answered}
 use Rattle.places.specs.Statements.{onQuietBus, openByRules, isOpening, EightOthersOpen, ClosedByRules, EightOthers, Pausing, spacing}
 
 -- The calls of a receiver of a format: the states in which it starts, those that keep their rules, and which answer and

@@ -10,34 +10,10 @@ use Prim.Native.Nat.{ℕ, _+_, _*_, _≤_, _<_}
 use lib.ListN.{length, getD, set, replicate}
 use lib.Seq.{paste}
 use Rattle.places.specs.Format.{Format}
-use Rattle.places.specs.Places.{free, lookup, update, anyFree, takeLowest, OnePlaceEach, count, rest, pass, closes, closedBy}
-use Rattle.places.specs.Layout.{first, every, stretch, AgreeBut, Layout, openBy, seat, view, oneEach}
-use Rattle.places.specs.declared.Found.the-variants.{At, Nowhere}
-
--- A search.
-
--- j is the first position that passes the test
-pub record FirstAt {P : Type 0} (f : P → Bool) (ps : List P) (d : P) (j : ℕ) : Type 0 where
-  pub below : j < length ps
-  pub passes : f (getD ps j d) ≡ true
-  pub lowest : (i : ℕ) → i < j → f (getD ps i d) ≡ false
-
-abbrev pub FoundAt : Type 0 → Type 0
-FoundAt P = (j : ℕ) (f : P → Bool) (ps : List P) (d : P) → first f ps ≡ At j → FirstAt f ps d j
-
-abbrev pub FoundNowhere : Type 0 → Type 0
-FoundNowhere P =
-    (f : P → Bool) (ps : List P) (d : P) → first f ps ≡ Nowhere → (i : ℕ) → i < length ps → f (getD ps i d) ≡ false
-
--- One element replaced keeps the others, and how many there are; where all pass a test and the new one does, all do.
-
-abbrev pub SetKeeps : Type 0 → Type 0
-SetKeeps P =
-    (ps : List P) (i : ℕ) (p d : P)
-    → (length (set ps i p) ≡ length ps) × ((j : ℕ) → j ≢ i → getD (set ps i p) j d ≡ getD ps j d)
-
-abbrev pub EverySet : Type 0 → Type 0
-EverySet P = (f : P → Bool) (ps : List P) (i : ℕ) (p : P) → every f ps ≡ true → f p ≡ true → every f (set ps i p) ≡ true
+use Rattle.words.specs.Lists.{every, count, first}
+use Rattle.places.specs.Places.{free, lookup, update, anyFree, takeLowest, OnePlaceEach, rest, pass, closes, closedBy}
+use Rattle.places.specs.Layout.{stretch, AgreeBut, Layout, openBy, seat, view, oneEach}
+use Rattle.words.specs.declared.Found.the-variants.{At, Nowhere}
 
 -- A stretch of the storage: a copy into place j's changes that one as it would change the stretch alone, and no other.
 

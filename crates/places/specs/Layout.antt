@@ -6,26 +6,9 @@ use mathlib.Core.List.{List, [], _∷_}
 use mathlib.Core.Logic.{_≢_}
 use Prim.Native.Nat.{ℕ, suc, _*_}
 use lib.ListN.{take, drop}
-use Rattle.frame.specs.Words.{if_then_else_, _=?_, _and_, _or_}
+use Rattle.words.specs.Words.{if_then_else_, _=?_, _and_}
+use Rattle.words.specs.Lists.{noTwo}
 use Rattle.places.specs.Places.{Place, free, held}
-use Rattle.places.specs.declared.Found.{Found}
-use Rattle.places.specs.declared.Found.the-variants.{At, Nowhere}
-
--- the first position, counted from i, at which the test holds
-abbrev pub firstFrom : {P : Type 0} → (P → Bool) → ℕ → List P → Found
-firstFrom f i [] = Nowhere
-firstFrom f i (p ∷ ps) = if f p then At i else firstFrom f (suc i) ps
-
-abbrev pub first : {P : Type 0} → (P → Bool) → List P → Found
-first f ps = firstFrom f 0 ps
-
-abbrev pub any : {P : Type 0} → (P → Bool) → List P → Bool
-any f [] = false
-any f (p ∷ ps) = f p or any f ps
-
-abbrev pub every : {P : Type 0} → (P → Bool) → List P → Bool
-every f [] = true
-every f (p ∷ ps) = f p and every f ps
 
 -- the bytes of the storage that place j owns
 abbrev pub stretch : ℕ → ℕ → List ℕ → List ℕ
@@ -59,11 +42,10 @@ module _ {P S : Type 0} (L : Layout P S) where
   abbrev pub view : List P → List ℕ → List (Place S)
   view ps storage = viewFrom 0 ps storage
 
-  -- p is free, or no later place is open by its key
-  abbrev pub alone : P → List P → Bool
-  alone p ps = L .isFree p or not (any (openBy (L .keyOf p)) ps)
+  -- two places that the same key holds
+  abbrev pub sameHolder : P → P → Bool
+  sameHolder p q = not (L .isFree p) and openBy (L .keyOf p) q
 
   -- no key is open in two places
   abbrev pub oneEach : List P → Bool
-  oneEach [] = true
-  oneEach (p ∷ ps) = alone p ps and oneEach ps
+  oneEach ps = noTwo sameHolder ps

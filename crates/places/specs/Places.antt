@@ -1,11 +1,11 @@
 -- Places: each is free, or held by one key with its session (RULES 5.1 to 5.8 and 12.11).
 use mathlib.Core.Bool.{Bool, true, false}
 use mathlib.Core.List.{List, [], _∷_, map}
-use mathlib.Core.Logic.{_≢_}
 use mathlib.Core.Option.{Option, some, none}
 use Prim.Native.Nat.{ℕ, _+_}
 use lib.ListN.{replicate}
-use Rattle.frame.specs.Words.{if_then_else_, _=?_, Told, gives}
+use Rattle.words.specs.Words.{if_then_else_, _=?_, Told, gives}
+use Rattle.words.specs.Lists.{count, Distinct}
 use Rattle.places.specs.Format.{Asks, fixed, opens, finishes, feeds, Fed, goes, ends, Format, Event, frame, pause, Step, step}
 
 pub data Place (S : Type 0) : Type 0 where
@@ -60,22 +60,9 @@ keysOf [] = []
 keysOf (free ∷ ps) = keysOf ps
 keysOf (held j s ∷ ps) = j ∷ keysOf ps
 
-abbrev pub Absent : ℕ → List ℕ → Type 0
-Absent k [] = Unit {0}
-Absent k (j ∷ js) = (j ≢ k) × Absent k js
-
-abbrev pub Distinct : List ℕ → Type 0
-Distinct [] = Unit {0}
-Distinct (j ∷ js) = Absent j js × Distinct js
-
 -- no key has two places
 abbrev pub OnePlaceEach : {S : Type 0} → List (Place S) → Type 0
 OnePlaceEach ps = Distinct (keysOf ps)
-
--- how many pass a test
-abbrev pub count : {P : Type 0} → (P → Bool) → List P → ℕ
-count f [] = 0
-count f (p ∷ ps) = (if f p then 1 else 0) + count f ps
 
 abbrev pub isNone : {A : Type 0} → Option A → Bool
 isNone none = true

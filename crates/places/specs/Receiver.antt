@@ -8,8 +8,9 @@ use lib.ListN.{length, getD, set}
 use Rattle.places.specs.Format.{fixed, opens, finishes, feeds, goes, ends, Format}
 use Rattle.places.specs.Places.{Out, full, said, hear, rest}
 use Rattle.places.specs.Statements.{isOpening}
-use Rattle.places.specs.Layout.{first, stretch, AgreeBut, Layout, openBy, seat, view, oneEach}
-use Rattle.places.specs.declared.Found.the-variants.{At, Nowhere}
+use Rattle.words.specs.Lists.{first}
+use Rattle.places.specs.Layout.{stretch, AgreeBut, Layout, openBy, seat, view, oneEach}
+use Rattle.words.specs.declared.Found.the-variants.{At, Nowhere}
 
 -- One step of a receiver: structs ps and storage s become qs and t with the answer o, and the places that they are seen
 -- as do the same.

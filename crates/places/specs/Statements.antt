@@ -10,7 +10,8 @@ use Prim.Native.Nat.{ℕ, _+_}
 use lib.ListN.{length}
 use Rattle.places.specs.Format.{Asks, fixed, opens, finishes, feeds, goes, Format, Event, frame, pause, Step}
 use Rattle.places.specs.OneKey.{hearAlone, pauseAlone, solo, openAfter}
-use Rattle.places.specs.Places.{Place, free, held, Out, full, said, lookup, keysOf, Absent, Distinct, OnePlaceEach, count, isNone, placeCount, Places, hear, pass, closedBy, eightFree, after, History, run, toldTo, only, admitted, NeverFull, answered}
+use Rattle.words.specs.Lists.{count, Absent, Distinct}
+use Rattle.places.specs.Places.{Place, free, held, Out, full, said, lookup, keysOf, OnePlaceEach, isNone, placeCount, Places, hear, pass, closedBy, eightFree, after, History, run, toldTo, only, admitted, NeverFull, answered}
 
 -- One step of the places, against the machine of k alone: the same answer and session, unless full; then nothing
 -- changes. No other key's session is touched, no key gets a second place, and there are as many places as before.

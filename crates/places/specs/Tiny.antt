@@ -5,7 +5,7 @@ use mathlib.Core.Path.{_≡_}
 use mathlib.Core.List.{List, [], _∷_, _++_}
 use mathlib.Core.Option.{Option, some, none}
 use Prim.Native.Nat.{ℕ, _+_, _-_}
-use Rattle.frame.specs.Words.{if_then_else_, _<?_, _≤?_, _=?_}
+use Rattle.words.specs.Words.{if_then_else_, _<?_, _≤?_, _=?_}
 use Rattle.places.specs.Format.{Asks, opens, finishes, feeds, Fed, goes, ends, Format, Event, frame, pause}
 use Rattle.places.specs.Places.{free, held, Out, full, said, heard, paused, closedBy, eightFree, after, History}
 use Rattle.places.specs.Statements.{onBusyBus, OpenAsRules, ToldAsRules, BusyAsQuiet, FullExactlyWhen, ClosesAsRules, Pausing, SumsOfPauses}

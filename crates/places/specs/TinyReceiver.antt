@@ -7,13 +7,14 @@ use mathlib.Core.List.{List, [], _∷_, map}
 use Prim.Native.Nat.{ℕ, _+_, _-_, _*_, _≤_}
 use lib.ListN.{length, take, getD, set, replicate}
 use lib.Seq.{paste}
-use Rattle.frame.specs.Words.{if_then_else_, _<?_, _≤?_, _=?_, _and_, Told, gives}
-use Rattle.places.specs.Places.{Place, Out, full, said, placeCount, count}
-use Rattle.places.specs.Layout.{first, every, stretch, Layout, openBy, view, oneEach}
+use Rattle.words.specs.Words.{if_then_else_, _<?_, _≤?_, _=?_, _and_, Told, gives}
+use Rattle.words.specs.Lists.{every, count, first}
+use Rattle.places.specs.Places.{Place, Out, full, said, placeCount}
+use Rattle.places.specs.Layout.{stretch, Layout, openBy, view, oneEach}
 use Rattle.places.specs.Calls.{Calls, KeepsPlaces}
 use Rattle.places.specs.Tiny.{Card, Pile, Word, opened, stored, unknown, finished, mostPackets, tinyIdleLimit, tiny}
-use Rattle.places.specs.declared.Found.{Found}
-use Rattle.places.specs.declared.Found.the-variants.{At, Nowhere}
+use Rattle.words.specs.declared.Found.{Found}
+use Rattle.words.specs.declared.Found.the-variants.{At, Nowhere}
 
 pub record Slot : Type 0 where
   pub key : ℕ

@@ -1,6 +1,2 @@
 // The places of a receiver of several senders at once, for every packet format (RULES 13.5): definitions in specs/,
-// laws in proofs/. Code has only what a search over places finds.
-pub enum Found {
-    At(usize),
-    Nowhere,
-}
+// laws in proofs/, and no code.

@@ -5,7 +5,7 @@ use lib.ListN.{length}
 use Rattle.catalogue.specs.Promises.{toldOutcome}
 use Rattle.catalogue.specs.Catalogue.{fieldIn}
 use Rattle.frame.specs.Promises.{refusalOf}
-use Rattle.frame.specs.Words.{gives}
+use Rattle.words.specs.Words.{gives}
 use Rattle.frame.specs.Bytes.{numberOf}
 use Rattle.catalogue.proofs.Found.{read-none, read-row, found-bytes}
 use Rattle.catalogue.proofs.read_row.Statement.{statement}

@@ -8,7 +8,7 @@ use Rattle.catalogue.specs.Promises.{toldOutcome}
 use Rattle.catalogue.specs.Catalogue.{fieldIn}
 use Rattle.catalogue.specs.Scale.{valueOf}
 use Rattle.frame.specs.Promises.{refusalOf}
-use Rattle.frame.specs.Words.{gives}
+use Rattle.words.specs.Words.{gives}
 use Rattle.frame.specs.Bytes.{numberOf}
 use Rattle.catalogue.proofs.Found.{scaled-none, scaled-row, found-bytes, found-frame}
 use Rattle.catalogue.proofs.Bits.{field-below}

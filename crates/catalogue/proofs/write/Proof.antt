@@ -5,7 +5,7 @@ use Rattle.catalogue.specs.Promises.{doneIf, bytesAfter}
 use Rattle.catalogue.specs.declared.Row.{Row}
 use mathlib.Core.List.{List}
 use Prim.Native.Nat.{ℕ}
-use Rattle.frame.specs.Words.{Told}
+use Rattle.words.specs.Words.{Told}
 use Rattle.catalogue.proofs.Found.{written-at}
 use borrow.Author.Needs.{needs}
 use Rattle.catalogue.proofs.write.Statement.{statement}

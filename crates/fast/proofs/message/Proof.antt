@@ -9,7 +9,7 @@ use Rattle.fast.specs.declared.Answer.{Answer}
 use Rattle.fast.specs.Promises.{toldAnswer, messageIn}
 use denote.Enum.Declared.{tagOf}
 use types.Run.{OneOf, miss}
-use Rattle.frame.proofs.Tests.{tests}
+use Rattle.words.proofs.Tests.{tests}
 use Rattle.fast.proofs.Answer.{the-type}
 use Rattle.fast.proofs.message.Statement.{statement}
 use Rattle.fast.proofs.message.Tie as tie

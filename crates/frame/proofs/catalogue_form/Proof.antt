@@ -2,7 +2,7 @@
 use native.Mathlib.Nat.{div-one}
 use borrow.Author.Needs.{needs}
 use Rattle.frame.specs.Identifier.{isAddressed, destinationOf, catalogueForm}
-use Rattle.frame.proofs.Tests.{tests}
+use Rattle.words.proofs.Tests.{tests}
 use Rattle.frame.proofs.catalogue_form.Statement.{statement}
 use Rattle.frame.proofs.catalogue_form.Tie as tie
 

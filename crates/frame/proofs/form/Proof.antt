@@ -2,7 +2,7 @@
 use borrow.Author.Needs.{needs}
 use Rattle.frame.specs.Frame.{formedOf}
 use Rattle.frame.specs.Identifier.{identifierOf}
-use Rattle.frame.proofs.Tests.{tests}
+use Rattle.words.proofs.Tests.{tests}
 use Rattle.frame.proofs.form.Statement.{statement}
 use Rattle.frame.proofs.form.Tie as tie
 

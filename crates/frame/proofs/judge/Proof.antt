@@ -4,7 +4,7 @@ use borrow.Author.Tests.{not-true, not-false}
 use borrow.Author.Needs.{needs}
 use Rattle.frame.specs.declared.Parts.{Parts}
 use Rattle.frame.specs.Frame.{sourceAllowed, checkedOf}
-use Rattle.frame.proofs.Tests.{tests}
+use Rattle.words.proofs.Tests.{tests}
 use Rattle.frame.proofs.judge.Statement.{statement}
 use Rattle.frame.proofs.judge.Tie as tie
 

@@ -1,6 +1,6 @@
 -- `frame::source_allowed` meets its contract. Assumes nothing.
 use Rattle.frame.specs.Frame.{sourceAllowed}
-use Rattle.frame.proofs.Tests.{tests}
+use Rattle.words.proofs.Tests.{tests}
 use Rattle.frame.proofs.source_allowed.Statement.{statement}
 use Rattle.frame.proofs.source_allowed.Tie as tie
 

@@ -1,7 +1,7 @@
 -- `frame::take_apart` meets its contract. Assumes nothing.
 use borrow.Author.Needs.{needs}
 use Rattle.frame.specs.Frame.{apartOf}
-use Rattle.frame.proofs.Tests.{tests}
+use Rattle.words.proofs.Tests.{tests}
 use Rattle.frame.proofs.take_apart.Statement.{statement}
 use Rattle.frame.proofs.take_apart.Tie as tie
 

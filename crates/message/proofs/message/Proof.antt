@@ -9,7 +9,7 @@ use Rattle.message.specs.declared.Answer.{Answer}
 use Rattle.message.specs.Promises.{toldAnswer, messageIn}
 use denote.Enum.Declared.{tagOf}
 use types.Run.{OneOf, miss}
-use Rattle.frame.proofs.Tests.{tests}
+use Rattle.words.proofs.Tests.{tests}
 use Rattle.message.proofs.Answer.{the-type}
 use Rattle.message.proofs.message.Statement.{statement}
 use Rattle.message.proofs.message.Tie as tie

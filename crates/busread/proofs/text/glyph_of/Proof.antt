@@ -1,6 +1,6 @@
 -- `busread::text::glyph_of` meets its contract. Assumes nothing.
 use Rattle.capture.specs.Digits.{glyph}
-use Rattle.frame.proofs.Tests.{tests}
+use Rattle.words.proofs.Tests.{tests}
 use borrow.Author.Needs.{needs}
 use Rattle.busread.proofs.text.glyph_of.Statement.{statement}
 use Rattle.busread.proofs.text.glyph_of.Tie as tie

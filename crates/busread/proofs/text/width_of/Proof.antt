@@ -1,6 +1,6 @@
 -- `busread::text::width_of` meets its contract. Assumes nothing.
 use Rattle.busread.specs.Text.{decimalWidth}
-use Rattle.frame.proofs.Tests.{tests}
+use Rattle.words.proofs.Tests.{tests}
 use native.Mathlib.Omega.{arith}
 use Rattle.busread.proofs.text.width_of.Statement.{statement}
 use Rattle.busread.proofs.text.width_of.Tie as tie

@@ -1,6 +1,6 @@
 -- `capture::Cutter::last` meets its contract. Assumes nothing.
 use Rattle.capture.specs.Cutter.{endingOf}
-use Rattle.frame.proofs.Tests.{tests}
+use Rattle.words.proofs.Tests.{tests}
 use Rattle.capture.proofs.Cutter.last.Statement.{statement}
 use Rattle.capture.proofs.Cutter.last.Tie as tie
 

@@ -4,7 +4,7 @@ use native.Mathlib.Omega.{arith}
 use borrow.Author.Needs.{needs}
 use lib.ListN.{length}
 use Rattle.capture.specs.Cutter.{carriedOn}
-use Rattle.frame.proofs.Tests.{tests}
+use Rattle.words.proofs.Tests.{tests}
 use Rattle.capture.proofs.Cuts.{not-too-long}
 use Rattle.capture.proofs.blocks.carry_on.Statement.{statement}
 use Rattle.capture.proofs.blocks.carry_on.Tie as tie

@@ -1,7 +1,7 @@
 -- `capture::blocks::close` meets its contract. Assumes nothing.
 use borrow.Author.Needs.{needs}
 use Rattle.capture.specs.Cutter.{closed}
-use Rattle.frame.proofs.Tests.{tests}
+use Rattle.words.proofs.Tests.{tests}
 use Rattle.capture.proofs.blocks.close.Statement.{statement}
 use Rattle.capture.proofs.blocks.close.Tie as tie
 

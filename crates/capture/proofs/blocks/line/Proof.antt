@@ -4,7 +4,7 @@ use Prim.Native.Nat.{_-_}
 use borrow.Author.Needs.{needs}
 use lib.ListN.{length}
 use Rattle.capture.specs.Cutter.{lineAt}
-use Rattle.frame.proofs.Tests.{tests}
+use Rattle.words.proofs.Tests.{tests}
 use Rattle.capture.proofs.Cuts.{not-too-long}
 use Rattle.capture.proofs.blocks.line.Statement.{statement}
 use Rattle.capture.proofs.blocks.line.Tie as tie

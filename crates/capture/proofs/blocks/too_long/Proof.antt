@@ -5,8 +5,8 @@ use native.Mathlib.Omega.{arith}
 use borrow.Author.Tests.{ltb-true, ltb-false, lt-ltb, le-ltb}
 use lib.ListN.{length}
 use Rattle.capture.specs.Cutter.{isTooLong}
-use Rattle.frame.proofs.Words.{by-test}
-use Rattle.frame.specs.Words.{_<?_}
+use Rattle.words.proofs.Words.{by-test}
+use Rattle.words.specs.Words.{_<?_}
 use Rattle.capture.proofs.blocks.too_long.Statement.{statement}
 use Rattle.capture.proofs.blocks.too_long.Tie as tie
 

@@ -7,7 +7,7 @@ use lib.ListN.{replicate, length, take, drop, length-set}
 use Rattle.capture.specs.Private.{toldSpelled}
 use Rattle.capture.specs.Digits.{numberRead}
 use Rattle.capture.specs.Line.{bytesRead}
-use Rattle.frame.specs.Words.{refused, gives}
+use Rattle.words.specs.Words.{refused, gives}
 use Rattle.capture.proofs.Lines.{onTo, pairs-start, pairs-pass, pairs-stop, pairs-end, pair-below}
 use Rattle.capture.proofs.spelling.eight_bytes.Statement.{statement}
 use Rattle.capture.proofs.spelling.eight_bytes.Tie as tie

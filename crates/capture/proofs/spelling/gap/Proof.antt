@@ -3,7 +3,7 @@ use mathlib.Core.Path.{sym, _∙_, ap}
 use borrow.Author.Needs.{needs}
 use Rattle.capture.specs.Private.{toldSpelled}
 use Rattle.capture.specs.Line.{gapRead}
-use Rattle.frame.proofs.Tests.{tests}
+use Rattle.words.proofs.Tests.{tests}
 use Rattle.capture.proofs.spelling.gap.Statement.{statement}
 use Rattle.capture.proofs.spelling.gap.Tie as tie
 

@@ -5,7 +5,7 @@ use borrow.Author.Tests.{le-leb, not-true, not-false}
 use borrow.Author.Needs.{needs}
 use lib.ListN.{length}
 use Rattle.capture.specs.Line.{hasShape}
-use Rattle.frame.proofs.Tests.{tests}
+use Rattle.words.proofs.Tests.{tests}
 use Rattle.capture.proofs.spelling.has_shape.Statement.{statement}
 use Rattle.capture.proofs.spelling.has_shape.Tie as tie
 

@@ -1,7 +1,7 @@
 -- `capture::spelling::width_of` meets its contract. Assumes nothing.
 use native.Mathlib.Omega.{arith}
 use Rattle.capture.specs.Line.{gapWidth}
-use Rattle.frame.proofs.Tests.{tests}
+use Rattle.words.proofs.Tests.{tests}
 use Rattle.capture.proofs.spelling.width_of.Statement.{statement}
 use Rattle.capture.proofs.spelling.width_of.Tie as tie
 

@@ -1,7 +1,7 @@
 -- `capture::writing::glyph_of` meets its contract. Assumes nothing.
 use borrow.Author.Needs.{needs}
 use Rattle.capture.specs.Digits.{glyph}
-use Rattle.frame.proofs.Tests.{tests}
+use Rattle.words.proofs.Tests.{tests}
 use Rattle.capture.proofs.writing.glyph_of.Statement.{statement}
 use Rattle.capture.proofs.writing.glyph_of.Tie as tie
 

@@ -3,7 +3,7 @@ use mathlib.Core.Path.{refl, sym}
 use Prim.Native.Nat.{_<_}
 use native.Mathlib.Omega.{arith}
 use borrow.Author.Needs.{needs}
-use Rattle.frame.proofs.Tests.{tests}
+use Rattle.words.proofs.Tests.{tests}
 use Rattle.catalogue.proofs.Classed.{at-none, none-past, counted, three-below}
 use Rattle.catalogue.proofs.classes.class_at.Statement.{statement}
 use Rattle.catalogue.proofs.classes.class_at.Tie as tie

@@ -1,5 +1,5 @@
 -- `catalogue::classes::has_three` meets its contract. Assumes nothing.
-use Rattle.frame.proofs.Tests.{tests}
+use Rattle.words.proofs.Tests.{tests}
 use Rattle.catalogue.proofs.classes.has_three.Statement.{statement}
 use Rattle.catalogue.proofs.classes.has_three.Tie as tie
 

@@ -2,7 +2,7 @@
 use mathlib.Core.Path.{_∙_}
 use borrow.Author.Needs.{needs}
 use Rattle.catalogue.specs.Scale.{ampereSteps}
-use Rattle.frame.proofs.Tests.{tests}
+use Rattle.words.proofs.Tests.{tests}
 use Rattle.catalogue.proofs.scale.ampere_steps.Statement.{statement}
 use Rattle.catalogue.proofs.scale.ampere_steps.Tie as tie
 

@@ -3,7 +3,7 @@ use mathlib.Core.Path.{_∙_}
 use borrow.Author.Needs.{needs}
 use lib.Pow.{pow-pos}
 use Rattle.catalogue.specs.Codes.{classCode}
-use Rattle.frame.proofs.Tests.{tests}
+use Rattle.words.proofs.Tests.{tests}
 use Rattle.catalogue.proofs.scale.class_code.Statement.{statement}
 use Rattle.catalogue.proofs.scale.class_code.Tie as tie
 

@@ -2,7 +2,7 @@
 use mathlib.Core.Path.{_∙_}
 use borrow.Author.Needs.{needs}
 use Rattle.catalogue.specs.Codes.{steppedCode}
-use Rattle.frame.proofs.Tests.{tests}
+use Rattle.words.proofs.Tests.{tests}
 use Rattle.catalogue.proofs.scale.stepped_code.Statement.{statement}
 use Rattle.catalogue.proofs.scale.stepped_code.Tie as tie
 

@@ -1,5 +1,5 @@
 -- `catalogue::table::begins` meets its contract. Assumes nothing.
-use Rattle.frame.proofs.Tests.{tests}
+use Rattle.words.proofs.Tests.{tests}
 use Rattle.catalogue.proofs.table.begins.Statement.{statement}
 use Rattle.catalogue.proofs.table.begins.Tie as tie
 

@@ -1,5 +1,5 @@
 -- `catalogue::table::lies_in_frame` meets its contract. Assumes nothing.
-use Rattle.frame.proofs.Tests.{tests}
+use Rattle.words.proofs.Tests.{tests}
 use Rattle.catalogue.specs.Table.{liesInFrame}
 use borrow.Author.Needs.{needs}
 use Rattle.catalogue.proofs.table.lies_in_frame.Statement.{statement}

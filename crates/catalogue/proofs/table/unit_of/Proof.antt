@@ -1,6 +1,6 @@
 -- `catalogue::table::unit_of` meets its contract. Assumes nothing.
 use Rattle.catalogue.specs.Packed.{unitOf}
-use Rattle.frame.proofs.Tests.{tests}
+use Rattle.words.proofs.Tests.{tests}
 use Rattle.catalogue.proofs.table.unit_of.Statement.{statement}
 use Rattle.catalogue.proofs.table.unit_of.Tie as tie
 

@@ -4,7 +4,7 @@ use native.Mathlib.Omega.{arith}
 use borrow.Author.Needs.{needs}
 use lib.ListN.{length}
 use Rattle.claim.specs.Claim.{holdsList}
-use Rattle.frame.proofs.Tests.{tests}
+use Rattle.words.proofs.Tests.{tests}
 use Rattle.claim.proofs.Sound.{holds-list}
 use Rattle.claim.proofs.Claim.holds_list.Statement.{statement}
 use Rattle.claim.proofs.Claim.holds_list.Tie as tie

@@ -3,7 +3,7 @@ use mathlib.Core.Bool.{true, false}
 use mathlib.Core.Path.{_≡_}
 use borrow.Author.Tests.{not-true, not-false}
 use Rattle.claim.specs.Claim.{keepsRules}
-use Rattle.frame.proofs.Tests.{tests}
+use Rattle.words.proofs.Tests.{tests}
 use Rattle.claim.proofs.Claim.keeps_rules.Statement.{statement}
 use Rattle.claim.proofs.Claim.keeps_rules.Tie as tie
 

@@ -1,7 +1,7 @@
 -- `claim::contest::lost` meets its contract. Assumes nothing.
 use borrow.Author.Needs.{needs}
 use Rattle.claim.specs.Claim.{lostBy}
-use Rattle.frame.proofs.Tests.{tests}
+use Rattle.words.proofs.Tests.{tests}
 use Rattle.claim.proofs.contest.lost.Statement.{statement}
 use Rattle.claim.proofs.contest.lost.Tie as tie
 

@@ -4,7 +4,7 @@ use Prim.Native.Nat.{ℕ}
 use native.Mathlib.Omega.{arith}
 use borrow.Author.Tests.{not-true, not-false}
 use borrow.Author.Needs.{needs}
-use Rattle.frame.specs.Words.{gives}
+use Rattle.words.specs.Words.{gives}
 use Rattle.claim.specs.Claim.{outcomeOf}
 use Rattle.claim.proofs.Calls.{met-ill, met-other, met-claim}
 use Rattle.claim.proofs.Sound.{holds-of}

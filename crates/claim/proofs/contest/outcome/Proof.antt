@@ -1,7 +1,7 @@
 -- `claim::contest::outcome` meets its contract. Assumes nothing.
 use borrow.Author.Needs.{needs}
 use Rattle.claim.specs.Claim.{outcomeOf}
-use Rattle.frame.proofs.Tests.{tests}
+use Rattle.words.proofs.Tests.{tests}
 use Rattle.claim.proofs.contest.outcome.Statement.{statement}
 use Rattle.claim.proofs.contest.outcome.Tie as tie
 

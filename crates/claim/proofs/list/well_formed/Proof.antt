@@ -4,7 +4,7 @@ use mathlib.Core.Path.{_≡_, sym, _∙_}
 use borrow.Author.Tests.{not-true, not-false}
 use borrow.Author.Needs.{needs}
 use Rattle.claim.specs.Candidates.{areAddresses, isWellFormed}
-use Rattle.frame.proofs.Tests.{tests}
+use Rattle.words.proofs.Tests.{tests}
 use Rattle.claim.proofs.list.well_formed.Statement.{statement}
 use Rattle.claim.proofs.list.well_formed.Tie as tie
 

@@ -1,7 +1,7 @@
 -- `claim::state::claim_source` meets its contract. Assumes nothing.
 use borrow.Author.Needs.{needs}
 use Rattle.claim.specs.Claim.{claimSource}
-use Rattle.frame.proofs.Tests.{tests}
+use Rattle.words.proofs.Tests.{tests}
 use Rattle.claim.proofs.state.claim_source.Statement.{statement}
 use Rattle.claim.proofs.state.claim_source.Tie as tie
 

@@ -1,7 +1,7 @@
 -- `claim::state::stand` meets its contract. Assumes nothing.
 use borrow.Author.Needs.{needs}
 use Rattle.claim.specs.Claim.{standOf}
-use Rattle.frame.proofs.Tests.{tests}
+use Rattle.words.proofs.Tests.{tests}
 use Rattle.claim.proofs.state.stand.Statement.{statement}
 use Rattle.claim.proofs.state.stand.Tie as tie
 

@@ -4,7 +4,7 @@ use borrow.Author.Needs.{needs}
 use Rattle.command.specs.declared.handed.Handing.the-variants as Handing
 use Rattle.command.specs.declared.Requesting.the-variants as Requesting
 use Rattle.frame.specs.Promises.{refusalOf}
-use Rattle.frame.specs.Words.{refused}
+use Rattle.words.specs.Words.{refused}
 use Rattle.command.proofs.Answers.{bare-requested, requested-refused, requested-given}
 use Rattle.command.proofs.Handing.{well-few, handed-fine, handing-refused, handing-given}
 use Rattle.command.proofs.Host.request.Statement.{statement}

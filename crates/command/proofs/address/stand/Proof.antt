@@ -1,7 +1,7 @@
 -- `command::address::stand` meets its contract. Assumes nothing.
 use mathlib.Core.Path.{sym, ap, _∙_}
 use borrow.Author.Needs.{needs}
-use Rattle.frame.proofs.Words.{refused-gives, gives-same}
+use Rattle.words.proofs.Words.{refused-gives, gives-same}
 use Rattle.claim.specs.Promises.{toldStanding}
 use Rattle.command.proofs.Answers.{sound-stands}
 use Rattle.command.proofs.address.stand.Statement.{statement}

@@ -7,7 +7,7 @@ use Rattle.command.specs.Commands.{isElsewhere, isMeant, nothingToDo}
 use Rattle.command.specs.Positions.{positionsWhere, filled}
 use Rattle.command.specs.Hosted.{hosted}
 use Rattle.frame.specs.declared.Destination.{Destination}
-use Rattle.frame.specs.Words.{gives}
+use Rattle.words.specs.Words.{gives}
 use Rattle.command.proofs.Answers.{bare-routed, picked-routed}
 use Rattle.command.proofs.commands.picked.Statement.{statement}
 use Rattle.command.proofs.commands.picked.Tie as tie

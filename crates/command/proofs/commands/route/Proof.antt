@@ -7,7 +7,7 @@ use Rattle.command.specs.Private.{standAt}
 use Rattle.command.specs.Commands.{hasCommand, nothingToDo}
 use Rattle.command.specs.Handed.{addressHeld}
 use Rattle.command.specs.Hosted.{hosted}
-use Rattle.frame.specs.Words.{refused, gives}
+use Rattle.words.specs.Words.{refused, gives}
 use Rattle.command.proofs.Answers.{bare-routed, route-other, route-held, route-unheld}
 use Rattle.command.proofs.Picks.{none-picked, some-picked}
 use Rattle.command.proofs.commands.route.Statement.{statement}

@@ -6,8 +6,8 @@ use borrow.Author.Tests.{not-true, not-false}
 use borrow.Author.Needs.{needs}
 use lib.Seq.{getD-take, length-take-le}
 use lib.ListN.{length, drop}
-use Rattle.places.proofs.Search.{length-field, every-pass, every-stop, every-end}
-use Rattle.places.specs.Layout.{every}
+use Rattle.words.proofs.Lists.{length-field, every-pass, every-stop, every-end}
+use Rattle.words.specs.Lists.{every}
 use Rattle.command.specs.Hosted.{isEntry, blankEntry, hosted}
 use Rattle.command.proofs.hosted.are_entries.Statement.{statement}
 use Rattle.command.proofs.hosted.are_entries.Tie as tie

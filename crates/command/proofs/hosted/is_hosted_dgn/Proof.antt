@@ -1,6 +1,6 @@
 -- `command::hosted::is_hosted_dgn` meets its contract. Assumes nothing.
 use borrow.Author.Needs.{needs}
-use Rattle.frame.proofs.Tests.{tests}
+use Rattle.words.proofs.Tests.{tests}
 use Rattle.command.specs.Hosted.{isHostedDgn}
 use Rattle.command.proofs.hosted.is_hosted_dgn.Statement.{statement}
 use Rattle.command.proofs.hosted.is_hosted_dgn.Tie as tie

@@ -6,8 +6,8 @@ use borrow.Author.Needs.{needs}
 use lib.Seq.{getD-take, length-take-le}
 use lib.ListN.{length, drop, getD}
 use Rattle.command.specs.declared.Entry.{Entry}
-use Rattle.places.proofs.Search.{length-field, any-pass, any-stop, any-end}
-use Rattle.places.specs.Layout.{any}
+use Rattle.words.proofs.Lists.{length-field, any-pass, any-stop, any-end}
+use Rattle.words.specs.Lists.{any}
 use Rattle.command.specs.Hosted.{isSamePair, blankEntry, hosted}
 use Rattle.command.proofs.hosted.is_repeated.Statement.{statement}
 use Rattle.command.proofs.hosted.is_repeated.Tie as tie

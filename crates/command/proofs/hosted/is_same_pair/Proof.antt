@@ -1,5 +1,5 @@
 -- `command::hosted::is_same_pair` meets its contract. Assumes nothing.
-use Rattle.frame.proofs.Tests.{tests}
+use Rattle.words.proofs.Tests.{tests}
 use Rattle.command.specs.Hosted.{isSamePair}
 use Rattle.command.proofs.hosted.is_same_pair.Statement.{statement}
 use Rattle.command.proofs.hosted.is_same_pair.Tie as tie

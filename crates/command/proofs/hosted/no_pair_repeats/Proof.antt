@@ -5,7 +5,7 @@ use native.Mathlib.Omega.{arith}
 use borrow.Author.Needs.{needs}
 use lib.Seq.{length-take-le}
 use lib.ListN.{length, drop}
-use Rattle.places.proofs.Search.{length-field}
+use Rattle.words.proofs.Lists.{length-field}
 use Rattle.command.specs.Hosted.{noPairRepeats, hosted}
 use Rattle.command.proofs.Lists.{repeats-pass, repeats-stop, repeats-end}
 use Rattle.command.proofs.hosted.no_pair_repeats.Statement.{statement}

@@ -2,7 +2,7 @@
 use mathlib.Core.Path.{sym, _∙_}
 use borrow.Author.Tests.{not-true, not-false}
 use borrow.Author.Needs.{needs}
-use Rattle.frame.proofs.Tests.{tests}
+use Rattle.words.proofs.Tests.{tests}
 use Rattle.command.specs.Hosted.{isWellFormed}
 use Rattle.command.proofs.hosted.well_formed.Statement.{statement}
 use Rattle.command.proofs.hosted.well_formed.Tie as tie

@@ -1,5 +1,5 @@
 -- `command::picking::is_meant` meets its contract. Assumes nothing.
-use Rattle.frame.proofs.Tests.{tests}
+use Rattle.words.proofs.Tests.{tests}
 use Rattle.command.specs.Commands.{isMeant}
 use Rattle.command.proofs.picking.is_meant.Statement.{statement}
 use Rattle.command.proofs.picking.is_meant.Tie as tie

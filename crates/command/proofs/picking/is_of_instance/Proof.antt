@@ -2,7 +2,7 @@
 use mathlib.Core.Path.{_≡_}
 use native.Mathlib.Omega.{arith}
 use borrow.Author.Tests.{ne-eqb}
-use Rattle.frame.proofs.Tests.{tests}
+use Rattle.words.proofs.Tests.{tests}
 use Rattle.command.specs.Requests.{allInstances}
 use Rattle.command.proofs.picking.is_of_instance.Statement.{statement}
 use Rattle.command.proofs.picking.is_of_instance.Tie as tie

@@ -6,8 +6,8 @@ use borrow.Author.Needs.{needs}
 use lib.Seq.{getD-take, length-take-le, take-all}
 use lib.ListN.{length, take, getD}
 use Rattle.command.specs.declared.Positions.{Positions}
-use Rattle.frame.specs.Words.{if_then_else_}
-use Rattle.places.proofs.Search.{length-field}
+use Rattle.words.specs.Words.{if_then_else_}
+use Rattle.words.proofs.Lists.{length-field}
 use Rattle.command.specs.Private.{isWanted, added}
 use Rattle.command.specs.Positions.{positionsWhere, filled}
 use Rattle.command.specs.Hosted.{hosted, blankEntry}

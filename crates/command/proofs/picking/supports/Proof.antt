@@ -1,7 +1,7 @@
 -- `command::picking::supports` meets its contract. Assumes nothing.
 use mathlib.Core.Path.{_∙_}
 use borrow.Author.Needs.{needs}
-use Rattle.frame.proofs.Tests.{tests}
+use Rattle.words.proofs.Tests.{tests}
 use Rattle.command.specs.Requests.{supports}
 use Rattle.command.proofs.picking.supports.Statement.{statement}
 use Rattle.command.proofs.picking.supports.Tie as tie

@@ -3,7 +3,7 @@ use mathlib.Core.Path.{refl, sym, _∙_}
 use borrow.Author.Needs.{needs}
 use Rattle.command.specs.declared.Requesting.the-variants.{NothingToDo, DgnTooLarge}
 use Rattle.command.specs.Requests.{nothingToDo}
-use Rattle.frame.specs.Words.{refused, gives}
+use Rattle.words.specs.Words.{refused, gives}
 use Rattle.command.proofs.Answers.{bare-requested, answer-other, answer-large, answer-reply}
 use Rattle.command.proofs.requests.answer.Statement.{statement}
 use Rattle.command.proofs.requests.answer.Tie as tie

@@ -1,5 +1,5 @@
 -- `command::requests::is_claimed` meets its contract. Assumes nothing.
-use Rattle.frame.proofs.Tests.{tests}
+use Rattle.words.proofs.Tests.{tests}
 use Rattle.command.specs.Requests.{isOurAddress}
 use Rattle.command.proofs.requests.is_claimed.Statement.{statement}
 use Rattle.command.proofs.requests.is_claimed.Tie as tie

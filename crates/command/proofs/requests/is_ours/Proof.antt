@@ -1,7 +1,7 @@
 -- `command::requests::is_ours` meets its contract. Assumes nothing.
 use mathlib.Core.Path.{_∙_}
 use borrow.Author.Needs.{needs}
-use Rattle.frame.proofs.Tests.{tests}
+use Rattle.words.proofs.Tests.{tests}
 use Rattle.command.specs.Requests.{isOurs, isOurAddress}
 use Rattle.command.proofs.requests.is_ours.Statement.{statement}
 use Rattle.command.proofs.requests.is_ours.Tie as tie

@@ -7,7 +7,7 @@ use Rattle.command.specs.declared.address.Address.{Address}
 use Rattle.command.specs.Private.{askedBy, standAt}
 use Rattle.command.specs.Requests.{nothingToDo}
 use Rattle.command.specs.Handed.{addressHeld}
-use Rattle.frame.specs.Words.{refused, gives}
+use Rattle.words.specs.Words.{refused, gives}
 use Rattle.command.proofs.Answers.{bare-requested, reply-elsewhere, reply-claims, reply-held, reply-unheld}
 use Rattle.command.proofs.requests.reply.Statement.{statement}
 use Rattle.command.proofs.requests.reply.Tie as tie

@@ -6,7 +6,7 @@ use Rattle.command.specs.Hosted.{hosted}
 use Rattle.command.specs.declared.Requesting.the-variants.{Unsupported}
 use Rattle.command.specs.Requests.{supports, unsupported}
 use Rattle.command.specs.Private.{askedBy}
-use Rattle.frame.specs.Words.{gives}
+use Rattle.words.specs.Words.{gives}
 use Rattle.command.proofs.Answers.{bare-requested, supported-requested, status-supported, status-global, status-nobody, status-nak}
 use Rattle.command.proofs.Picks.{none-picked, some-picked}
 use Rattle.command.proofs.requests.status.Statement.{statement}

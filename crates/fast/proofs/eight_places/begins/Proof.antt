@@ -3,7 +3,7 @@ use mathlib.Core.Path.{_≡_, refl, sym, ap, _∙_}
 use Prim.Native.Nat.{ℕ}
 use borrow.Author.Needs.{needs}
 use lib.ListN.{length}
-use Rattle.places.proofs.Search.{length-field}
+use Rattle.words.proofs.Lists.{length-field}
 use Rattle.fast.specs.FastPacket.{pairOf}
 use Rattle.fast.specs.Receiver.{placeFor}
 use Rattle.fast.specs.declared.Answer.the-variants.{NoPlaceFree}

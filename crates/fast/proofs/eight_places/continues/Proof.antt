@@ -2,7 +2,7 @@
 use mathlib.Core.Path.{_≡_, refl, sym, _∙_}
 use borrow.Author.Needs.{needs}
 use lib.ListN.{length}
-use Rattle.places.proofs.Search.{length-field}
+use Rattle.words.proofs.Lists.{length-field}
 use Rattle.fast.specs.Receiver.{isOpenBy}
 use Rattle.fast.specs.declared.Answer.the-variants.{NoOpenMessage}
 use Rattle.fast.proofs.Steps.{left, left-as, found-below, live-at, continues-at, continues-nowhere}

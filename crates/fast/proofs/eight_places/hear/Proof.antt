@@ -3,7 +3,7 @@ use mathlib.Core.List.{List}
 use mathlib.Core.Path.{_≡_, refl, sym, ap, _∙_}
 use Prim.Native.Nat.{ℕ}
 use borrow.Author.Needs.{needs}
-use Rattle.frame.specs.Words.{Told}
+use Rattle.words.specs.Words.{Told}
 use Rattle.frame.specs.Promises.{toldVerdict, bytesIf}
 use Rattle.frame.specs.declared.Parts.{Parts}
 use Rattle.fast.specs.FastPacket.{Meaning, meant}

@@ -3,7 +3,7 @@ use mathlib.Core.Path.{refl, sym, ap, _∙_}
 use Prim.Native.Nat.{ℕ}
 use borrow.Author.Tests.{not-true, not-false}
 use borrow.Author.Needs.{needs}
-use Rattle.frame.specs.Words.{Told}
+use Rattle.words.specs.Words.{Told}
 use Rattle.fast.specs.FastPacket.{Meaning}
 use Rattle.fast.specs.Receiver.{namesOf, continues, byMeaning}
 use Rattle.fast.specs.Private.{toldMeant}

@@ -5,8 +5,8 @@ use native.Mathlib.Omega.{arith}
 use borrow.Author.Needs.{needs}
 use lib.ListN.{length, drop}
 use Rattle.fast.specs.Receiver.{freePlace, isOpenBy}
-use Rattle.places.specs.Layout.{first, firstFrom}
-use Rattle.places.proofs.Search.{length-field, search-pass, search-stop, search-end}
+use Rattle.words.specs.Lists.{firstFrom, first}
+use Rattle.words.proofs.Lists.{length-field, search-pass, search-stop, search-end}
 use Rattle.fast.proofs.eight_places.open_by.Statement.{statement}
 use Rattle.fast.proofs.eight_places.open_by.Tie as tie
 

@@ -7,9 +7,9 @@ use native.Mathlib.Omega.{arith}
 use borrow.Author.Needs.{needs}
 use lib.ListN.{length, take, drop}
 use Rattle.fast.specs.Receiver.{freePlace, holding, closes, idled}
-use Rattle.places.proofs.Search.{length-field, image-turn, image-end, count-turn, count-end}
-use Rattle.places.specs.Places.{count}
-use Rattle.frame.specs.Words.{gives}
+use Rattle.words.proofs.Lists.{length-field, image-turn, image-end, count-turn, count-end}
+use Rattle.words.specs.Words.{gives}
+use Rattle.words.specs.Lists.{count}
 use Rattle.fast.proofs.eight_places.pause.Statement.{statement}
 use Rattle.fast.proofs.eight_places.pause.Tie as tie
 

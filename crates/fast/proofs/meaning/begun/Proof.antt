@@ -1,6 +1,6 @@
 -- `fast::meaning::begun` meets its contract. Assumes nothing.
 use Rattle.fast.specs.FastPacket.{begun}
-use Rattle.frame.proofs.Tests.{tests}
+use Rattle.words.proofs.Tests.{tests}
 use Rattle.fast.proofs.meaning.begun.Statement.{statement}
 use Rattle.fast.proofs.meaning.begun.Tie as tie
 

@@ -3,7 +3,7 @@ use mathlib.Core.Path.{_≡_, _∙_}
 use Prim.Native.Nat.{_%_}
 use native.Mathlib.Omega.{arith}
 use borrow.Author.Needs.{needs}
-use Rattle.frame.proofs.Tests.{tests}
+use Rattle.words.proofs.Tests.{tests}
 use Rattle.fast.specs.FastPacket.{carried, frameNumberOf, byteAt}
 use Rattle.fast.proofs.meaning.meaning_of.Statement.{statement}
 use Rattle.fast.proofs.meaning.meaning_of.Tie as tie

@@ -5,8 +5,8 @@ use native.Mathlib.Omega.{arith}
 use borrow.Author.Tests.{not-true, not-false}
 use borrow.Author.Needs.{needs}
 use lib.ListN.{length, drop}
-use Rattle.places.specs.Layout.{every}
-use Rattle.places.proofs.Search.{every-pass, every-stop, every-end}
+use Rattle.words.specs.Lists.{every}
+use Rattle.words.proofs.Lists.{every-pass, every-stop, every-end}
 use Rattle.fast.specs.Names.{mayBeNamed}
 use Rattle.fast.proofs.names.each_may_be_named.Statement.{statement}
 use Rattle.fast.proofs.names.each_may_be_named.Tie as tie

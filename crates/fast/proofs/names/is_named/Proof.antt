@@ -5,8 +5,8 @@ use native.Mathlib.Omega.{arith}
 use borrow.Author.Tests.{eq-eqb, ne-eqb}
 use borrow.Author.Needs.{needs}
 use lib.ListN.{length, drop}
-use Rattle.frame.specs.Words.{_=?_}
-use Rattle.places.proofs.Search.{any-pass, any-stop, any-end}
+use Rattle.words.specs.Words.{_=?_}
+use Rattle.words.proofs.Lists.{any-pass, any-stop, any-end}
 use Rattle.fast.specs.Names.{isNamed}
 use Rattle.fast.proofs.names.is_named.Statement.{statement}
 use Rattle.fast.proofs.names.is_named.Tie as tie

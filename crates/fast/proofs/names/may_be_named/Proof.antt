@@ -1,6 +1,6 @@
 -- `fast::names::may_be_named` meets its contract. Assumes nothing.
 use Rattle.fast.specs.Names.{mayBeNamed}
-use Rattle.frame.proofs.Tests.{tests}
+use Rattle.words.proofs.Tests.{tests}
 use Rattle.fast.proofs.names.may_be_named.Statement.{statement}
 use Rattle.fast.proofs.names.may_be_named.Tie as tie
 

@@ -2,7 +2,7 @@
 use mathlib.Core.Path.{sym, _∙_}
 use borrow.Author.Tests.{le-leb, not-true, not-false}
 use borrow.Author.Needs.{needs}
-use Rattle.frame.proofs.Tests.{tests}
+use Rattle.words.proofs.Tests.{tests}
 use Rattle.fast.specs.Names.{isWellFormed}
 use Rattle.fast.proofs.names.well_formed.Statement.{statement}
 use Rattle.fast.proofs.names.well_formed.Tie as tie

@@ -1,7 +1,7 @@
 -- `fast::one_place::closes` meets its contract. Assumes nothing.
 use borrow.Author.Needs.{needs}
 use Rattle.fast.specs.Receiver.{closes}
-use Rattle.frame.proofs.Tests.{tests}
+use Rattle.words.proofs.Tests.{tests}
 use Rattle.fast.proofs.one_place.closes.Statement.{statement}
 use Rattle.fast.proofs.one_place.closes.Tie as tie
 

@@ -1,7 +1,7 @@
 -- `fast::one_place::idled` meets its contract. Assumes nothing.
 use borrow.Author.Needs.{needs}
 use Rattle.fast.specs.Receiver.{idled}
-use Rattle.frame.proofs.Tests.{tests}
+use Rattle.words.proofs.Tests.{tests}
 use Rattle.fast.proofs.one_place.idled.Statement.{statement}
 use Rattle.fast.proofs.one_place.idled.Tie as tie
 

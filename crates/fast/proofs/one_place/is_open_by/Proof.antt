@@ -1,6 +1,6 @@
 -- `fast::one_place::is_open_by` meets its contract. Assumes nothing.
 use borrow.Author.Needs.{needs}
-use Rattle.frame.proofs.Tests.{tests}
+use Rattle.words.proofs.Tests.{tests}
 use Rattle.fast.proofs.one_place.is_open_by.Statement.{statement}
 use Rattle.fast.proofs.one_place.is_open_by.Tie as tie
 

@@ -1,6 +1,6 @@
 -- `fast::one_place::is_zero` meets its contract. Assumes nothing.
 use Rattle.fast.specs.Receiver.{isZero}
-use Rattle.frame.proofs.Tests.{tests}
+use Rattle.words.proofs.Tests.{tests}
 use Rattle.fast.proofs.one_place.is_zero.Statement.{statement}
 use Rattle.fast.proofs.one_place.is_zero.Tie as tie
 

@@ -1,7 +1,7 @@
 -- `fast::one_place::keeps_limits` meets its contract. Assumes nothing.
 use borrow.Author.Needs.{needs}
 use Rattle.fast.specs.Receiver.{keepsLimits}
-use Rattle.frame.proofs.Tests.{tests}
+use Rattle.words.proofs.Tests.{tests}
 use Rattle.fast.proofs.one_place.keeps_limits.Statement.{statement}
 use Rattle.fast.proofs.one_place.keeps_limits.Tie as tie
 

@@ -5,8 +5,8 @@ use native.Mathlib.Omega.{arith}
 use borrow.Author.Tests.{not-true, not-false}
 use borrow.Author.Needs.{needs}
 use lib.ListN.{length, drop}
-use Rattle.places.specs.Layout.{every}
-use Rattle.places.proofs.Search.{length-field, every-pass, every-stop, every-end}
+use Rattle.words.specs.Lists.{every}
+use Rattle.words.proofs.Lists.{length-field, every-pass, every-stop, every-end}
 use Rattle.fast.specs.Receiver.{freePlace, namesOf, placeKeepsRules}
 use Rattle.fast.proofs.rules.each_keeps_rules.Statement.{statement}
 use Rattle.fast.proofs.rules.each_keeps_rules.Tie as tie

@@ -3,7 +3,7 @@ use mathlib.Core.Path.{_≡_}
 use native.Mathlib.Omega.{arith}
 use borrow.Author.Needs.{needs}
 use lib.ListN.{length}
-use Rattle.frame.proofs.Tests.{tests}
+use Rattle.words.proofs.Tests.{tests}
 use Rattle.fast.specs.Receiver.{holdsNames}
 use Rattle.fast.proofs.Dgns.{holds-names}
 use Rattle.fast.proofs.rules.holds_names.Statement.{statement}

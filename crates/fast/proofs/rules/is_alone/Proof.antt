@@ -1,6 +1,6 @@
 -- `fast::rules::is_alone` meets its contract. Assumes nothing.
 use borrow.Author.Needs.{needs}
-use Rattle.frame.proofs.Tests.{tests}
+use Rattle.words.proofs.Tests.{tests}
 use Rattle.fast.proofs.rules.is_alone.Statement.{statement}
 use Rattle.fast.proofs.rules.is_alone.Tie as tie
 

@@ -2,7 +2,7 @@
 use mathlib.Core.Path.{sym, _∙_}
 use borrow.Author.Tests.{ne-eqb, not-true, not-false}
 use borrow.Author.Needs.{needs}
-use Rattle.frame.proofs.Tests.{tests}
+use Rattle.words.proofs.Tests.{tests}
 use Rattle.fast.specs.Receiver.{placeKeepsRules}
 use Rattle.fast.proofs.rules.place_keeps_rules.Statement.{statement}
 use Rattle.fast.proofs.rules.place_keeps_rules.Tie as tie

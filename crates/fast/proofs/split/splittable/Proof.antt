@@ -1,7 +1,7 @@
 -- `fast::split::splittable` meets its contract. Assumes nothing.
 use borrow.Author.Needs.{needs}
 use Rattle.fast.specs.Splitter.{refusalIn}
-use Rattle.frame.proofs.Tests.{tests}
+use Rattle.words.proofs.Tests.{tests}
 use Rattle.fast.proofs.split.splittable.Statement.{statement}
 use Rattle.fast.proofs.split.splittable.Tie as tie
 

@@ -1,7 +1,7 @@
 -- `fast::storage::part` meets its contract. Assumes nothing.
 use native.Mathlib.Nat.{add-sub-cancel-left}
 use borrow.Author.Needs.{needs}
-use Rattle.frame.proofs.Tests.{tests}
+use Rattle.words.proofs.Tests.{tests}
 use Rattle.fast.proofs.storage.part.Statement.{statement}
 use Rattle.fast.proofs.storage.part.Tie as tie
 

@@ -3,8 +3,8 @@ use mathlib.Core.Path.{_≡_, refl, sym, _∙_}
 use borrow.Author.Tests.{not-true, not-false}
 use borrow.Author.Needs.{needs}
 use lib.ListN.{length}
-use Rattle.places.specs.declared.Found.the-variants.{At, Nowhere}
-use Rattle.places.proofs.Search.{length-field}
+use Rattle.words.specs.declared.Found.the-variants.{At, Nowhere}
+use Rattle.words.proofs.Lists.{length-field}
 use Rattle.faults.specs.Fault.{isEmpty}
 use Rattle.faults.proofs.Steps.{found-below, added-broken, added-found}
 use Rattle.faults.proofs.Sender.add.Statement.{statement}

@@ -2,7 +2,7 @@
 use mathlib.Core.Path.{refl, sym, ap, _∙_}
 use borrow.Author.Tests.{not-true, not-false}
 use borrow.Author.Needs.{needs}
-use Rattle.frame.specs.Words.{refused}
+use Rattle.words.specs.Words.{refused}
 use Rattle.frame.specs.Promises.{refusalOf, toldVerdict}
 use Rattle.faults.specs.declared.Requesting.the-variants.{BrokenState, BadFrame}
 use Rattle.faults.proofs.Steps.{bare-requested, requested-as, requested-broken, requested-ill, requested-bad, requested-sound}

@@ -2,7 +2,7 @@
 use mathlib.Core.Path.{refl, sym, ap, _∙_}
 use borrow.Author.Tests.{not-true, not-false}
 use borrow.Author.Needs.{needs}
-use Rattle.frame.specs.Words.{refused}
+use Rattle.words.specs.Words.{refused}
 use Rattle.claim.specs.Claim.{held, claiming, silent}
 use Rattle.claim.specs.Promises.{toldStanding}
 use Rattle.command.specs.Handed.{addressHeld}

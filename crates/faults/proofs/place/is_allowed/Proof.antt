@@ -1,5 +1,5 @@
 -- `faults::place::is_allowed` meets its contract. Assumes nothing.
-use Rattle.frame.proofs.Tests.{tests}
+use Rattle.words.proofs.Tests.{tests}
 use Rattle.faults.specs.Fault.{isAllowed}
 use Rattle.faults.proofs.place.is_allowed.Statement.{statement}
 use Rattle.faults.proofs.place.is_allowed.Tie as tie

@@ -1,5 +1,5 @@
 -- `faults::place::is_due` meets its contract. Assumes nothing.
-use Rattle.frame.proofs.Tests.{tests}
+use Rattle.words.proofs.Tests.{tests}
 use Rattle.faults.proofs.place.is_due.Statement.{statement}
 use Rattle.faults.proofs.place.is_due.Tie as tie
 

@@ -1,7 +1,7 @@
 -- `faults::place::is_zero` meets its contract. Assumes nothing.
 use mathlib.Core.Path.{sym}
 use borrow.Author.Needs.{needs}
-use Rattle.frame.proofs.Tests.{tests}
+use Rattle.words.proofs.Tests.{tests}
 use Rattle.faults.specs.Fault.{isZero}
 use Rattle.faults.proofs.place.is_zero.Statement.{statement}
 use Rattle.faults.proofs.place.is_zero.Tie as tie

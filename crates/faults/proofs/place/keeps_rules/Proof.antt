@@ -2,7 +2,7 @@
 use mathlib.Core.Path.{sym, _∙_}
 use borrow.Author.Tests.{not-true, not-false}
 use borrow.Author.Needs.{needs}
-use Rattle.frame.proofs.Tests.{tests}
+use Rattle.words.proofs.Tests.{tests}
 use Rattle.faults.specs.Fault.{placeKeepsRules}
 use Rattle.faults.proofs.place.keeps_rules.Statement.{statement}
 use Rattle.faults.proofs.place.keeps_rules.Tie as tie

@@ -1,6 +1,6 @@
 -- `faults::place::passed` meets its contract. Assumes nothing.
 use borrow.Author.Needs.{needs}
-use Rattle.frame.proofs.Tests.{tests}
+use Rattle.words.proofs.Tests.{tests}
 use Rattle.faults.specs.Fault.{passed}
 use Rattle.faults.proofs.place.passed.Statement.{statement}
 use Rattle.faults.proofs.place.passed.Tie as tie

@@ -2,7 +2,7 @@
 use mathlib.Core.Path.{refl, sym, _∙_}
 use borrow.Author.Tests.{not-true, not-false}
 use borrow.Author.Needs.{needs}
-use Rattle.frame.specs.Words.{refused, gives}
+use Rattle.words.specs.Words.{refused, gives}
 use Rattle.claim.specs.Claim.{held}
 use Rattle.faults.specs.Requests.{nothingToDo, answerAt}
 use Rattle.faults.specs.declared.Requesting.the-variants.{NothingToDo, DgnTooLarge}

@@ -1,7 +1,7 @@
 -- `faults::requests::heard` meets its contract. Assumes nothing.
 use mathlib.Core.Path.{refl, ap, _∙_}
 use borrow.Author.Needs.{needs}
-use Rattle.frame.specs.Words.{refused}
+use Rattle.words.specs.Words.{refused}
 use Rattle.claim.specs.Claim.{held, silent}
 use Rattle.claim.specs.Promises.{toldStanding}
 use Rattle.faults.specs.Private.{toldMeant}

@@ -1,5 +1,5 @@
 -- `faults::requests::is_for_us` meets its contract. Assumes nothing.
-use Rattle.frame.proofs.Tests.{tests}
+use Rattle.words.proofs.Tests.{tests}
 use Rattle.faults.specs.Requests.{isForUs}
 use Rattle.faults.proofs.requests.is_for_us.Statement.{statement}
 use Rattle.faults.proofs.requests.is_for_us.Tie as tie

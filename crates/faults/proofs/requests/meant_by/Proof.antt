@@ -4,7 +4,7 @@ use native.Mathlib.Nat.{div-one}
 use borrow.Author.Tests.{le-ltb}
 use borrow.Author.Needs.{needs}
 use Rattle.frame.specs.Identifier.{greatestDgn, destinationOf}
-use Rattle.frame.proofs.Tests.{tests}
+use Rattle.words.proofs.Tests.{tests}
 use Rattle.faults.specs.Requests.{meantBy}
 use Rattle.faults.proofs.Steps.{dgn-read}
 use Rattle.faults.proofs.requests.meant_by.Statement.{statement}

@@ -2,7 +2,7 @@
 use mathlib.Core.Path.{refl, _∙_}
 use borrow.Author.Tests.{eq-eqb, ne-eqb}
 use borrow.Author.Needs.{needs}
-use Rattle.frame.specs.Words.{refused, gives}
+use Rattle.words.specs.Words.{refused, gives}
 use Rattle.frame.specs.Standard.{everyone}
 use Rattle.claim.specs.Claim.{silent}
 use Rattle.faults.specs.Requests.{nothingToDo, answerAt}

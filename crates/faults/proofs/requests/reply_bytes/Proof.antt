@@ -2,7 +2,7 @@
 use mathlib.Core.Path.{_≡_, sym, _∙_}
 use borrow.Author.Needs.{needs}
 use lib.ListN.{length}
-use Rattle.places.proofs.Search.{length-field}
+use Rattle.words.proofs.Lists.{length-field}
 use Rattle.faults.specs.Fault.{isActive}
 use Rattle.faults.specs.Requests.{replyBytes}
 use Rattle.faults.proofs.Steps.{found-below}

@@ -5,8 +5,8 @@ use native.Mathlib.Omega.{arith}
 use borrow.Author.Needs.{needs}
 use borrow.Author.Tests.{not-true, not-false}
 use lib.ListN.{length, drop}
-use Rattle.places.specs.Layout.{every}
-use Rattle.places.proofs.Search.{length-field, every-pass, every-stop, every-end}
+use Rattle.words.specs.Lists.{every}
+use Rattle.words.proofs.Lists.{length-field, every-pass, every-stop, every-end}
 use Rattle.faults.specs.Fault.{placeKeepsRules}
 use Rattle.faults.specs.Sender.{keepsRules}
 use Rattle.faults.proofs.Steps.{outside}

@@ -4,7 +4,7 @@ use Prim.Native.Nat.{_≤_, _<_, _-_}
 use native.Mathlib.Omega.{arith}
 use borrow.Author.Needs.{needs}
 use lib.ListN.{length, drop}
-use Rattle.places.proofs.Search.{length-field}
+use Rattle.words.proofs.Lists.{length-field}
 use Rattle.faults.specs.Sender.{isChosen, chosen}
 use Rattle.faults.proofs.Steps.{outside, foundOr, pass-turn, pass-end}
 use Rattle.faults.proofs.searches.chosen.Statement.{statement}

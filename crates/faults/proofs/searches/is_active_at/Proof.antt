@@ -5,8 +5,8 @@ use native.Mathlib.Omega.{arith}
 use borrow.Author.Tests.{lt-ltb}
 use borrow.Author.Needs.{needs}
 use lib.ListN.{length}
-use Rattle.frame.proofs.Tests.{tests}
-use Rattle.places.proofs.Search.{length-field}
+use Rattle.words.proofs.Tests.{tests}
+use Rattle.words.proofs.Lists.{length-field}
 use Rattle.faults.specs.Fault.{noFault}
 use Rattle.faults.specs.Sender.{isActiveAt}
 use Rattle.faults.proofs.Steps.{outside, same-at}

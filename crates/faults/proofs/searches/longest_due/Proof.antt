@@ -4,7 +4,7 @@ use Prim.Native.Nat.{_≤_, _<_, _-_, max}
 use native.Mathlib.Omega.{arith}
 use borrow.Author.Needs.{needs}
 use lib.ListN.{length, drop}
-use Rattle.places.proofs.Search.{length-field}
+use Rattle.words.proofs.Lists.{length-field}
 use Rattle.faults.specs.Sender.{longestDue}
 use Rattle.faults.proofs.Steps.{outside, longest-pass, longest-end}
 use Rattle.faults.proofs.searches.longest_due.Statement.{statement}

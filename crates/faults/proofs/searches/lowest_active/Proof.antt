@@ -6,8 +6,8 @@ use native.Mathlib.Omega.{arith}
 use borrow.Author.Needs.{needs}
 use borrow.Author.Tests.{eq-eqb, ne-eqb}
 use lib.ListN.{length, drop}
-use Rattle.places.specs.Layout.{first, firstFrom}
-use Rattle.places.proofs.Search.{length-field, search-pass, search-stop, search-end}
+use Rattle.words.specs.Lists.{firstFrom, first}
+use Rattle.words.proofs.Lists.{length-field, search-pass, search-stop, search-end}
 use Rattle.faults.specs.Fault.{isActive}
 use Rattle.faults.proofs.Steps.{outside}
 use Rattle.faults.proofs.searches.lowest_active.Statement.{statement}

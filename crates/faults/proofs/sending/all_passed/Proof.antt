@@ -5,7 +5,7 @@ use Prim.Native.Nat.{_≤_, _<_, _-_}
 use native.Mathlib.Omega.{arith}
 use borrow.Author.Needs.{needs}
 use lib.ListN.{length, take, drop}
-use Rattle.places.proofs.Search.{length-field, image-turn, image-end}
+use Rattle.words.proofs.Lists.{length-field, image-turn, image-end}
 use Rattle.faults.specs.Fault.{passed}
 use Rattle.faults.proofs.Steps.{outside}
 use Rattle.faults.proofs.sending.all_passed.Statement.{statement}

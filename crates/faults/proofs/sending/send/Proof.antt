@@ -4,7 +4,7 @@ use Prim.Native.Nat.{_<_}
 use native.Mathlib.Omega.{arith}
 use borrow.Author.Needs.{needs}
 use lib.ListN.{length}
-use Rattle.places.proofs.Search.{length-field}
+use Rattle.words.proofs.Lists.{length-field}
 use Rattle.faults.specs.Fault.{noFault}
 use Rattle.faults.proofs.Steps.{outside, same-at}
 use Rattle.faults.proofs.sending.send.Statement.{statement}

@@ -2,7 +2,7 @@
 use mathlib.Core.Path.{_≡_, sym, ap, _∙_}
 use borrow.Author.Needs.{needs}
 use lib.ListN.{length, length-map}
-use Rattle.places.proofs.Search.{length-field}
+use Rattle.words.proofs.Lists.{length-field}
 use Rattle.faults.specs.Fault.{passed}
 use Rattle.faults.specs.Sender.{chosen}
 use Rattle.faults.specs.Private.{sentAt, bareStepped}

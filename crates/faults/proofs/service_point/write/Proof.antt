@@ -4,7 +4,7 @@ use mathlib.Core.List.{List}
 use Prim.Native.Nat.{ℕ}
 use native.Mathlib.Omega.{arith}
 use borrow.Author.Needs.{needs}
-use Rattle.frame.specs.Words.{Told}
+use Rattle.words.specs.Words.{Told}
 use Rattle.catalogue.specs.Promises.{doneIf, bytesAfter}
 use Rattle.faults.proofs.Parts.{with-more}
 use Rattle.faults.proofs.service_point.write.Statement.{statement}

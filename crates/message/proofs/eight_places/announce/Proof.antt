@@ -3,7 +3,7 @@ use mathlib.Core.Path.{_≡_, refl, sym, _∙_}
 use borrow.Author.Needs.{needs}
 use lib.ListN.{length}
 use Rattle.message.specs.declared.Answer.the-variants.{NoPlaceFree}
-use Rattle.places.proofs.Search.{length-field}
+use Rattle.words.proofs.Lists.{length-field}
 use Rattle.message.proofs.Steps.{left, place-for-below, announces-at, announces-nowhere}
 use Rattle.message.proofs.eight_places.announce.Statement.{statement}
 use Rattle.message.proofs.eight_places.announce.Tie as tie

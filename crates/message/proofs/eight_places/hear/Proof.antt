@@ -7,7 +7,7 @@ use Rattle.message.specs.LongMessage.{Meaning, meant}
 use Rattle.frame.specs.declared.Parts.{Parts}
 use Rattle.frame.specs.Promises.{toldVerdict, bytesIf}
 use Rattle.message.specs.Receiver.{byMeaning}
-use Rattle.frame.specs.Words.{Told}
+use Rattle.words.specs.Words.{Told}
 use Rattle.message.specs.declared.Answer.the-variants.{BadFrame}
 use Rattle.message.proofs.Steps.{left-as, meaning-refused, meaning-given, left}
 use Rattle.message.proofs.eight_places.hear.Statement.{statement}

@@ -3,7 +3,7 @@ use mathlib.Core.Path.{refl, sym, ap, _∙_}
 use borrow.Author.Needs.{needs}
 use Rattle.message.specs.Receiver.{byMeaning}
 use Rattle.message.specs.LongMessage.{Meaning}
-use Rattle.frame.specs.Words.{Told}
+use Rattle.words.specs.Words.{Told}
 use Rattle.message.specs.Private.{toldMeant}
 use Rattle.message.specs.declared.Answer.the-variants.{MalformedAnnouncement, NothingToDo}
 use Rattle.message.proofs.Steps.{left-as, left}

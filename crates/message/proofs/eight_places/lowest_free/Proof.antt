@@ -6,10 +6,10 @@ use native.Mathlib.Omega.{arith}
 use borrow.Author.Tests.{eq-eqb, ne-eqb}
 use borrow.Author.Needs.{needs}
 use lib.ListN.{length, drop}
-use Rattle.places.specs.declared.Found.the-variants.{At}
+use Rattle.words.specs.declared.Found.the-variants.{At}
 use Rattle.message.specs.Receiver.{freePlace, isFree}
-use Rattle.places.specs.Layout.{first, firstFrom}
-use Rattle.places.proofs.Search.{length-field, search-pass, search-stop, search-end}
+use Rattle.words.specs.Lists.{firstFrom, first}
+use Rattle.words.proofs.Lists.{length-field, search-pass, search-stop, search-end}
 use Rattle.message.proofs.eight_places.lowest_free.Statement.{statement}
 use Rattle.message.proofs.eight_places.lowest_free.Tie as tie
 

@@ -4,7 +4,7 @@ use borrow.Author.Needs.{needs}
 use lib.ListN.{length}
 use Rattle.message.specs.Receiver.{isOpenBy}
 use Rattle.message.specs.declared.Answer.the-variants.{NoOpenMessage}
-use Rattle.places.proofs.Search.{length-field}
+use Rattle.words.proofs.Lists.{length-field}
 use Rattle.message.proofs.Steps.{left-as, left, found-below, live-at, carries-at, carries-nowhere}
 use Rattle.message.proofs.eight_places.packet.Statement.{statement}
 use Rattle.message.proofs.eight_places.packet.Tie as tie

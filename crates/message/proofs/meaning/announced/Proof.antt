@@ -1,7 +1,7 @@
 -- `message::meaning::announced` meets its contract. Assumes nothing.
 use borrow.Author.Needs.{needs}
 use Rattle.message.specs.LongMessage.{announced}
-use Rattle.frame.proofs.Tests.{tests}
+use Rattle.words.proofs.Tests.{tests}
 use Rattle.message.proofs.meaning.announced.Statement.{statement}
 use Rattle.message.proofs.meaning.announced.Tie as tie
 

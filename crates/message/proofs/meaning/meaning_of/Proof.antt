@@ -2,7 +2,7 @@
 use mathlib.Core.Path.{_∙_}
 use borrow.Author.Needs.{needs}
 use Rattle.message.specs.LongMessage.{meant}
-use Rattle.frame.proofs.Tests.{tests}
+use Rattle.words.proofs.Tests.{tests}
 use Rattle.message.proofs.meaning.meaning_of.Statement.{statement}
 use Rattle.message.proofs.meaning.meaning_of.Tie as tie
 

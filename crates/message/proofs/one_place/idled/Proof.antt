@@ -1,7 +1,7 @@
 -- `message::one_place::idled` meets its contract. Assumes nothing.
 use borrow.Author.Needs.{needs}
 use Rattle.message.specs.Receiver.{idled}
-use Rattle.frame.proofs.Tests.{tests}
+use Rattle.words.proofs.Tests.{tests}
 use Rattle.message.proofs.one_place.idled.Statement.{statement}
 use Rattle.message.proofs.one_place.idled.Tie as tie
 use Rattle.message.proofs.one_place.free.Reads as free-reads

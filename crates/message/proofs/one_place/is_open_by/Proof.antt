@@ -1,5 +1,5 @@
 -- `message::one_place::is_open_by` meets its contract. Assumes nothing.
-use Rattle.frame.proofs.Tests.{tests}
+use Rattle.words.proofs.Tests.{tests}
 use Rattle.message.proofs.one_place.is_open_by.Statement.{statement}
 use Rattle.message.proofs.one_place.is_open_by.Tie as tie
 

@@ -1,6 +1,6 @@
 -- `message::one_place::is_zero` meets its contract. Assumes nothing.
 use Rattle.message.specs.Receiver.{isZero}
-use Rattle.frame.proofs.Tests.{tests}
+use Rattle.words.proofs.Tests.{tests}
 use Rattle.message.proofs.one_place.is_zero.Statement.{statement}
 use Rattle.message.proofs.one_place.is_zero.Tie as tie
 

@@ -1,7 +1,7 @@
 -- `message::one_place::keeps_rules` meets its contract. Assumes nothing.
 use borrow.Author.Needs.{needs}
 use Rattle.message.specs.Receiver.{placeKeepsRules}
-use Rattle.frame.proofs.Tests.{tests}
+use Rattle.words.proofs.Tests.{tests}
 use Rattle.message.proofs.one_place.keeps_rules.Statement.{statement}
 use Rattle.message.proofs.one_place.keeps_rules.Tie as tie
 

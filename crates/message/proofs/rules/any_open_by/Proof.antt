@@ -5,8 +5,8 @@ use native.Mathlib.Omega.{arith}
 use borrow.Author.Needs.{needs}
 use lib.ListN.{length, drop}
 use Rattle.message.specs.Receiver.{freePlace, isOpenBy}
-use Rattle.places.specs.Layout.{any}
-use Rattle.places.proofs.Search.{length-field, any-pass, any-stop, any-end}
+use Rattle.words.specs.Lists.{any}
+use Rattle.words.proofs.Lists.{length-field, any-pass, any-stop, any-end}
 use Rattle.message.proofs.rules.any_open_by.Statement.{statement}
 use Rattle.message.proofs.rules.any_open_by.Tie as tie
 

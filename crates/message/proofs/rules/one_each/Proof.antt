@@ -7,7 +7,7 @@ use borrow.Author.Needs.{needs}
 use lib.ListN.{length, drop}
 use Rattle.message.specs.Receiver.{freePlace, layout}
 use Rattle.places.specs.Layout.{oneEach}
-use Rattle.places.proofs.Search.{length-field}
+use Rattle.words.proofs.Lists.{length-field}
 use Rattle.places.proofs.View.{one-each-pass, one-each-stop, one-each-end}
 use Rattle.message.proofs.rules.one_each.Statement.{statement}
 use Rattle.message.proofs.rules.one_each.Tie as tie

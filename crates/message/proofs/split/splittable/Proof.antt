@@ -1,7 +1,7 @@
 -- `message::split::splittable` meets its contract. Assumes nothing.
 use borrow.Author.Needs.{needs}
 use Rattle.message.specs.Splitter.{splits}
-use Rattle.frame.proofs.Tests.{tests}
+use Rattle.words.proofs.Tests.{tests}
 use Rattle.message.proofs.split.splittable.Statement.{statement}
 use Rattle.message.proofs.split.splittable.Tie as tie
 

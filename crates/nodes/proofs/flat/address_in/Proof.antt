@@ -4,7 +4,7 @@ use Prim.Native.Nat.{_-_, _≤_, _<_}
 use native.Mathlib.Omega.{arith}
 use borrow.Author.Needs.{needs}
 use lib.ListN.{length, drop}
-use Rattle.frame.specs.Words.{gives}
+use Rattle.words.specs.Words.{gives}
 use Rattle.nodes.specs.Table.{addresses}
 use Rattle.nodes.specs.Call.{Whereabouts, addressFrom}
 use Rattle.nodes.proofs.Rules.{length-field}

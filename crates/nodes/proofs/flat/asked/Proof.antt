@@ -1,7 +1,7 @@
 -- `nodes::flat::asked` meets its contract. Assumes nothing.
 use mathlib.Core.Path.{refl}
 use borrow.Author.Needs.{needs}
-use Rattle.frame.proofs.Tests.{tests}
+use Rattle.words.proofs.Tests.{tests}
 use Rattle.nodes.specs.Call.{askedBy}
 use Rattle.nodes.proofs.Call.{judged-nothing, judged-claim}
 use Rattle.nodes.proofs.flat.asked.Statement.{statement}

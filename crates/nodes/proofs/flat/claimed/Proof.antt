@@ -1,6 +1,6 @@
 -- `nodes::flat::claimed` meets its contract. Assumes nothing.
 use borrow.Author.Needs.{needs}
-use Rattle.frame.proofs.Tests.{tests}
+use Rattle.words.proofs.Tests.{tests}
 use Rattle.nodes.specs.Table.{claimedAt}
 use Rattle.nodes.proofs.flat.claimed.Statement.{statement}
 use Rattle.nodes.proofs.flat.claimed.Tie as tie

@@ -3,7 +3,7 @@ use mathlib.Core.Path.{refl, sym, ap, _∙_}
 use borrow.Author.Tests.{not-true, not-false}
 use borrow.Author.Needs.{needs}
 use Rattle.frame.specs.declared.Parts.{Parts}
-use Rattle.frame.specs.Words.{Told}
+use Rattle.words.specs.Words.{Told}
 use Rattle.frame.specs.Promises.{toldVerdict, bytesIf}
 use Rattle.nodes.proofs.Call.{judged-refused, asked-short, asked-broken, asked-bad, asked-sound}
 use Rattle.nodes.proofs.flat.judge.Statement.{statement}

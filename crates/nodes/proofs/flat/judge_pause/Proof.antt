@@ -3,7 +3,7 @@ use mathlib.Core.Path.{refl, sym, ap, _∙_}
 use Prim.Native.Nat.{ℕ}
 use borrow.Author.Tests.{not-true, not-false}
 use borrow.Author.Needs.{needs}
-use Rattle.frame.specs.Words.{gives}
+use Rattle.words.specs.Words.{gives}
 use Rattle.nodes.specs.Call.{replaced}
 use Rattle.nodes.proofs.Call.{pause-refused, pause-passed, pause-short, pause-broken, pause-sound}
 use Rattle.nodes.proofs.flat.judge_pause.Statement.{statement}

@@ -5,7 +5,7 @@ use native.Mathlib.Omega.{arith}
 use borrow.Author.Needs.{needs}
 use borrow.Author.Tests.{lt-ltb}
 use Rattle.frame.specs.Standard.{greatestAddress}
-use Rattle.frame.proofs.Tests.{tests}
+use Rattle.words.proofs.Tests.{tests}
 use Rattle.nodes.specs.Table.{givesWay, mayChallenge}
 use Rattle.nodes.specs.Call.{claimOutcome}
 use Rattle.nodes.proofs.flat.outcome.Statement.{statement}

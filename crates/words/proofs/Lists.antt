@@ -1,28 +1,30 @@
--- Searches over places, and the turns of the loops that search, count, test and replace them.
+-- Laws of the tests on lists, and the turns of the loops that search, count, test, compare, replace and fill up.
 -- Assumes nothing.
 use mathlib.Core.Path.{_≡_, refl, sym, ap, _∙_}
-use mathlib.Core.Bool.{Bool, true, false}
-use mathlib.Core.List.{List, [], _∷_, _++_, map, append-nil}
-use Prim.Native.Nat.{ℕ, zero, suc, _+_, _≤_, _<_}
+use mathlib.Core.Bool.{Bool, true, false, not}
+use mathlib.Core.List.{List, [], _∷_, _++_, map, append-nil, append-assoc}
+use mathlib.Core.Logic.{_≢_}
+use Prim.Native.Nat.{ℕ, zero, suc, _+_, _-_, _≤_, _<_}
 use native.Mathlib.Nat.{le-of-suc-le-suc, not-suc-le-zero}
 use native.Mathlib.Numerals.{add-one}
 use native.Mathlib.Omega.{arith}
+use borrow.Author.Tests.{eq-eqb, ne-eqb, not-true}
+use lib.Dec.{eqb}
 use lib.ListN.{length, take, drop, getD, set, replicate, drop-of-length-le, length-map, length-set}
-use lib.Seq.{take-all, drop-cons, getD-set-other}
-use Rattle.frame.specs.Words.{if_then_else_}
-use Rattle.frame.proofs.Words.{by-test, both-true}
-use Rattle.places.specs.Places.{count}
-use Rattle.places.specs.Layout.{firstFrom, first, any, every}
-use Rattle.places.specs.Laws.{FoundAt, FoundNowhere, SetKeeps, EverySet}
-use Rattle.places.specs.declared.Found.{Found}
-use Rattle.places.specs.declared.Found.the-variants.{At, Nowhere}
+use lib.Seq.{take-all, take-suc, drop-cons, set-at, getD-set-other, length-take-le}
+use Rattle.words.specs.Words.{if_then_else_, _=?_}
+use Rattle.words.specs.Lists.{any, every, count, firstFrom, first}
+use Rattle.words.specs.Lists.{noTwo, Absent, Distinct, filledTo}
+use Rattle.words.specs.declared.Found.{Found}
+use Rattle.words.specs.declared.Found.the-variants.{At, Nowhere}
+use Rattle.words.proofs.Words.{by-test, both-true, true-false}
 
 -- what owning a struct tells of an array of structs in it: how many elements it has
 pub length-field : (X Y : Type 0) (f : X → Y) (l : List X) (n : ℕ) → length (map f l) ≡ n → length l ≡ n
 length-field X Y f l n e = sym (length-map l f) ∙ e
 
 module _ {P : Type 0} where
-  -- a turn of a search that passes the place at i
+  -- a turn of a search that passes the element at i
   pub search-pass : (f : P → Bool) (ps : List P) (i : ℕ) (d : P) → i < length ps → f (getD ps i d) ≡ false
       → firstFrom f i (drop i ps) ≡ firstFrom f (i + 1) (drop (i + 1) ps)
   search-pass f ps i d h e = rw (add-one, drop-cons ps i d h, e)
@@ -35,7 +37,7 @@ module _ {P : Type 0} where
   pub search-end : (f : P → Bool) (ps : List P) (i : ℕ) → length ps ≤ i → firstFrom f i (drop i ps) ≡ Nowhere
   search-end f ps i h = rw (drop-of-length-le ps h)
 
-  -- a turn of a loop that asks whether any place passes
+  -- a turn of a loop that asks whether any element passes
 
   pub any-pass : (f : P → Bool) (ps : List P) (i : ℕ) (d : P) → i < length ps → f (getD ps i d) ≡ false → any f (drop i ps) ≡ any f (drop (i + 1) ps)
   any-pass f ps i d h e = rw (add-one, drop-cons ps i d h, e)
@@ -57,7 +59,20 @@ module _ {P : Type 0} where
   pub every-end : (f : P → Bool) (ps : List P) (i : ℕ) → length ps ≤ i → every f (drop i ps) ≡ true
   every-end f ps i h = rw (drop-of-length-le ps h)
 
-  -- what a test of every place says of one
+  -- and whether no two are alike
+
+  pub no-two-pass : (alike : P → P → Bool) (ps : List P) (i : ℕ) (d : P) → i < length ps
+      → any (alike (getD ps i d)) (drop (i + 1) ps) ≡ false → noTwo alike (drop i ps) ≡ noTwo alike (drop (i + 1) ps)
+  no-two-pass alike ps i d h e = let e′ = rw add-one at e in rw (add-one, drop-cons ps i d h, e′)
+
+  pub no-two-stop : (alike : P → P → Bool) (ps : List P) (i : ℕ) (d : P) → i < length ps
+      → any (alike (getD ps i d)) (drop (i + 1) ps) ≡ true → noTwo alike (drop i ps) ≡ false
+  no-two-stop alike ps i d h e = let e′ = rw add-one at e in rw (drop-cons ps i d h, e′)
+
+  pub no-two-end : (alike : P → P → Bool) (ps : List P) (i : ℕ) → length ps ≤ i → noTwo alike (drop i ps) ≡ true
+  no-two-end alike ps i h = rw (drop-of-length-le ps h)
+
+  -- what a test of every element says of one
 
   pub every-at : (f : P → Bool) (ps : List P) (i : ℕ) (d : P) → i < length ps → every f ps ≡ true → f (getD ps i d) ≡ true
   every-at f [] i d h e = absurd (not-suc-le-zero h)
@@ -72,7 +87,7 @@ module _ {P : Type 0} where
   every-replicate f zero p e = refl
   every-replicate f (suc n) p e = rw (e, every-replicate f n p e)
 
-  -- a loop that replaces each place by its image, and counts those that pass a test before
+  -- a loop that replaces each element by its image, and counts those that pass a test before
 
   count-one : (f : P → Bool) (ps : List P) (i : ℕ) (d : P) → i < length ps
       → count f (take (suc i) ps) ≡ count f (take i ps) + (if f (getD ps i d) then 1 else 0)
@@ -164,20 +179,70 @@ module _ {P : Type 0} where
   miss-all f ps d (on e h) zero l = e
   miss-all f ps d (on {ps = qs} e h) (suc i) l = miss-all f qs d h i (le-of-suc-le-suc l)
 
-  -- the statements
+  -- j is the first position that passes the test
+  pub record FirstAt (f : P → Bool) (ps : List P) (d : P) (j : ℕ) : Type 0 where
+    pub below : j < length ps
+    pub passes : f (getD ps j d) ≡ true
+    pub lowest : (i : ℕ) → i < j → f (getD ps i d) ≡ false
 
-  pub found-at : FoundAt P
+  pub found-at : (j : ℕ) (f : P → Bool) (ps : List P) (d : P) → first f ps ≡ At j → FirstAt f ps d j
   found-at j f ps d e =
       let h = hit-at f ps e in
       record { below = hit-below f ps j h; passes = hit-passes f ps j d h; lowest = hit-lowest f ps j d h }
 
-  pub found-nowhere : FoundNowhere P
+  pub found-nowhere : (f : P → Bool) (ps : List P) (d : P) → first f ps ≡ Nowhere
+      → (i : ℕ) → i < length ps → f (getD ps i d) ≡ false
   found-nowhere f ps d e = miss-all f ps d (miss-at f ps e)
 
-  pub set-keeps : SetKeeps P
+  -- One element replaced keeps the others, and how many there are; where all pass a test and the new one does, all do.
+
+  pub set-keeps : (ps : List P) (i : ℕ) (p d : P)
+      → (length (set ps i p) ≡ length ps) × ((j : ℕ) → j ≢ i → getD (set ps i p) j d ≡ getD ps j d)
   set-keeps ps i p d = (length-set ps i p, λ j n. getD-set-other ps i j p d n)
 
-  pub every-set : EverySet P
+  pub every-set : (f : P → Bool) (ps : List P) (i : ℕ) (p : P) → every f ps ≡ true → f p ≡ true → every f (set ps i p) ≡ true
   every-set f [] i p e k = refl
   every-set f (x ∷ ps) zero p e k = rw (k, both-true (f x) _ e .1)
   every-set f (x ∷ ps) (suc i) p e k = let t = both-true (f x) _ e in rw (t .0, every-set f ps i p (t .1) k)
+
+  -- the loop that fills up
+
+  replicate-cons : (n : ℕ) (p : P) → 0 < n → replicate n p ≡ p ∷ replicate (n - 1) p
+  replicate-cons zero p h = absurd (omega arith)
+  replicate-cons (suc n) p h = let e : suc n - 1 ≡ n = omega arith in rw e
+
+  pub fill-turn : (l out : List P) (i n : ℕ) (d z : P) → i < length l → i < n → out ≡ take i l ++ replicate (n - i) z
+      → set out i (getD l i d) ≡ take (i + 1) l ++ replicate (n - (i + 1)) z
+  fill-turn l out i n d z h k e =
+      let p : 0 < n - i = omega arith in
+      let m : n - i - 1 ≡ n - suc i = omega arith in
+      let j : i ≤ length l = omega arith in
+      let s = set-at (take i l) z (replicate (n - suc i) z) (getD l i d) i (length-take-le i l j) in
+      rw (e, add-one, replicate-cons (n - i) z p, m, s, take-suc l i d h)
+      (sym (append-assoc (take i l) (getD l i d ∷ []) (replicate (n - suc i) z)))
+
+  pub fill-end : (l out : List P) (i n : ℕ) (z : P) → i ≡ length l → out ≡ take i l ++ replicate (n - i) z → out ≡ filledTo n z l
+  fill-end l out i n z h e = e ∙ rw (h, take-all (length l) l (omega arith))
+
+-- numbers of which none is k, and which are all different, one by one
+
+pub absent-cons : (k j : ℕ) (js : List ℕ) → k ≢ j → Absent k js → Absent k (j ∷ js)
+absent-cons k j js n h = rw (ne-eqb k j n, h)
+
+pub absent-head : (k j : ℕ) (js : List ℕ) → Absent k (j ∷ js) → k ≢ j
+absent-head k j js h e = true-false (rw (eq-eqb k j e) at h)
+
+pub absent-tail : (k j : ℕ) (js : List ℕ) → Absent k (j ∷ js) → Absent k js
+absent-tail k j js h =
+    by-test (eqb k j)
+    (λ e. true-false (rw e at h))
+    (λ e. rw e at h)
+
+pub distinct-cons : (j : ℕ) (js : List ℕ) → Absent j js → Distinct js → Distinct (j ∷ js)
+distinct-cons j js a d = rw (a, d)
+
+pub distinct-head : (j : ℕ) (js : List ℕ) → Distinct (j ∷ js) → Absent j js
+distinct-head j js d = not-true _ (both-true (not (any (_=?_ j) js)) _ d .0)
+
+pub distinct-tail : (j : ℕ) (js : List ℕ) → Distinct (j ∷ js) → Distinct js
+distinct-tail j js d = both-true (not (any (_=?_ j) js)) _ d .1
