@@ -21,7 +21,7 @@ parts : (f w n : ℕ) → n ≡ joined f w (n / 2 ^ f / 2 ^ w) ((n / 2 ^ f) % 2 
 parts f w n = sym (rw (split (n / 2 ^ f) w) (split n f))
 
 with-is : (f w v n : ℕ) → withField f w v n ≡ joined f w (n / 2 ^ f / 2 ^ w) v (n % 2 ^ f)
-unfolding withField
+unfolding withField fieldOf
 with-is f w v n =
     let e = parts f w n in
     let p = 2 ^ f in

@@ -3,16 +3,17 @@
 use mathlib.Core.Path.{_≡_, refl, sym, ap, _∙_}
 use mathlib.Core.Bool.{true, not}
 use Prim.Native.Nat.{ℕ, suc, _+_, _*_, _-_, _/_, _%_, _^_, _≤_, _<_}
-use native.Mathlib.Nat.{mul-mod-right, mul-div-right, div-add-mod, add-zero}
+use native.Mathlib.Nat.{mul-mod-right, mul-div-right, div-add-mod, add-zero, add-comm}
 use native.Mathlib.Omega.{arith}
-use borrow.Author.Tests.{eq-eqb, ne-eqb, lt-leb, ltb-true, ltb-false, leb-false, eqb-true}
-use lib.IntN.{ℤ, pos, negsuc}
+use borrow.Author.Tests.{eq-eqb, ne-eqb, lt-ltb, le-ltb, lt-leb, leb-true, ltb-true, ltb-false, leb-false, eqb-true}
+use lib.IntN.{ℤ, pos, negsuc, _+ℤ_}
 use lib.Pow.{pow-pos}
-use Rattle.words.specs.Words.{if_then_else_, _<?_, _≤?_, _=?_, refused, gives}
+use Rattle.words.specs.Words.{if_then_else_, given_then_, _<?_, _≤?_, _=?_, refused, gives}
 use Rattle.words.proofs.Words.{past-refusal, before-refusal, not-flips, gives-same, by-test}
 use Rattle.catalogue.specs.Classes.{greatestCode, classIn, belowGreatest, _is_}
 use Rattle.catalogue.specs.Scale.{scaledOf, stepsOf, valueAs, valueOf}
-use Rattle.catalogue.specs.Codes.{codeWhere, classCode, steppedCode, scaledCode, codeOf}
+use Rattle.catalogue.specs.Codes.{codeWhere, classCode, fromZero, steppedCode, scaledCode, codeOf}
+use Rattle.catalogue.specs.Private.{signOf, raisedCode}
 use Rattle.catalogue.specs.declared.Row.{Row}
 use Rattle.catalogue.specs.declared.Class.{Class}
 use Rattle.catalogue.specs.declared.Class.the-variants as Class
@@ -72,16 +73,32 @@ stepped-given row step l c e =
     let h : l / step < 2 ^ row .width = leb-false _ _ (r₂ .0) in
     (sym (div-add-mod l step) ∙ rw (m, b .0) (add-zero (step * c)), record { fits = rw (b .0) at h; class = ap (classIn row) (sym (b .0)) ∙ b .1 })
 
--- a value that has a code is that code's, which is a number
-pub scaled-given : (row : Row) (v : ℤ) (c : ℕ) → scaledCode row v ≡ gives c → (scaledOf (row .unit) (row .width) c ≡ v) × Given row Class.Number c
+-- the code's way to add an offset is that of the definition
+
+raised-is : (row : Row) (step offset : ℕ) (v : ℤ)
+    → (given fromZero (v +ℤ pos offset) then λ n. steppedCode row step n) ≡ raisedCode row step offset (signOf v)
+raised-is row step offset (pos n) = ap (steppedCode row step) (add-comm n offset)
+raised-is row step offset (negsuc n) =
+    by-test (offset ≤? n)
+    (λ t. rw (t, lt-ltb offset (suc n) (omega (arith, leb-true offset n t))))
+    (λ t. let e : offset - suc n ≡ offset - (n + 1) = omega arith in
+    rw (t, le-ltb offset (suc n) (omega (arith, leb-false offset n t)), e))
+
+pub scaled-raised : (row : Row) (v : ℤ) → scaledCode row v ≡ raisedCode row (stepsOf (row .unit) (row .width) .step) (stepsOf (row .unit) (row .width) .offset) (signOf v)
 unfolding scaledCode
-scaled-given row (pos n) c e =
+scaled-raised row v = raised-is row (stepsOf (row .unit) (row .width) .step) (stepsOf (row .unit) (row .width) .offset) v
+
+-- a value that has a code is that code's, which is a number
+raised-given : (row : Row) (v : ℤ) (c : ℕ)
+    → raisedCode row (stepsOf (row .unit) (row .width) .step) (stepsOf (row .unit) (row .width) .offset) (signOf v) ≡ gives c
+    → (scaledOf (row .unit) (row .width) c ≡ v) × Given row Class.Number c
+raised-given row (pos n) c e =
     let s = stepsOf (row .unit) (row .width) in
     let b = stepped-given row (s .step) (s .offset + n) c e in
     let l : s .offset ≤ s .step * c = omega (arith, b .0) in
     let d : s .step * c - s .offset ≡ n = omega (arith, b .0) in
     (scaled-is (row .unit) (row .width) c ∙ sub-pos (s .step * c) (s .offset) l ∙ ap pos d, b .1)
-scaled-given row (negsuc n) c e =
+raised-given row (negsuc n) c e =
     let s = stepsOf (row .unit) (row .width) in
     let r = past-refusal (s .offset ≤? n) 12 _ e in
     let g : n < s .offset = leb-false _ _ (r .0) in
@@ -89,6 +106,9 @@ scaled-given row (negsuc n) c e =
     let l : s .step * c < s .offset = omega (arith, b .0) in
     let d : s .offset - suc (s .step * c) ≡ n = omega (arith, b .0) in
     (scaled-is (row .unit) (row .width) c ∙ sub-neg (s .step * c) (s .offset) l ∙ ap negsuc d, b .1)
+
+pub scaled-given : (row : Row) (v : ℤ) (c : ℕ) → scaledCode row v ≡ gives c → (scaledOf (row .unit) (row .width) c ≡ v) × Given row Class.Number c
+scaled-given row v c e = raised-given row v c (sym (scaled-raised row v) ∙ e)
 
 -- and a number's scaled value has that number for its code
 
@@ -98,8 +118,8 @@ stepped-of row step l c p e g =
     rw (e, mul-mod-right step c, mul-div-right c p, lt-leb (2 ^ row .width) c (g .fits), is-itself (classIn row c) Class.Number (g .class))
 
 pub scaled-of : (row : Row) (c : ℕ) → Given row Class.Number c → scaledCode row (scaledOf (row .unit) (row .width) c) ≡ gives c
-unfolding scaledCode
 scaled-of row c g =
+    rw (scaled-raised row (scaledOf (row .unit) (row .width) c))
     let s = stepsOf (row .unit) (row .width) in
     let p = steps-small (row .unit) (row .width) .some in
     by-test (s .step * c <? s .offset)

@@ -11,9 +11,10 @@ use borrow.Author.Tests.{leb-true, leb-false, ltb-true, ltb-false, lt-ltb, le-lt
 use lib.Arith.{lt-of-le-ne}
 use lib.ListN.{length, getD}
 use Rattle.words.specs.Words.{if_then_else_, _and_, _<?_, _≤?_, _=?_, gives}
+use Rattle.words.specs.Lists.{count}
 use Rattle.words.proofs.Words.{by-test, both-true, true-false, gives-same, refused-gives}
 use Rattle.catalogue.specs.Rows.{rows, rowCount}
-use Rattle.catalogue.specs.Table.{nth, noRow, howMany, below, having, rowWith, liesInFrame, bitFrom, bitPast, inOrder, KeepsRule}
+use Rattle.catalogue.specs.Table.{nth, noRow, below, having, rowWith, liesInFrame, bitFrom, bitPast, inOrder, KeepsRule}
 use Rattle.catalogue.specs.Field.{InFrame, widest, frameBits}
 use Rattle.catalogue.specs.declared.Row.{Row}
 
@@ -138,7 +139,7 @@ module _ (list : List Row) (rule : KeepsRule list) where
 
 -- how many rows pass a test that holds of the first n and of no other: n
 count-split : (f : Row → Bool) (l : List Row) (n : ℕ) → n ≤ length l → ((k : ℕ) → k < n → f (getD l k noRow) ≡ true)
-    → ((k : ℕ) → n ≤ k → k < length l → f (getD l k noRow) ≡ false) → n ≡ howMany f l
+    → ((k : ℕ) → n ≤ k → k < length l → f (getD l k noRow) ≡ false) → n ≡ count f l
 count-split f [] n h a b = omega arith
 count-split f (r ∷ l) zero h a b =
     rw (b 0 (omega arith) (omega arith)) (omega (arith, count-split f l 0 (omega arith) (λ k g. absurd (not-suc-le-zero g)) (λ k g m. b (suc k) (omega arith) (omega arith))))
@@ -151,7 +152,7 @@ unfolding below
 below-is list d n h a b = count-split (λ r. r .dgn <? d) list n h (λ k g. lt-ltb _ _ (a k g)) (λ k g m. le-ltb _ _ (b k g m))
 
 -- one more DGN
-count-next : (d : ℕ) (l : List Row) → howMany (λ r. r .dgn <? d + 1) l ≡ howMany (λ r. r .dgn <? d) l + howMany (λ r. r .dgn =? d) l
+count-next : (d : ℕ) (l : List Row) → count (λ r. r .dgn <? d + 1) l ≡ count (λ r. r .dgn <? d) l + count (λ r. r .dgn =? d) l
 count-next d [] = refl
 count-next d (r ∷ l) =
     let x = r .dgn in
@@ -169,7 +170,7 @@ below-next list d = count-next d list
 
 -- where a test that holds, if anywhere, of the first rows only, holds
 
-count-none : (f : Row → Bool) (l : List Row) → ((k : ℕ) → k < length l → f (getD l k noRow) ≡ true → ⊥) → howMany f l ≡ 0
+count-none : (f : Row → Bool) (l : List Row) → ((k : ℕ) → k < length l → f (getD l k noRow) ≡ true → ⊥) → count f l ≡ 0
 count-none f [] a = refl
 count-none f (r ∷ l) a =
     by-test (f r) (λ t. absurd (a 0 (omega arith) t)) (λ t. rw t (omega (arith, count-none f l (λ k h e. a (suc k) (omega arith) e))))
@@ -178,7 +179,7 @@ no-less : (k n : ℕ) → k < n → n ≡ 0 → ⊥
 no-less k n g z = omega arith
 
 count-first : (f : Row → Bool) (l : List Row) → ((i j : ℕ) → i ≤ j → j < length l → f (getD l j noRow) ≡ true → f (getD l i noRow) ≡ true)
-    → (k : ℕ) → k < length l → (f (getD l k noRow) ≡ true → k < howMany f l) × (k < howMany f l → f (getD l k noRow) ≡ true)
+    → (k : ℕ) → k < length l → (f (getD l k noRow) ≡ true → k < count f l) × (k < count f l → f (getD l k noRow) ≡ true)
 count-first f [] a k h = absurd (not-suc-le-zero h)
 count-first f (r ∷ l) a zero h =
     by-test (f r) (λ t. ((λ e. rw t (omega arith)), (λ g. t)))
@@ -190,7 +191,7 @@ count-first f (r ∷ l) a (suc k) h =
     ((λ e. true-false (sym (a 0 (suc k) zero-le h e) ∙ t)), (λ g. absurd (no-less _ _ g z))))
 
 -- the rows of a DGN are within the table
-count-le : (f : Row → Bool) (l : List Row) → howMany f l ≤ length l
+count-le : (f : Row → Bool) (l : List Row) → count f l ≤ length l
 count-le f [] = le-refl 0
 count-le f (r ∷ l) = by-test (f r) (λ t. rw t (omega (arith, count-le f l))) (λ t. rw t (omega (arith, count-le f l)))
 

@@ -14,7 +14,8 @@ use mir.Val.{SFits, toZ, ofZ}
 use mir.ValLaws.{toZ-ofZ}
 use Rattle.words.specs.Words.{_<?_, _=?_}
 use Rattle.words.proofs.Words.{by-test, true-false}
-use Rattle.catalogue.specs.Scale.{scaledOf, celsiusSteps, ampereSteps, stepsOf, signOf}
+use Rattle.catalogue.specs.Scale.{scaledOf, celsiusSteps, ampereSteps, stepsOf}
+use Rattle.catalogue.specs.Private.{signOf}
 use Rattle.catalogue.specs.declared.Unit.{Unit}
 use Rattle.catalogue.specs.declared.Unit.the-variants.{Other, Percent, Celsius, Volt, Ampere, Hertz}
 use Rattle.catalogue.specs.declared.scale.Steps.{Steps}

@@ -7,7 +7,7 @@ use Prim.Native.Nat.{ℕ, zero, suc, _+_, _-_, _/_, _%_, _^_, _≤_, _<_}
 use native.Mathlib.Nat.{le-of-suc-le-suc, not-suc-le-zero, mod-lt}
 use native.Mathlib.Omega.{arith}
 use borrow.Author.Tests.{eqb-true, eqb-false, ltb-true, ltb-false}
-use lib.IntN.{pos, negsuc}
+use lib.IntN.{pos, _+ℤ_}
 use lib.Arith.{lt-of-le-ne}
 use lib.ListN.{length, List·getD-eq-default}
 use Rattle.words.specs.Words.{if_then_else_, given_then_, _<?_, _≤?_, _=?_, _and_, Told, refused, gives}
@@ -21,7 +21,7 @@ use Rattle.catalogue.specs.Table.{nth, noRow, liesInFrame, rowAt}
 use Rattle.catalogue.specs.Field.{fieldOf}
 use Rattle.catalogue.specs.Classes.{greatestCode, hasTwoStates, errorCode, isError, classIn, belowGreatest, _is_}
 use Rattle.catalogue.specs.Scale.{scaledOf, valueAs, valueOf, stepsOf, bySteps, celsiusSteps, ampereSteps}
-use Rattle.catalogue.specs.Codes.{codeWhere, classCode, steppedCode, scaledCode, codeOf}
+use Rattle.catalogue.specs.Codes.{codeWhere, classCode, fromZero, steppedCode, scaledCode, codeOf}
 use Rattle.catalogue.specs.Catalogue.{fieldIn, matching, openedFor, readRowOf, scaledRowOf, writtenRowOf}
 use Rattle.catalogue.specs.Catalogue.{replaced}
 use Rattle.catalogue.specs.Laws as Laws
@@ -241,15 +241,19 @@ module _ (row : Row) where
       past (not (l % step =? 0)) _ _
       (λ p q. past (2 ^ row .width ≤? l / step) _ _ (where-same Class.Number (l / step)) p q) p q
 
+  lifted-same : (step : ℕ) (lifted : Told ℕ)
+      → NotError (given lifted then λ n. steppedCode row step n)
+      → NotError (given lifted then λ n. steppedCode (unmarked row) step n)
+      → (given lifted then λ n. steppedCode row step n) ≡ (given lifted then λ n. steppedCode (unmarked row) step n)
+  lifted-same step (refused k) p q = refl
+  lifted-same step (gives n) p q = stepped-same step n p q
+
   code-same : (value : Value) → NotError (codeOf row value) → NotError (codeOf (unmarked row) value)
       → codeOf row value ≡ codeOf (unmarked row) value
   unfolding codeOf scaledCode
-  code-same (Scaled (pos n)) p q =
+  code-same (Scaled value) p q =
       let s = stepsOf (row .unit) (row .width) in
-      stepped-same (s .step) (s .offset + n) p q
-  code-same (Scaled (negsuc n)) p q =
-      let s = stepsOf (row .unit) (row .width) in
-      past (s .offset ≤? n) _ _ (stepped-same (s .step) (s .offset - (n + 1))) p q
+      lifted-same (s .step) (fromZero (value +ℤ pos (s .offset))) p q
   code-same NoData p q = class-same Class.NoData p q
   code-same OutOfRange p q = class-same Class.OutOfRange p q
   code-same Reserved p q = class-same Class.Reserved p q

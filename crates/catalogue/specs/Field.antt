@@ -8,7 +8,7 @@ fieldOf first width number = number / 2 ^ first % 2 ^ width
 
 -- the number with another code in the field: the old one taken out, the new one put in
 unfoldable pub withField : ℕ → ℕ → ℕ → ℕ → ℕ
-withField first width code number = number - number / 2 ^ first % 2 ^ width * 2 ^ first + code * 2 ^ first
+withField first width code number = number - fieldOf first width number * 2 ^ first + code * 2 ^ first
 
 -- the greatest width, and the bits of a frame
 abbrev pub widest : ℕ

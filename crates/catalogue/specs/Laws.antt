@@ -8,11 +8,12 @@ use Prim.Native.Nat.{ℕ, _+_, _*_, _-_, _^_, _≤_, _<_}
 use lib.IntN.{pos, negsuc}
 use lib.ListN.{length, getD}
 use Rattle.words.specs.Words.{if_then_else_, _<?_, _=?_, _or_, refused, gives}
+use Rattle.words.specs.Lists.{count}
 use Rattle.frame.specs.Bytes.{numberOf, AreBytes}
 use Rattle.frame.specs.Frame.{checkedOf, frameBytes}
 use Rattle.frame.specs.declared.Parts.{Parts}
 use Rattle.catalogue.specs.Rows.{rows, rowCount}
-use Rattle.catalogue.specs.Table.{nth, rowIn, howMany, spanIn, rowWith, liesInFrame, KeepsRule}
+use Rattle.catalogue.specs.Table.{nth, rowIn, spanIn, rowWith, liesInFrame, KeepsRule}
 use Rattle.catalogue.specs.Table.{rowAt, rowOf, spanOf}
 use Rattle.catalogue.specs.Packed.{packedRows, tableRows, tableRow, tableRowWith, tableSpan}
 use Rattle.catalogue.specs.Field.{fieldOf, InFrame}
@@ -406,7 +407,7 @@ TwoStateRows =
     (n : ℕ) → n < rowCount → rowAt n .«two_state» ≡ true → (rowAt n .width ≡ 2) × (rowAt n .plain ≡ false)
 
 abbrev pub TwoStateCount : Type 0
-TwoStateCount = howMany (λ r. r .«two_state») rows ≡ 114
+TwoStateCount = count (λ r. r .«two_state») rows ≡ 114
 
 abbrev pub NoThirdState : Type 0
 NoThirdState =

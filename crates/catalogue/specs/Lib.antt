@@ -8,4 +8,5 @@ pub mod Scale
 pub mod Codes
 pub mod Catalogue
 pub mod Promises
+pub mod Private
 pub mod Laws

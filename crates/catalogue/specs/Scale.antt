@@ -1,7 +1,7 @@
 -- Scaled values (RULES 7.5 and 7.6; 000, 5.3): signed whole numbers of a step. Percent in halves, °C in 1/32, volts and
 -- amperes in 1/20, hertz in 1/128; other rows give the code.
 use Prim.Native.Nat.{ℕ}
-use lib.IntN.{ℤ, pos, negsuc, _-ℤ_, _*ℤ_}
+use lib.IntN.{ℤ, pos, _-ℤ_, _*ℤ_}
 use Rattle.words.specs.Words.{if_then_else_, _=?_}
 use Rattle.catalogue.specs.declared.Row.{Row}
 use Rattle.catalogue.specs.declared.Unit.{Unit}
@@ -12,8 +12,6 @@ use Rattle.catalogue.specs.declared.Field.{Field}
 use Rattle.catalogue.specs.declared.Value.{Value}
 use Rattle.catalogue.specs.declared.Value.the-variants as Value
 use Rattle.catalogue.specs.declared.scale.Steps.{Steps}
-use Rattle.catalogue.specs.declared.scale.Sign.{Sign}
-use Rattle.catalogue.specs.declared.scale.Sign.the-variants.{From, Below}
 
 -- the scaled value of a number, by unit and width
 unfoldable pub scaledOf : Unit → ℕ → ℕ → ℤ
@@ -37,7 +35,7 @@ valueAs Class.Reserved scaled = Value.Reserved
 unfoldable pub valueOf : Row → Field → Value
 valueOf row field = valueAs (field .class) (scaledOf (row .unit) (row .width) (field .code))
 
--- the same scales as a step and an offset: the scaled value is step times code, less the offset
+-- The same scales as a step and an offset: the scaled value is step times code, less the offset.
 
 abbrev pub bySteps : ℕ → ℕ → Steps
 bySteps step offset = record { step = step; offset = offset }
@@ -58,7 +56,3 @@ stepsOf Percent width = bySteps 1 0
 stepsOf Volt width = bySteps 1 0
 stepsOf Hertz width = bySteps 1 0
 stepsOf Other width = bySteps 1 0
-
-abbrev pub signOf : ℤ → Sign
-signOf (pos n) = From n
-signOf (negsuc n) = Below n

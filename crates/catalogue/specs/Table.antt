@@ -6,6 +6,7 @@ use mathlib.Core.List.{List, [], _∷_}
 use Prim.Native.Nat.{ℕ, _+_, _*_}
 use lib.ListN.{length, getD}
 use Rattle.words.specs.Words.{if_then_else_, _and_, _<?_, _≤?_, _=?_, Told, refused, gives}
+use Rattle.words.specs.Lists.{count}
 use Rattle.catalogue.specs.Rows.{row, rows, classed}
 use Rattle.catalogue.specs.Field.{widest, frameBits}
 use Rattle.catalogue.specs.declared.Row.{Row}
@@ -23,17 +24,12 @@ nth list n = getD list n noRow
 unfoldable pub rowIn : List Row → ℕ → Told Row
 rowIn list n = if n <? length list then gives (nth list n) else refused 11
 
--- how many rows pass a test
-abbrev pub howMany : (Row → Bool) → List Row → ℕ
-howMany f [] = 0
-howMany f (r ∷ rs) = (if f r then 1 else 0) + howMany f rs
-
 -- how many rows have a lower DGN, and how many have this one
 unfoldable pub below : List Row → ℕ → ℕ
-below list dgn = howMany (λ r. r .dgn <? dgn) list
+below list dgn = count (λ r. r .dgn <? dgn) list
 
 unfoldable pub having : List Row → ℕ → ℕ
-having list dgn = howMany (λ r. r .dgn =? dgn) list
+having list dgn = count (λ r. r .dgn =? dgn) list
 
 -- the rows of a DGN begin after all that have a lower one
 abbrev pub spanIn : List Row → ℕ → Span

@@ -5,7 +5,7 @@ use lib.ListN.{length}
 use Rattle.catalogue.specs.declared.Writing.the-variants.{BadFrame, NoSuchRow, NoCode}
 use Rattle.catalogue.specs.Promises.{toldOutcome}
 use Rattle.catalogue.specs.Catalogue.{replaced}
-use Rattle.catalogue.specs.Codes.{toldCoded}
+use Rattle.catalogue.specs.Private.{toldCoded}
 use Rattle.catalogue.specs.Field.{withField}
 use Rattle.frame.specs.Promises.{refusalOf}
 use Rattle.frame.specs.Frame.{frameBytes}

@@ -6,8 +6,8 @@ use borrow.Author.Needs.{needs}
 use mir.ValLaws.{toZ-ofZ}
 use mir.Syntax.{w64}
 use Rattle.catalogue.specs.declared.scale.Sign.the-variants.{From, Below}
-use Rattle.catalogue.specs.Codes.{scaledCode}
-use Rattle.catalogue.specs.Scale.{signOf}
+use Rattle.catalogue.specs.Private.{signOf}
+use Rattle.catalogue.proofs.Codes.{scaled-raised}
 use Rattle.catalogue.proofs.Scales.{steps-small, from-small}
 use Rattle.catalogue.proofs.scale.scaled_code.Statement.{statement}
 use Rattle.catalogue.proofs.scale.scaled_code.Tie as tie
@@ -40,13 +40,12 @@ enum-known-sign-2 : tie.Need-enum-known-sign-2
 enum-known-sign-2 c = search needs
 
 returns : tie.Need-returns
-unfolding scaledCode
 returns c =
     let s = c .before .before .before .before .before .before .before in
     let a = s .args in
     let n = c .before .before .before .sign2 .given .0 .0 in
     let e : signOf (a .value) ≡ Below n = ap signOf (sym (toZ-ofZ w64 (a .value) (s .fits .value))) ∙ sym (c .before .before .before .before .before .sign-of .ensures) ∙ c .before .before .before .sign2 .given .1 in
-    rw (e, ← (c .before .before .before .before .before .before .steps-of .ensures), le-leb _ _ (c .if1 .taken))
+    rw (scaled-raised (a .row) (a .value), e, ← (c .before .before .before .before .before .before .steps-of .ensures), le-leb _ _ (c .if1 .taken))
 
 add-stepped-code-2 : tie.Need-add-stepped-code-2
 add-stepped-code-2 c = search needs
@@ -60,22 +59,20 @@ stepped-code-requires-2 c κs =
     (s .pre, rw (c .before .before .before .before .before .before .before .steps-of .ensures) (steps-small (s .args .row .unit) (s .args .row .width) .some))
 
 returns-2 : tie.Need-returns-2
-unfolding scaledCode
 returns-2 c =
     let s = c .before .before .before .before .before .before .before in
     let a = s .args in
     let n = c .before .before .before .sign .given .0 .0 in
     let e : signOf (a .value) ≡ From n = ap signOf (sym (toZ-ofZ w64 (a .value) (s .fits .value))) ∙ sym (c .before .before .before .before .before .sign-of .ensures) ∙ c .before .before .before .sign .given .1 in
-    rw (e, ← (c .before .before .before .before .before .before .steps-of .ensures)) (c .stepped-code .ensures)
+    rw (scaled-raised (a .row) (a .value), e, ← (c .before .before .before .before .before .before .steps-of .ensures)) (c .stepped-code .ensures)
 
 returns-3 : tie.Need-returns-3
-unfolding scaledCode
 returns-3 c =
     let s = c .before .before .before .before .before .before .before .before .before in
     let a = s .args in
     let n = c .before .before .before .before .before .sign2 .given .0 .0 in
     let e : signOf (a .value) ≡ Below n = ap signOf (sym (toZ-ofZ w64 (a .value) (s .fits .value))) ∙ sym (c .before .before .before .before .before .before .before .sign-of .ensures) ∙ c .before .before .before .before .before .sign2 .given .1 in
-    rw (e, ← (c .before .before .before .before .before .before .before .before .steps-of .ensures), lt-leb _ _ (c .before .before .if1 .left)) (c .stepped-code2 .ensures)
+    rw (scaled-raised (a .row) (a .value), e, ← (c .before .before .before .before .before .before .before .before .steps-of .ensures), lt-leb _ _ (c .before .before .if1 .left)) (c .stepped-code2 .ensures)
 
 pub scaled-code-spec : {M : Type 1} → statement M
 scaled-code-spec =

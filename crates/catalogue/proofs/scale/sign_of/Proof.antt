@@ -8,7 +8,7 @@ use mir.ValLaws.{toZ-ofZ}
 use mir.Val.{Fits, SFits}
 use mir.Syntax.{w64}
 use Rattle.catalogue.specs.declared.scale.Sign.the-variants.{From}
-use Rattle.catalogue.specs.Scale.{signOf}
+use Rattle.catalogue.specs.Private.{signOf}
 use Rattle.catalogue.proofs.Scales.{is-below, is-from, flip}
 use Rattle.catalogue.proofs.scale.sign_of.Statement.{statement}
 use Rattle.catalogue.proofs.scale.sign_of.Tie as tie
