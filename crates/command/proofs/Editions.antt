@@ -11,7 +11,7 @@ use borrow.Author.Tests.{eq-eqb, eqb-true, eqb-false, leb-true}
 use lib.ListN.{length, take, getD}
 use lib.Seq.{getD-take, length-take-le}
 use Rattle.words.specs.Words.{if_then_else_, _≤?_, _<?_, _=?_, _and_, _or_, Told, refused, gives, given_then_}
-use Rattle.words.specs.Lists.{any, every}
+use Rattle.words.specs.Lists.{any, every, noTwo}
 use Rattle.frame.specs.Bytes.{numberOf, bytesOf}
 use Rattle.frame.specs.Identifier.{identifierOf, greatestDgn, priorityOf, reservedOf, dgnOf, sourceOf, partsOf, isAddressed, destinationOf, catalogueForm}
 use Rattle.frame.specs.Frame.{sourceAllowed, checkedOf}
@@ -22,7 +22,7 @@ use Rattle.words.proofs.Lists.{every-at}
 use Rattle.claim.specs.Claim.{keepsRules, holdsList, Stand, held, claiming, silent, standOf}
 use Rattle.claim.specs.Promises.{done}
 use Rattle.claim.specs.declared.Claim.{Claim}
-use Rattle.command.specs.Hosted.{mostEntries, blankEntry, isHostedDgn, isEntry, isSamePair, noPairRepeats, hosted, isWellFormed}
+use Rattle.command.specs.Hosted.{mostEntries, blankEntry, isHostedDgn, isEntry, isSamePair, hosted, isWellFormed}
 use Rattle.command.specs.Positions.{positionsWhere, filled, listed}
 use Rattle.command.specs.Handed.{handedIn, addressHeld}
 use Rattle.command.specs.Commands.{routeOf, routedOf}
@@ -473,7 +473,7 @@ hosted-instance : (run : Run) → Ran run → (k : ℕ) → k < run .count
 unfolding isWellFormed
 hosted-instance run ran k l =
     let a = both-true (run .count ≤? mostEntries) _ (well run ran) in
-    let b = both-true (every isEntry (listOf run)) (noPairRepeats (listOf run)) (a .1) in
+    let b = both-true (every isEntry (listOf run)) (noTwo isSamePair (listOf run)) (a .1) in
     let m : k < length (listOf run) = rw (long run ran) l in
     rw (entry-given run ran k l) at
     (entry-instance (entryAt (listOf run) k) (every-at isEntry (listOf run) k blankEntry m (b .0)))
@@ -623,7 +623,7 @@ one-as-before id bytes h c r p o = rw (former-requested id bytes h c o) at p
 -- 001's example
 
 pub heat-pump-example : the.HeatPumpExample
-unfolding requestedOf answerOf replyOf statusOf handedIn isWellFormed isEntry isHostedDgn noPairRepeats isSamePair isOurs isOurAddress supports instanceAsked requestedDgn dgnAt addressHeld positionsWhere acknowledgmentId acknowledgmentBytes checkedOf sourceAllowed identifierOf priorityOf reservedOf dgnOf sourceOf catalogueForm destinationOf isAddressed numberOf bytesOf
+unfolding requestedOf answerOf replyOf statusOf handedIn isWellFormed isEntry isHostedDgn isSamePair isOurs isOurAddress supports instanceAsked requestedDgn dgnAt addressHeld positionsWhere acknowledgmentId acknowledgmentBytes checkedOf sourceAllowed identifierOf priorityOf reservedOf dgnOf sourceOf catalogueForm destinationOf isAddressed numberOf bytesOf
 heat-pump-example c s e =
     let b = both-true (keepsRules c) (holdsList c) s in
     record {

@@ -10,7 +10,7 @@ use borrow.Author.Tests.{ne-eqb, eqb-true}
 use lib.ListN.{length, take, getD, replicate}
 use lib.Seq.{take-at, length-take-le, getD-take}
 use Rattle.words.specs.Words.{if_then_else_, _≤?_, _=?_, _and_, Told, refused, gives, given_then_}
-use Rattle.words.specs.Lists.{any, every}
+use Rattle.words.specs.Lists.{any, every, noTwo}
 use Rattle.frame.specs.Identifier.{greatestDgn, destinationOf, catalogueForm}
 use Rattle.frame.specs.Frame.{checkedOf}
 use Rattle.frame.specs.Standard.{Frame, dgnAt}
@@ -22,7 +22,7 @@ use Rattle.frame.proofs.Laws as frame-laws
 use Rattle.claim.specs.Claim.{keepsRules, holdsList, standOf}
 use Rattle.claim.specs.Promises.{Done, done}
 use Rattle.claim.specs.declared.Claim.{Claim}
-use Rattle.command.specs.Hosted.{mostEntries, blankEntry, isHostedDgn, isEntry, noPairRepeats, hosted, isWellFormed, begun}
+use Rattle.command.specs.Hosted.{mostEntries, blankEntry, isHostedDgn, isEntry, isSamePair, hosted, isWellFormed, begun}
 use Rattle.command.specs.Handed.{handedIn}
 use Rattle.command.specs.Commands as Commands
 use Rattle.command.specs.Commands.{hasCommand, isElsewhere, Outcome, picks, routeOf, routedOf}
@@ -310,7 +310,7 @@ priority-ignored id id′ bytes h c l l′ e =
 
 pub well-same : (h h′ : Host) → h .count ≡ h′ .count → hosted h ≡ hosted h′ → isWellFormed h ≡ isWellFormed h′
 unfolding isWellFormed
-well-same h h′ n e = λ i. (n i ≤? mostEntries) and every isEntry (e i) and noPairRepeats (e i)
+well-same h h′ n e = λ i. (n i ≤? mostEntries) and every isEntry (e i) and noTwo isSamePair (e i)
 
 pub past-count-ignored : the.PastCountIgnored
 unfolding handedIn routedOf requestedOf

@@ -1,4 +1,3 @@
-pub mod Lists
 pub mod Picks
 pub mod Handing
 pub mod Answers

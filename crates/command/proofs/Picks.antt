@@ -16,7 +16,7 @@ use Rattle.command.specs.Positions.{positionsFrom, positionsWhere, fille
 use Rattle.command.specs.Private.{added}
 use Rattle.command.specs.declared.Entry.{Entry}
 use Rattle.command.specs.declared.Positions.{Positions}
-use Rattle.command.proofs.Lists.{replicate-cons}
+use Rattle.words.proofs.Lists.{replicate-cons}
 
 module _ (f : Entry → Bool) where
   -- one entry more at the end
@@ -46,7 +46,7 @@ added-filled i ps h =
     let p : 0 < mostEntries - length ps = omega arith in
     let k : length (ps ++ (i ∷ [])) ≡ length ps + 1 = simp length-append in
     let m : mostEntries - length ps - 1 ≡ mostEntries - (length ps + 1) = omega arith in
-    rw (k, replicate-cons {A = ℕ} (mostEntries - length ps) 0 p, m, set-at ps 0 (replicate (mostEntries - (length ps + 1)) 0) i (length ps) refl)
+    rw (k, replicate-cons {P = ℕ} (mostEntries - length ps) 0 p, m, set-at ps 0 (replicate (mostEntries - (length ps + 1)) 0) i (length ps) refl)
     (ap (λ (l : List ℕ). record { at = l; count = length ps + 1 }) (sym (append-assoc ps (i ∷ []) (replicate (mostEntries - (length ps + 1)) 0))))
 
 -- a turn of the loop that collects

@@ -9,14 +9,14 @@ use native.Mathlib.Omega.{arith}
 use borrow.Author.Tests.{eq-eqb, ne-eqb, eqb-true}
 use lib.ListN.{length, getD}
 use Rattle.words.specs.Words.{if_then_else_, _≤?_, _=?_, _and_, _or_, Told, refused, gives, given_then_}
-use Rattle.words.specs.Lists.{any, every}
+use Rattle.words.specs.Lists.{any, every, noTwo}
 use Rattle.frame.specs.Identifier.{dgnOf, catalogueForm}
 use Rattle.frame.specs.Promises.{destined}
 use Rattle.frame.specs.declared.Parts.{Parts}
 use Rattle.words.proofs.Words.{by-test, both-true, true-false}
 use Rattle.frame.proofs.Frame.{checked-given}
 use Rattle.claim.specs.Claim.{Stand, standOf}
-use Rattle.command.specs.Hosted.{mostEntries, isEntry, isSamePair, noPairRepeats, hosted, isWellFormed}
+use Rattle.command.specs.Hosted.{mostEntries, isEntry, isSamePair, hosted, isWellFormed}
 use Rattle.command.specs.Positions.{positionsFrom, positionsWhere, filled}
 use Rattle.command.specs.Handed.{handedIn, addressHeld}
 use Rattle.command.specs.Commands.{hasCommand, isNamed, isMeant, isElsewhere, nothingToDo, picks, routeOf, routedOf}
@@ -175,12 +175,11 @@ same-meant : (dgn instance : ℕ) (x e : Entry) → Meant dgn instance x → Mea
 unfolding isSamePair
 same-meant dgn instance x e m n = rw (eq-eqb (x .command) (e .command) (m .0 ∙ sym (n .0)), eq-eqb (x .instance) (e .instance) (m .1 ∙ sym (n .1)))
 
-one-from : (dgn instance i : ℕ) (es : List Entry) → (instance ≡ 0 → ⊥) → noPairRepeats es ≡ true
+one-from : (dgn instance i : ℕ) (es : List Entry) → (instance ≡ 0 → ⊥) → noTwo isSamePair es ≡ true
     → length (positionsFrom i (isMeant dgn instance) es) ≤ 1
-unfolding noPairRepeats
 one-from dgn instance i [] n e = omega arith
 one-from dgn instance i (x ∷ es) n e =
-    let b = both-true (not (any (isSamePair x) es)) (noPairRepeats es) e in
+    let b = both-true (not (any (isSamePair x) es)) (noTwo isSamePair es) e in
     by-test (isMeant dgn instance x)
     (λ t.
     let m = meant-by dgn instance x n t in
@@ -196,8 +195,8 @@ one-from dgn instance i (x ∷ es) n e =
 pub instance-picks-one : InstancePicksOne
 unfolding isWellFormed positionsWhere
 instance-picks-one dgn instance h w n =
-    let a = both-true (h .count ≤? mostEntries) (every isEntry (hosted h) and noPairRepeats (hosted h)) w in
-    let b = both-true (every isEntry (hosted h)) (noPairRepeats (hosted h)) (a .1) in
+    let a = both-true (h .count ≤? mostEntries) (every isEntry (hosted h) and noTwo isSamePair (hosted h)) w in
+    let b = both-true (every isEntry (hosted h)) (noTwo isSamePair (hosted h)) (a .1) in
     one-from dgn instance 0 (hosted h) n (b .1)
 
 -- zero for a DGN without a mark

@@ -1,10 +1,10 @@
 -- The hosted list: the devices that a node answers for (RULES 10.1 to 10.3; 000, 3.2.4.1 on instances).
-use mathlib.Core.Bool.{Bool, true, false, not}
-use mathlib.Core.List.{List, [], _∷_, _++_}
+use mathlib.Core.Bool.{Bool, false}
+use mathlib.Core.List.{List, _++_}
 use Prim.Native.Nat.{ℕ, _-_}
 use lib.ListN.{take, replicate}
 use Rattle.words.specs.Words.{_≤?_, _=?_, _and_}
-use Rattle.words.specs.Lists.{any, every}
+use Rattle.words.specs.Lists.{every, noTwo}
 use Rattle.frame.specs.Identifier.{greatestDgn, catalogueForm}
 use Rattle.command.specs.declared.Edition.{Edition}
 use Rattle.command.specs.declared.Entry.{Entry}
@@ -34,17 +34,13 @@ isEntry e =
 unfoldable pub isSamePair : Entry → Entry → Bool
 isSamePair e f = (e .command =? f .command) and (e .instance =? f .instance)
 
-unfoldable pub noPairRepeats : List Entry → Bool
-noPairRepeats [] = true
-noPairRepeats (e ∷ es) = not (any (isSamePair e) es) and noPairRepeats es
-
 -- the entries that a host has; what its array holds after them is not looked at
 abbrev pub hosted : Host → List Entry
 hosted h = take (h .count) (h .entries)
 
 -- any other list is malformed, and refused with 16
 unfoldable pub isWellFormed : Host → Bool
-isWellFormed h = (h .count ≤? mostEntries) and every isEntry (hosted h) and noPairRepeats (hosted h)
+isWellFormed h = (h .count ≤? mostEntries) and every isEntry (hosted h) and noTwo isSamePair (hosted h)
 
 -- an entry of zeros
 abbrev pub blankEntry : Entry

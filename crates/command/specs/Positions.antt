@@ -1,10 +1,11 @@
 -- Positions in the hosted list: which entries pass a test, in rising order (RULES 10.6 and 10.18). Commands and
 -- requests both give them, each by a test of its own.
 use mathlib.Core.Bool.{Bool}
-use mathlib.Core.List.{List, [], _∷_, _++_}
-use Prim.Native.Nat.{ℕ, suc, _-_}
-use lib.ListN.{length, take, replicate}
+use mathlib.Core.List.{List, [], _∷_}
+use Prim.Native.Nat.{ℕ, suc}
+use lib.ListN.{length, take}
 use Rattle.words.specs.Words.{if_then_else_}
+use Rattle.words.specs.Lists.{filledTo}
 use Rattle.command.specs.Hosted.{mostEntries}
 use Rattle.command.specs.declared.Entry.{Entry}
 use Rattle.command.specs.declared.Positions.{Positions}
@@ -21,7 +22,7 @@ positionsWhere passes es = positionsFrom 0 passes es
 
 -- positions as they are handed out: filled up with zeros
 unfoldable pub filled : List ℕ → Positions
-filled ps = record { at = ps ++ replicate (mostEntries - length ps) 0; count = length ps }
+filled ps = record { at = filledTo mostEntries 0 ps; count = length ps }
 
 -- and read again
 abbrev pub listed : Positions → List ℕ

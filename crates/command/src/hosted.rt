@@ -7,8 +7,8 @@ use frame::standard;
 ghost use mathlib.Core.Path.{_≡_};
 ghost use Prim.Native.Nat.{_+_, _<_, _≤_};
 ghost use lib.ListN.{drop, getD};
-ghost use Rattle.words.specs.Lists.{any, every};
-ghost use Rattle.command.specs.Hosted.{isHostedDgn, isEntry, isSamePair, noPairRepeats, hosted, isWellFormed, blankEntry, begun, empty};
+ghost use Rattle.words.specs.Lists.{any, every, noTwo};
+ghost use Rattle.command.specs.Hosted.{isHostedDgn, isEntry, isSamePair, hosted, isWellFormed, blankEntry, begun, empty};
 
 // An instance is 1 to 250.
 const LOWEST_INSTANCE: u8 = 1;
@@ -68,7 +68,7 @@ fn is_hosted_dgn(dgn: u32) -> bool
 
 fn no_pair_repeats(host: Host) -> bool
     requires { ⌜ host .count ≤ 16 ⌝ }
-    ensures { λ r. ⌜ r ≡ noPairRepeats (hosted host) ⌝ }
+    ensures { λ r. ⌜ r ≡ noTwo isSamePair (hosted host) ⌝ }
 {
     let mut i: usize = 0;
     while i < host.count {

@@ -25,7 +25,7 @@ use Rattle.claim.specs.Claim.{keepsRules as claimKeepsRules, Stand, held, claim
 use Rattle.claim.specs.Promises.{soundOf}
 use Rattle.claim.specs.declared.Claim.{Claim}
 use Rattle.command.specs.Handed.{addressHeld, handedIn}
-use Rattle.command.specs.Hosted.{noPairRepeats, hosted, isWellFormed}
+use Rattle.command.specs.Hosted.{hosted, isWellFormed}
 use Rattle.command.specs.Requests as Hosting
 use Rattle.command.specs.Requests.{instanceAsked, requestedDgn, askedOf, isOurs, isOurAddress, supports, statusOf, replyOf, answerOf, requestedOf as hostRequestedOf}
 use Rattle.command.specs.declared.Host.{Host}
@@ -254,5 +254,5 @@ unfolding keepsRules addedOf addedAt isAllowed isZero placeKeepsRules numberOf p
 step-example = refl
 
 pub host-alone : the.HostAlone
-unfolding requestedOf heardOf meantBy answerAt isForUs replyBytes keepsRules placeKeepsRules isZero numberOf standing soundOf claimKeepsRules holdsList isWellFormedList areAddresses isAbsent areDistinct padded standOf addressHeld checkedOf sourceAllowed reservedOf dgnOf sourceOf priorityOf isAddressed catalogueForm destinationOf dgnAt hostRequestedOf handedIn answerOf replyOf isOurs isOurAddress statusOf supports isWellFormed noPairRepeats requestedDgn instanceAsked
+unfolding requestedOf heardOf meantBy answerAt isForUs replyBytes keepsRules placeKeepsRules isZero numberOf standing soundOf claimKeepsRules holdsList isWellFormedList areAddresses isAbsent areDistinct padded standOf addressHeld checkedOf sourceAllowed reservedOf dgnOf sourceOf priorityOf isAddressed catalogueForm destinationOf dgnAt hostRequestedOf handedIn answerOf replyOf isOurs isOurAddress statusOf supports isWellFormed requestedDgn instanceAsked
 host-alone = record { refuses = refl; sender-answers = refl }

@@ -207,7 +207,7 @@ module _ {P : Type 0} where
 
   -- the loop that fills up
 
-  replicate-cons : (n : ℕ) (p : P) → 0 < n → replicate n p ≡ p ∷ replicate (n - 1) p
+  pub replicate-cons : (n : ℕ) (p : P) → 0 < n → replicate n p ≡ p ∷ replicate (n - 1) p
   replicate-cons zero p h = absurd (omega arith)
   replicate-cons (suc n) p h = let e : suc n - 1 ≡ n = omega arith in rw e
 

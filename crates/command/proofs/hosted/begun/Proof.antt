@@ -6,9 +6,8 @@ use native.Mathlib.Omega.{arith}
 use borrow.Author.Needs.{needs}
 use lib.ListN.{length-set, length, take, replicate}
 use Rattle.command.specs.declared.Entry.{Entry}
-use Rattle.words.proofs.Lists.{length-field}
+use Rattle.words.proofs.Lists.{length-field, fill-turn}
 use Rattle.command.specs.Hosted.{blankEntry, begun}
-use Rattle.command.proofs.Lists.{fill-turn}
 use Rattle.command.proofs.hosted.begun.Statement.{statement}
 use Rattle.command.proofs.hosted.begun.Tie as tie
 

@@ -1,6 +1,6 @@
 -- `command::hosted::well_formed` meets its contract. Assumes nothing.
 use mathlib.Core.Path.{sym, _∙_}
-use borrow.Author.Tests.{not-true, not-false}
+use borrow.Author.Tests.{not-true, not-false, le-leb}
 use borrow.Author.Needs.{needs}
 use Rattle.words.proofs.Tests.{tests}
 use Rattle.command.specs.Hosted.{isWellFormed}
@@ -27,7 +27,7 @@ returns-3 : tie.Need-returns-3
 unfolding isWellFormed
 returns-3 c =
     let e = sym (c .before .before .are-entries .ensures) ∙ not-false _ (c .before .if2 .left) in
-    c .no-pair-repeats .ensures ∙ search (tests, e)
+    c .no-pair-repeats .ensures ∙ rw (le-leb _ _ (c .before .before .before .if1 .left), e)
 
 pub well-formed-spec : {M : Type 1} → statement M
 well-formed-spec =
