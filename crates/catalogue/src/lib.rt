@@ -1,10 +1,5 @@
 // The field catalogue of RV-C (RULES 6 and 7): its rows, a field's class and code, its scaled value, and a field
 // written.
-ghost use mathlib.Core.Path.{_≡_};
-ghost use Rattle.catalogue.specs.Table.{rowAt};
-ghost use Rattle.catalogue.specs.Catalogue.{matching};
-ghost use Rattle.catalogue.specs.Promises.{Rows, RowAt, RowsOf, RowOf, PackedRows, RowIn, RowsIn, RowOfIn, Classify, ReadField, ReadScaled, WriteField, ReadRow, ReadRowScaled, WriteRow, LookedRefusal, ReadingRefusal, ScaledReadingRefusal, WritingRefusal, Opens, toldOutcome};
-
 mod classes;
 pub mod dgns;
 mod fields;
@@ -12,6 +7,11 @@ pub mod names;
 mod packed;
 mod scale;
 mod table;
+
+ghost use mathlib.Core.Path.{_≡_};
+ghost use Rattle.catalogue.specs.Table.{rowAt};
+ghost use Rattle.catalogue.specs.Catalogue.{matching};
+ghost use Rattle.catalogue.specs.Promises.{Rows, RowAt, RowsOf, RowOf, PackedRows, RowIn, RowsIn, RowOfIn, Classify, ReadField, ReadScaled, WriteField, ReadRow, ReadRowScaled, WriteRow, LookedRefusal, ReadingRefusal, ScaledReadingRefusal, WritingRefusal, Opens, toldOutcome};
 
 // What a row's numbers count; `Other` is any unit that has no scale here, or none.
 pub enum Unit {
@@ -145,14 +145,14 @@ impl Writing {
     }
 }
 
-// How many rows the catalogue has.
+// How many rows the catalogue has: `row_at` gives those with a lower number.
 pub fn rows() -> usize
     ensures { λ r. ⌜ Rows r ⌝ }
 {
     packed::COUNT
 }
 
-// The row with this number, from 0.
+// The row with this number, from 0; refusal 11 where the catalogue has none. Hand the row to `read_row` or `write_row`.
 pub fn row_at(n: usize) -> Looked
     ensures { λ r. ⌜ RowAt n r ⌝ }
 {
@@ -160,7 +160,8 @@ pub fn row_at(n: usize) -> Looked
     row_in(&table, n)
 }
 
-// The rows of a DGN, as it stands in a frame.
+// The rows of a DGN, as it stands in a frame: the number of the first, and how many follow it; 0 rows where it has
+// none.
 pub fn rows_of(dgn: u32) -> Span
     ensures { λ r. ⌜ RowsOf dgn r ⌝ }
 {
@@ -168,7 +169,7 @@ pub fn rows_of(dgn: u32) -> Span
     rows_in(&table, dgn)
 }
 
-// The row of a DGN, as it stands in a frame, that begins at this bit.
+// The row of a DGN, as it stands in a frame, that begins at this bit; refusal 11 where there is none.
 pub fn row_of(dgn: u32, first: u8) -> Looked
     ensures { λ r. ⌜ RowOf dgn first r ⌝ }
 {
@@ -183,28 +184,31 @@ pub fn packed_rows() -> [u64; packed::COUNT]
     packed::ROWS
 }
 
-// The row of a table with this number, from 0.
+// The row of a table with this number, from 0; refusal 11 where the table has none, or one that lies in no frame.
 pub fn row_in(table: &[u64], n: usize) -> Looked
     ensures { λ r. ⌜ RowIn (now (table .entry)) n r ⌝ }
 {
     table::row_in(table, n)
 }
 
-// The rows of a DGN in a table, as it stands in a frame.
+// The rows of a DGN in a table, as it stands in a frame: the number of the first, and how many follow it. The table has
+// to be in order of its DGNs, as `packed_rows` is.
 pub fn rows_in(table: &[u64], dgn: u32) -> Span
     ensures { λ r. ⌜ RowsIn (now (table .entry)) dgn r ⌝ }
 {
     table::span_in(table, frame::catalogue_form(dgn))
 }
 
-// The row of a DGN in a table, as it stands in a frame, that begins at this bit.
+// The row of a DGN in a table, as it stands in a frame, that begins at this bit; refusal 11 where there is none, or one
+// that lies in no frame.
 pub fn row_of_in(table: &[u64], dgn: u32, first: u8) -> Looked
     ensures { λ r. ⌜ RowOfIn (now (table .entry)) dgn first r ⌝ }
 {
     table::row_with(table, frame::catalogue_form(dgn), first)
 }
 
-// A row's field in a frame whose eight bytes are this number.
+// A row's field, class and code, in a frame whose eight bytes are this number. It is not asked whether the row is one
+// of that frame's DGN: `read_row` asks.
 pub fn classify(row: Row, number: u64) -> Field
     ensures { λ r. ⌜ Classify row number r ⌝ }
 {
@@ -215,7 +219,8 @@ pub fn classify(row: Row, number: u64) -> Field
     }
 }
 
-// Reads a row's field from a frame.
+// Reads a row's field, class and code, from a frame. Refusals 3 to 6 of the frame; then 11 where the row is of another
+// DGN, or lies in no frame.
 pub fn read_row(row: Row, id: u32, bytes: &[u8]) -> Reading
     ensures { λ r. ⌜ ReadRow row id (now (bytes .entry)) r ⌝ }
 {
@@ -228,7 +233,8 @@ pub fn read_row(row: Row, id: u32, bytes: &[u8]) -> Reading
     }
 }
 
-// Reads a row's field from a frame as a scaled value.
+// Reads a row's field from a frame as a scaled value: a whole number of the unit's steps, or the class where the code
+// is no number. Refusals as of `read_row`.
 pub fn read_row_scaled(row: Row, id: u32, bytes: &[u8]) -> ScaledReading
     ensures { λ r. ⌜ ReadRowScaled row id (now (bytes .entry)) r ⌝ }
 {
@@ -241,7 +247,8 @@ pub fn read_row_scaled(row: Row, id: u32, bytes: &[u8]) -> ScaledReading
     }
 }
 
-// Writes a value into a row's field of a frame, and alters no other bit.
+// Writes a value into a row's field of a frame, and alters no other bit. Refusals 3 to 6 and 11 as of `read_row`, then
+// 12 where the value has no code in that row; a refusal alters no bit. What is written reads back as the same value.
 pub fn write_row(row: Row, id: u32, bytes: &mut [u8], value: Value) -> Writing
     ensures { λ r. ⌜ WriteRow row id (now (bytes .entry)) value r (now (bytes .exit)) ⌝ }
 {
@@ -263,21 +270,23 @@ pub fn write_row(row: Row, id: u32, bytes: &mut [u8], value: Value) -> Writing
     }
 }
 
-// Reads the field of the row with this number.
+// Reads the field of the catalogue's row with this number. Refusals 3 to 6; then 11 where there is no such row, or it
+// is of another DGN.
 pub fn read(n: usize, id: u32, bytes: &[u8]) -> Reading
     ensures { λ r. ⌜ ReadField n id (now (bytes .entry)) r ⌝ }
 {
     read_row(nth(n), id, bytes)
 }
 
-// Reads the field of the row with this number as a scaled value.
+// Reads the field of the catalogue's row with this number as a scaled value. Refusals as of `read`.
 pub fn read_scaled(n: usize, id: u32, bytes: &[u8]) -> ScaledReading
     ensures { λ r. ⌜ ReadScaled n id (now (bytes .entry)) r ⌝ }
 {
     read_row_scaled(nth(n), id, bytes)
 }
 
-// Writes a value into the field of the row with this number.
+// Writes a value into the field of the catalogue's row with this number, and alters no other bit. Refusals as of
+// `read`, then 12 where the value has no code; a refusal alters no bit.
 pub fn write(n: usize, id: u32, bytes: &mut [u8], value: Value) -> Writing
     ensures { λ r. ⌜ WriteField n id (now (bytes .entry)) value r (now (bytes .exit)) ⌝ }
 {

@@ -37,7 +37,10 @@ pub fn route(host: Host, address: Address, dgn: u32, instance: u8) -> Routed
 // A hosted command, heard at the address that we hold.
 fn picked(host: Host, address: u8, dgn: u32, instance: u8) -> Routed
     requires { ⌜ host .count ≤ 16 ⌝ }
-    ensures { λ r. ⌜ RoutedBy (if isElsewhere (destined dgn) address then gives nothingToDo else gives (picks (positionsWhere (isMeant (catalogueForm dgn) instance) (hosted host)))) r ⌝ }
+    ensures { λ r. ⌜
+        RoutedBy
+        (if isElsewhere (destined dgn) address then gives nothingToDo
+        else gives (picks (positionsWhere (isMeant (catalogueForm dgn) instance) (hosted host)))) r ⌝ }
 {
     if is_elsewhere(frame::destination_of(dgn), address) {
         return bare(Routing::NothingToDo);

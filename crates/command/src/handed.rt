@@ -44,7 +44,8 @@ pub fn hand_in(host: Host, claim: Claim, id: u32, bytes: &[u8]) -> Handed
 
 // A sound frame, beside the two lists.
 fn lists(host: Host, claim: Claim, parts: Parts, bytes: [u8; 8]) -> Handed
-    ensures { λ r. ⌜ HandedBy (if not (holdsList claim and isWellFormed host) then refused 16 else gives parts) bytes r ⌝ }
+    ensures { λ r. ⌜
+        HandedBy (if not (holdsList claim and isWellFormed host) then refused 16 else gives parts) bytes r ⌝ }
 {
     if !claim.holds_list() {
         return bare(Handing::ListMalformed);

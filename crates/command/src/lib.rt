@@ -1,11 +1,4 @@
 // Commands by instance, requests for a DGN, and their replies (RULES 10).
-use address::Address;
-use claim::Claim;
-use frame::BadFrame;
-use frame::standard;
-use handed::Handing;
-ghost use Rattle.command.specs.Promises.{Start, Route, Request, Acknowledge, StartingRefusal, RoutingRefusal, RequestingRefusal, AcknowledgingRefusal};
-
 mod acknowledgments;
 mod address;
 mod commands;
@@ -13,6 +6,13 @@ mod handed;
 mod hosted;
 mod picking;
 mod requests;
+
+use address::Address;
+use claim::Claim;
+use frame::BadFrame;
+use frame::standard;
+use handed::Handing;
+ghost use Rattle.command.specs.Promises.{Start, Route, Request, Acknowledge, StartingRefusal, RoutingRefusal, RequestingRefusal, AcknowledgingRefusal};
 
 // A hosted list has at most 16 entries.
 pub const ENTRIES: usize = 16;
@@ -197,7 +197,9 @@ impl Acknowledging {
 }
 
 impl Host {
-    // Hosts the first `count` entries; the host reads requests by this edition.
+    // Hosts the first `count` entries; the host reads requests by this edition. Refusal 16 where the list is malformed:
+    // then the host has no entry. Keep the host and hand it each frame, by `route` and by `request`; neither changes
+    // it.
     pub fn start(entries: [Entry; ENTRIES], count: usize, edition: Edition) -> Started
         ensures { λ r. ⌜ Start entries count edition r ⌝ }
     {
@@ -218,7 +220,9 @@ impl Host {
         }
     }
 
-    // Hears a frame: the entries that a command is for.
+    // Hears a frame as a command: which entries of the hosted list it is for, in rising order, perhaps none. Refusals
+    // 2, 3 to 6, 16, and 18 for a command of ours while no address is held. It changes nothing. Do what the command
+    // says, and answer with `acknowledge` where the sender is to know.
     pub fn route(self, claim: Claim, id: u32, bytes: &[u8]) -> Routed
         ensures { λ r. ⌜ Route id (now (bytes .entry)) self claim r ⌝ }
     {
@@ -235,7 +239,9 @@ impl Host {
         }
     }
 
-    // Hears a frame: the reply to a request.
+    // Hears a frame as a request for a DGN: our claim to send, the entries whose status to send, or a NAK to send; the
+    // frame stands beside the answer. Refusals 2, 3 to 6, 16, 17 where the DGN asked for has more than 17 bits, 18
+    // where no address is held. It changes nothing.
     pub fn request(self, claim: Claim, id: u32, bytes: &[u8]) -> Requested
         ensures { λ r. ⌜ Request id (now (bytes .entry)) self claim r ⌝ }
     {
@@ -251,7 +257,9 @@ impl Host {
     }
 }
 
-// Forms the acknowledgment of a command or request, from our address to the node that sent it.
+// Forms the acknowledgment of a command or request, from our address to the node that sent it; the frame to send stands
+// beside the answer. Refusals 2, 6 where the requester is no address, 16, 17 where the DGN has more than 17 bits, 18
+// where no address is held.
 pub fn acknowledge(claim: Claim, reply: Acknowledgment) -> Acknowledged
     ensures { λ r. ⌜ Acknowledge claim reply r ⌝ }
 {

@@ -134,8 +134,9 @@ pub record DemandTwo : Type 0 where
   pub dm-rv-table : FaultsFields.TableIsRows
   pub service-point-reads-back : FaultsFields.ServicePointReadsBack
   pub service-point-alone : FaultsFields.ServicePointAlone
-  -- the sender of faults, in every run of calls: each step sends the fault that has been due longest; a due fault waits for
-  -- at most 31 others, and 31 is reached; what is sent is what was added, never before it is due, never when cleared
+  -- the sender of faults, in every run of calls: each step sends the fault that has been due longest; a due fault waits
+  -- for at most 31 others, and 31 is reached; what is sent is what was added, never before it is due, never when
+  -- cleared
   pub longest-due : FaultsRuns.LongestDue
   pub fair : FaultsRuns.Fair
   pub sent-within : FaultsRuns.SentWithin

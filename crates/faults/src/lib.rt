@@ -1,5 +1,14 @@
 // Faults broadcast as DM_RV (RULES 14): the fields of a DM_RV, its service point number, and a sender of up to 32
 // active faults.
+pub mod names;
+mod place;
+mod requests;
+mod rows;
+mod rules;
+mod searches;
+mod sending;
+mod service_point;
+
 use catalogue::Looked;
 use catalogue::Reading;
 use catalogue::Row;
@@ -14,15 +23,6 @@ ghost use mathlib.Core.Path.{_≡_};
 ghost use Rattle.catalogue.specs.Table.{nth};
 ghost use Rattle.faults.specs.Rows.{rows};
 ghost use Rattle.faults.specs.Promises.{PackedRows, RowAt, ReadField, WriteField, ReadServicePoint, WriteServicePoint, Start, Add, Clear, Step, Request, Reply, ServicePointRefusal, AddingRefusal, ClearingRefusal, SteppingRefusal, RequestingRefusal};
-
-pub mod names;
-mod place;
-mod requests;
-mod rows;
-mod rules;
-mod searches;
-mod sending;
-mod service_point;
 
 // DM_RV.
 pub const DM_RV: u32 = 0x1FECA;
@@ -211,7 +211,7 @@ pub fn packed_rows() -> [u64; rows::COUNT]
     rows::ROWS
 }
 
-// The row of DM_RV with this number, from 0.
+// The row of DM_RV with this number, from 0, as `names` has them; refusal 11 where there is none.
 pub fn row_at(n: usize) -> Looked
     ensures { λ r. ⌜ RowAt n r ⌝ }
 {
@@ -219,21 +219,24 @@ pub fn row_at(n: usize) -> Looked
     catalogue::row_in(&table, n)
 }
 
-// Reads the field of the row with this number from a DM_RV.
+// Reads the field, class and code, of the row with this number from a DM_RV. Refusals 3 to 6 of the frame; then 11
+// where there is no such row, or the frame is no DM_RV.
 pub fn read(n: usize, id: u32, bytes: &[u8]) -> Reading
     ensures { λ r. ⌜ ReadField n id (now (bytes .entry)) r ⌝ }
 {
     catalogue::read_row(nth(n), id, bytes)
 }
 
-// Writes a value into the field of the row with this number, and alters no other bit.
+// Writes a value into the field of the row with this number of a DM_RV, and alters no other bit. Refusals as of `read`,
+// then 12 where the value has no code; a refusal alters no bit.
 pub fn write(n: usize, id: u32, bytes: &mut [u8], value: Value) -> Writing
     ensures { λ r. ⌜ WriteField n id (now (bytes .entry)) value r (now (bytes .exit)) ⌝ }
 {
     catalogue::write_row(nth(n), id, bytes, value)
 }
 
-// Reads the service point number of a DM_RV.
+// Reads the service point number of a DM_RV, 19 bits of three rows. Refusals 3 to 6, then 11 where the frame is no
+// DM_RV.
 pub fn read_service_point(id: u32, bytes: &[u8]) -> ServicePoint
     ensures { λ r. ⌜ ReadServicePoint id (now (bytes .entry)) r ⌝ }
 {
@@ -249,7 +252,8 @@ pub fn read_service_point(id: u32, bytes: &[u8]) -> ServicePoint
     }
 }
 
-// Writes a service point number into a DM_RV, and alters no other bit.
+// Writes a service point number into a DM_RV, and alters no other bit. Refusals as of `read_service_point`, then 12
+// where the number has more than 19 bits; a refusal alters no bit.
 pub fn write_service_point(id: u32, bytes: &mut [u8], number: u32) -> Writing
     ensures { λ r. ⌜ WriteServicePoint id (now (bytes .entry)) number r (now (bytes .exit)) ⌝ }
 {
@@ -262,7 +266,8 @@ pub fn write_service_point(id: u32, bytes: &mut [u8], number: u32) -> Writing
 }
 
 impl Sender {
-    // A sender with no active fault. Until one is added, it answers these bytes, with FFh in bytes 2 to 5.
+    // A sender with no active fault. Until one is added, it answers these bytes, with FFh in bytes 2 to 5. Call `step`
+    // every 50 ms from then on, and hand each frame to `reply`, or to `request` where there is no host.
     pub fn start(no_fault: [u8; 8]) -> Sender
         ensures { λ r. ⌜ Start «no_fault» r ⌝ }
     {
@@ -273,7 +278,8 @@ impl Sender {
     }
 
     // Makes a fault active, in the lowest empty place: the bytes of its DM_RV, and its period, 100 to 1,000 ms in
-    // multiples of 50. It is due from the next step on.
+    // multiples of 50. It is due from the next step on. Keep the place that is answered, for `clear`. Refusals 2, 20
+    // where all 32 places are taken, 21 where the period is another; they change nothing.
     pub fn add(self, bytes: [u8; 8], period: u16) -> Added
         ensures { λ r. ⌜ Add bytes period self r ⌝ }
     {
@@ -292,7 +298,8 @@ impl Sender {
         }
     }
 
-    // Ends the fault in a place, which is empty then.
+    // Ends the fault in a place, which is empty then. Refusals 2, and 22 where no fault is active there; they change
+    // nothing.
     pub fn clear(self, place: usize) -> Cleared
         ensures { λ r. ⌜ Clear place self r ⌝ }
     {
@@ -315,7 +322,8 @@ impl Sender {
     }
 
     // 50 ms have passed: of the faults that are due the one that waits longest, or the lowest of several places, is to
-    // be sent; it is due again a period later. A step that is refused is none: no time passes.
+    // be sent, and its frame stands beside the answer; it is due again a period later. Refusals 2, 16, 18. A step that
+    // is refused is none: no time passes.
     pub fn step(self, claim: Claim) -> Stepped
         ensures { λ r. ⌜ Step claim self r ⌝ }
     {
@@ -331,8 +339,9 @@ impl Sender {
         }
     }
 
-    // Hears a frame: a request for DM_RV gets the fault in the lowest active place, or the DM_RV of no fault. It
-    // changes nothing: no fault is due earlier or later.
+    // Hears a frame: a request for DM_RV gets the fault in the lowest active place, or the DM_RV of no fault; the frame
+    // to send stands beside the answer. Refusals 2, 3 to 6, 16, 17, 18. It changes nothing: no fault is due earlier or
+    // later.
     pub fn request(self, claim: Claim, id: u32, bytes: &[u8]) -> Requested
         ensures { λ r. ⌜ Request id (now (bytes .entry)) claim self r ⌝ }
     {
@@ -352,7 +361,8 @@ impl Sender {
     }
 
     // Hears a frame for a node that has a host too: a request for DM_RV is the sender's, and the host hears every frame
-    // in which the sender has nothing to do. Else the host would refuse on the bus what the sender answers.
+    // in which the sender has nothing to do. Else the host would refuse on the bus what the sender answers. Both
+    // answers stand side by side, with their refusals, as `request` of each has them; it changes nothing.
     pub fn reply(self, host: Host, claim: Claim, id: u32, bytes: &[u8]) -> Replied
         ensures { λ r. ⌜ Reply id (now (bytes .entry)) host claim self r ⌝ }
     {

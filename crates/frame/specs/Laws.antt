@@ -74,7 +74,9 @@ VerdictRefusalOnly = (answer : Verdict) (r s : ℕ) → VerdictRefusal answer r 
 
 -- A refusal gives nothing (RULES 2.4 and 2.6): the bytes beside it are zeros.
 abbrev pub RefusedKeeps : Type 0
-RefusedKeeps = (id : ℕ) (bytes : List ℕ) (r : Checked) (why : BadFrame) → Check id bytes r → r .verdict ≡ Bad why → r .bytes ≡ replicate frameBytes 0
+RefusedKeeps =
+    (id : ℕ) (bytes : List ℕ) (r : Checked) (why : BadFrame) → Check id bytes r → r .verdict ≡ Bad why
+    → r .bytes ≡ replicate frameBytes 0
 
 -- Taking apart what was formed gives the parts back.
 abbrev pub PartsBack : Type 0
@@ -92,8 +94,12 @@ pub record LowestWins (id size : ℕ) : Type 0 where
   pub three : identifiers ≤ id → checkedOf id size ≡ refused 3
   pub four : id < identifiers → (size ≡ frameBytes → ⊥) → checkedOf id size ≡ refused 4
   pub five : id < identifiers → size ≡ frameBytes → reservedOf id ≡ 1 → checkedOf id size ≡ refused 5
-  pub six : id < identifiers → size ≡ frameBytes → reservedOf id ≡ 0 → sourceAllowed (sourceOf id) (dgnOf id) ≡ false → checkedOf id size ≡ refused 6
-  pub sound : id < identifiers → size ≡ frameBytes → reservedOf id ≡ 0 → sourceAllowed (sourceOf id) (dgnOf id) ≡ true → checkedOf id size ≡ gives (partsOf id)
+  pub six :
+      id < identifiers → size ≡ frameBytes → reservedOf id ≡ 0 → sourceAllowed (sourceOf id) (dgnOf id) ≡ false
+      → checkedOf id size ≡ refused 6
+  pub sound :
+      id < identifiers → size ≡ frameBytes → reservedOf id ≡ 0 → sourceAllowed (sourceOf id) (dgnOf id) ≡ true
+      → checkedOf id size ≡ gives (partsOf id)
 
 -- The priority makes no difference (RULES 3.3): identifiers that differ only above bit 25 meet the same refusal, or
 -- have the same DGN and source.

@@ -1,13 +1,13 @@
 // Frames of the RV-C bus (RULES 3): the 29-bit identifier taken apart and formed, a frame checked by itself, and eight
 // bytes as one number.
+pub mod standard;
+
 ghost use mathlib.Core.Path.{_≡_};
 ghost use Prim.Native.Nat.{_<_, _%_};
 ghost use lib.ListN.{length};
 ghost use Rattle.frame.specs.Identifier.{reservedOf, partsOf};
 ghost use Rattle.frame.specs.Frame.{sourceAllowed, checkedOf};
 ghost use Rattle.frame.specs.Promises.{TakeApart, Form, Check, DestinationOf, CatalogueForm, NumberOf, BytesOf, DgnBytes, DgnOf, ApartRefusal, FormedRefusal, BadFrameRefusal, VerdictRefusal, toldVerdict};
-
-pub mod standard;
 
 // The parts of an identifier: bits 28-26, 24-8 and 7-0.
 pub struct Parts {
@@ -110,7 +110,8 @@ impl Verdict {
     }
 }
 
-// Takes an identifier apart.
+// Takes an identifier apart into priority, DGN and source. Refusal 3 where it has more than 29 bits, then 5 where the
+// reserved bit is set. The source is not judged: `check` does that.
 pub fn take_apart(id: u32) -> Apart
     ensures { λ r. ⌜ TakeApart id r ⌝ }
 {
@@ -123,7 +124,8 @@ pub fn take_apart(id: u32) -> Apart
     Apart::Into(parts_of(id))
 }
 
-// Forms an identifier from its parts; the reserved bit is 0.
+// Forms an identifier from its parts; the reserved bit is 0. Refusal 12 where the priority is above 7 or the DGN has
+// more than 17 bits.
 pub fn form(priority: u8, dgn: u32, source: u8) -> Formed
     ensures { λ r. ⌜ Form priority dgn source r ⌝ }
 {
@@ -136,7 +138,8 @@ pub fn form(priority: u8, dgn: u32, source: u8) -> Formed
     Formed::Identifier((priority as u32) * 0x4000000 + dgn * 256 + source as u32)
 }
 
-// Checks a frame by itself, and hands its parts and eight bytes on.
+// Checks a frame by itself, and hands its parts and its eight bytes on. Refusals 3, 4, 5 and 6, the lowest that
+// applies, with zeros beside it. Every call that hears a frame checks it so: nobody has to do it first.
 pub fn check(id: u32, bytes: &[u8]) -> Checked
     ensures { λ r. ⌜ Check id (now (bytes .entry)) r ⌝ }
 {
@@ -153,7 +156,8 @@ pub fn check(id: u32, bytes: &[u8]) -> Checked
     }
 }
 
-// Whom a frame with this DGN is for.
+// Whom a frame with this DGN is for: nobody in particular, all, or one address, which the DGN ends with. It answers for
+// every number; of one with more than 17 bits it reads the lowest 16.
 pub fn destination_of(dgn: u32) -> Destination
     ensures { λ r. ⌜ DestinationOf dgn r ⌝ }
 {
@@ -167,7 +171,7 @@ pub fn destination_of(dgn: u32) -> Destination
     Destination::One(to)
 }
 
-// The DGN as catalogue and hosted list have it: an addressed one with 00h for its destination.
+// The DGN as catalogue and hosted list have it: an addressed one with 00h for its destination, any other as it is.
 pub fn catalogue_form(dgn: u32) -> u32
     ensures { λ r. ⌜ CatalogueForm dgn r ⌝ }
 {
@@ -177,7 +181,7 @@ pub fn catalogue_form(dgn: u32) -> u32
     dgn
 }
 
-// Eight bytes as one number, low byte first.
+// Eight bytes as one number, low byte first. `bytes_of` is its way back.
 pub fn number_of(bytes: [u8; 8]) -> u64
     ensures { λ r. ⌜ NumberOf bytes r ⌝ }
 {
@@ -191,7 +195,7 @@ pub fn number_of(bytes: [u8; 8]) -> u64
     n
 }
 
-// A number as eight bytes, low byte first.
+// A number as eight bytes, low byte first. `number_of` is its way back.
 pub fn bytes_of(number: u64) -> [u8; 8]
     ensures { λ r. ⌜ BytesOf number r ⌝ }
 {
@@ -217,7 +221,8 @@ pub fn dgn_bytes(dgn: u32) -> [u8; 3]
     ]
 }
 
-// The number in three bytes, the low one first: a DGN, where it has no more than 17 bits.
+// The number in three bytes, the low one first: a DGN, where it has no more than 17 bits, which is for the caller to
+// see.
 pub fn dgn_of(low: u8, middle: u8, high: u8) -> u32
     ensures { λ r. ⌜ DgnOf low middle high r ⌝ }
 {

@@ -2,10 +2,6 @@
 // who has which address and what the tanks, chargers and slides of a coach said last, and says when that is stale. It
 // hears a recorded exchange on standard input, a line for each frame; a frame that it would send is printed behind the
 // word `send`.
-ghost use mathlib.Core.Path.{_≡_};
-ghost use Prim.Native.Nat.{_<_};
-ghost use lib.ListN.{length};
-
 mod names;
 mod network;
 mod own_faults;
@@ -22,6 +18,9 @@ use rvc::identifiers::Parts;
 use rvc::identifiers::Verdict;
 use rvc::messages::limits::STORAGE_BYTES;
 use state::Panel;
+ghost use mathlib.Core.Path.{_≡_};
+ghost use Prim.Native.Nat.{_<_};
+ghost use lib.ListN.{length};
 
 // The panel while it listens: the lines of its input so far, and whether more may come.
 struct Listener {
