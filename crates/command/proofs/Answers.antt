@@ -15,6 +15,7 @@ use Rattle.frame.specs.Identifier.{greatestDgn, destinationOf, catalogueForm}
 use Rattle.frame.specs.Standard.{Frame, addressClaimed, dgnAt, everyone, greatestAddress, noAddress, noFrame, requestDgn}
 use Rattle.frame.specs.Promises.{destined}
 use Rattle.frame.specs.declared.Parts.{Parts}
+use Rattle.frame.proofs.Frame.{dgn-read}
 use Rattle.claim.specs.Claim.{keepsRules, holdsList, Stand, held, standOf}
 use Rattle.claim.specs.Promises.{isSound, soundOf, toldStanding}
 use Rattle.claim.specs.declared.Claim.{Claim}
@@ -225,19 +226,11 @@ module _ (edition : Edition) (parts : Parts) (bytes : List ℕ) (es : List Entry
       rw (eq-eqb _ _ e, le-ltb greatestDgn (requestedDgn bytes) d, a)
 
 -- the request in a frame, as the code reads it
-
-dgn-read : (bytes : List ℕ) → numberOf (getD bytes 0 0 ∷ getD bytes 1 0 ∷ getD bytes 2 0 ∷ []) ≡ requestedDgn bytes
-unfolding numberOf requestedDgn dgnAt
-dgn-read [] = refl
-dgn-read (a ∷ []) = omega arith
-dgn-read (a ∷ b ∷ []) = omega arith
-dgn-read (a ∷ b ∷ d ∷ bytes) = refl
-
 pub asked-read : (edition : Edition) (parts : Parts) (bytes : List ℕ) (dgn instance : ℕ)
     → dgn ≡ numberOf (getD bytes 0 0 ∷ getD bytes 1 0 ∷ getD bytes 2 0 ∷ []) → instance ≡ instanceAsked edition bytes
     → record { destination = parts .dgn % 256; source = parts .source; dgn = dgn; instance = instance }
     ≡ askedOf edition parts bytes
-unfolding destinationOf
+unfolding destinationOf requestedDgn
 asked-read edition parts bytes dgn instance e n =
     let d = e ∙ dgn-read bytes in
     let t : parts .dgn % 256 ≡ destinationOf (parts .dgn) = sym (rw (div-one (parts .dgn))) in

@@ -16,7 +16,7 @@ use Rattle.frame.specs.Frame.{frameBytes, sourceAllowed, checkedOf}
 use Rattle.frame.specs.Standard.{Frame, acknowledgmentDgn, addressClaimed, everyone, greatestAddress, noAddress, noFrame, requestDgn}
 use Rattle.frame.specs.declared.Parts.{Parts}
 use Rattle.words.proofs.Words.{by-test, both-true, true-false, past-refusal, before-refusal, refused-gives, gives-same, not-flips}
-use Rattle.frame.proofs.Frame.{checked-given}
+use Rattle.frame.proofs.Frame.{checked-given, source-low}
 use Rattle.frame.proofs.Laws as frame-laws
 use Rattle.claim.specs.Claim.{heldAfter, keepsRules, holdsList, address, claimSource, claimId, Stand, held, claiming, silent, standOf}
 use Rattle.claim.specs.Promises.{isSound}
@@ -82,13 +82,6 @@ held-low c a s e =
     omega arith
 
 -- the frames that are sent
-
-source-low : (source dgn : ℕ) → source ≤ greatestAddress → sourceAllowed source dgn ≡ true
-unfolding sourceAllowed
-source-low source dgn h =
-    let n : source ≡ 255 → ⊥ = λ e. omega arith in
-    let m : source ≡ 254 → ⊥ = λ e. omega arith in
-    rw (ne-eqb source 255 n, ne-eqb source 254 m)
 
 pub acknowledgment-checked : (address : ℕ) (reply : Acknowledgment) → address ≤ greatestAddress → reply .requester < 256
     → checkedOf (acknowledgmentId address (reply .requester)) (length (acknowledgmentBytes reply))

@@ -17,6 +17,7 @@ use Rattle.frame.specs.Laws.{toldButPriority}
 use Rattle.frame.specs.declared.Parts.{Parts}
 use Rattle.words.proofs.Words.{by-test, both-true, true-false, refused-gives, gives-same, past-refusal, before-refusal}
 use Rattle.frame.proofs.Laws as frame-laws
+use Rattle.frame.proofs.Frame.{source-low}
 use Rattle.words.specs.declared.Found.{Found}
 use Rattle.words.specs.declared.Found.the-variants.{At, Nowhere}
 use Rattle.words.proofs.Lists.{found-at, found-nowhere}
@@ -229,13 +230,6 @@ reply-no-nak id bytes h c s r frame p d e =
 pub dm-rv-example : the.DmRvExample
 unfolding dmRvId identifierOf
 dm-rv-example = refl
-
-source-low : (source dgn : ℕ) → source ≤ greatestAddress → sourceAllowed source dgn ≡ true
-unfolding sourceAllowed
-source-low source dgn h =
-    let n : source ≡ 255 → ⊥ = λ e. omega arith in
-    let m : source ≡ 254 → ⊥ = λ e. omega arith in
-    rw (ne-eqb source 255 n, ne-eqb source 254 m)
 
 pub dm-rv-is-sound : the.DmRvIsSound
 unfolding dmRvId identifierOf priorityOf reservedOf dgnOf sourceOf

@@ -226,14 +226,6 @@ bare-requested t a s r n e h =
 pub requested-as : {t u : Told Reply} {s : Sender} {r : Requested} → t ≡ u → RequestedBy u s r → RequestedBy t s r
 requested-as e p = rw e p
 
--- the DGN in three bytes, read from three bytes of a frame
-pub dgn-read : (bytes : List ℕ) → numberOf (getD bytes 0 0 ∷ getD bytes 1 0 ∷ getD bytes 2 0 ∷ []) ≡ dgnAt 0 bytes
-unfolding numberOf dgnAt
-dgn-read [] = refl
-dgn-read (a ∷ []) = omega arith
-dgn-read (a ∷ b ∷ []) = omega arith
-dgn-read (a ∷ b ∷ d ∷ bytes) = refl
-
 -- what is answered to what was meant
 abbrev pub answered : Stand → Sender → Told Asks → Told Reply
 answered stand s meant = given meant then λ asks. answerAt stand asks s

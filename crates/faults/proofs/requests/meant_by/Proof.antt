@@ -6,7 +6,7 @@ use borrow.Author.Needs.{needs}
 use Rattle.frame.specs.Identifier.{greatestDgn, destinationOf}
 use Rattle.words.proofs.Tests.{tests}
 use Rattle.faults.specs.Requests.{meantBy}
-use Rattle.faults.proofs.Steps.{dgn-read}
+use Rattle.frame.proofs.Frame.{dgn-read}
 use Rattle.faults.proofs.requests.meant_by.Statement.{statement}
 use Rattle.faults.proofs.requests.meant_by.Tie as tie
 
