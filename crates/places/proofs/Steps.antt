@@ -11,6 +11,7 @@ use borrow.Author.Tests.{eq-eqb, ne-eqb}
 use Rattle.words.specs.Words.{if_then_else_}
 use Rattle.words.specs.Lists.{count, Absent}
 use Rattle.words.proofs.Words.{by-test, true-false}
+use Rattle.words.proofs.Lists.{absent-head, absent-tail, distinct-head, distinct-tail}
 use Rattle.places.specs.Format.{Asks, fixed, opens, finishes, feeds, Fed, goes, ends, Format, Step, step}
 use Rattle.places.specs.OneKey.{fedAlone, packetAlone, askedAlone, pauseAlone}
 use Rattle.places.specs.Places.{free, held, full, said, lookup, update, anyFree, keysOf, OnePlaceEach, isNone, Places, opened, finished, fed, packet, asked, pass, closedBy}
@@ -122,23 +123,30 @@ module _ (𝓕 : Format) where
   pass-lookup k ms (free ∷ ps) u = pass-lookup k ms ps u
   pass-lookup k ms (held j s ∷ ps) u =
       by-equal j k
-      (λ e. rw (eq-eqb j k e, e) (keyed-same k (𝓕 .wait ms s) (pass 𝓕 ms ps) (pass-none k ms ps (rw e at (absent-lookup j ps (u .0))))))
-      (λ n. rw (ne-eqb j k n) (keyed-other k j (𝓕 .wait ms s) (pass 𝓕 ms ps) n ∙ pass-lookup k ms ps (u .1)))
+      (λ e.
+      let alone = absent-lookup j ps (distinct-head j (keysOf ps) u) in
+      rw (eq-eqb j k e, e) (keyed-same k (𝓕 .wait ms s) (pass 𝓕 ms ps) (pass-none k ms ps (rw e at alone))))
+      (λ n.
+      let others = distinct-tail j (keysOf ps) u in
+      rw (ne-eqb j k n) (keyed-other k j (𝓕 .wait ms s) (pass 𝓕 ms ps) n ∙ pass-lookup k ms ps others))
 
   pub pass-each : (ms : ℕ) (ps : Places 𝓕) → OnePlaceEach ps → OnePlaceEach (pass 𝓕 ms ps)
   pass-each ms [] u = u
   pass-each ms (free ∷ ps) u = pass-each ms ps u
   pass-each ms (held j s ∷ ps) u =
-      keyed-each j (𝓕 .wait ms s) (pass 𝓕 ms ps) (pass-none j ms ps (absent-lookup j ps (u .0))) (pass-each ms ps (u .1))
+      let alone = absent-lookup j ps (distinct-head j (keysOf ps) u) in
+      let others = distinct-tail j (keysOf ps) u in
+      keyed-each j (𝓕 .wait ms s) (pass 𝓕 ms ps) (pass-none j ms ps alone) (pass-each ms ps others)
 
   -- a first place changes nothing of the keys that are not its own
   count-apart : (ms j : ℕ) (s : 𝓕 .Session) (ps : Places 𝓕) (ks : List ℕ) → Absent j ks
       → count (λ k. isNone (pauseAlone 𝓕 ms (lookup k (held j s ∷ ps)))) ks ≡ count (λ k. isNone (pauseAlone 𝓕 ms (lookup k ps))) ks
   count-apart ms j s ps [] h = refl
-  count-apart ms j s ps (k ∷ ks) h = rw (ne-eqb j k (λ e. h .0 (sym e)), count-apart ms j s ps ks (h .1))
+  count-apart ms j s ps (k ∷ ks) h = rw (ne-eqb j k (absent-head j k ks h), count-apart ms j s ps ks (absent-tail j k ks h))
 
   pub closed-count : (ms : ℕ) (ps : Places 𝓕) → OnePlaceEach ps → closedBy 𝓕 ms ps ≡ count (λ k. isNone (pauseAlone 𝓕 ms (lookup k ps))) (keysOf ps)
   closed-count ms [] u = refl
   closed-count ms (free ∷ ps) u = zero-add _ ∙ closed-count ms ps u
   closed-count ms (held j s ∷ ps) u =
-      rw (eq-eqb j j refl, count-apart ms j s ps (keysOf ps) (u .0)) (ap (λ n. (if isNone (𝓕 .wait ms s) then 1 else 0) + n) (closed-count ms ps (u .1)))
+      rw (eq-eqb j j refl, count-apart ms j s ps (keysOf ps) (distinct-head j (keysOf ps) u))
+      (ap (λ n. (if isNone (𝓕 .wait ms s) then 1 else 0) + n) (closed-count ms ps (distinct-tail j (keysOf ps) u)))

@@ -15,9 +15,10 @@ use lib.Seq.{drop-cons}
 use Rattle.words.specs.Words.{if_then_else_}
 use Rattle.words.specs.Lists.{any, count, Absent}
 use Rattle.words.proofs.Words.{by-test, both-true, true-false}
+use Rattle.words.proofs.Lists.{absent-cons, absent-head, absent-tail, distinct-cons, distinct-head, distinct-tail}
 use Rattle.places.specs.Format.{Format}
 use Rattle.places.specs.Places.{Place, free, held, lookup, keyed, update, anyFree, takeLowest, keysOf, OnePlaceEach, rest, pass, closes, closedBy}
-use Rattle.places.specs.Layout.{stretch, AgreeBut, Layout, openBy, seat, viewFrom, alone, oneEach}
+use Rattle.places.specs.Layout.{stretch, AgreeBut, Layout, openBy, seat, viewFrom, sameHolder, oneEach}
 use Rattle.places.specs.Laws.{LookupNowhere, LookupAt, FreeNowhere, FreeAt, UpdateAt, CloseAt, TakeAt, FreeWrite, ViewPass, ViewCloses, OneEachView, LengthView, BlankView}
 use Rattle.words.proofs.Lists.{Hit, here, there, Miss, end, on, hit-at, miss-at, miss-nowhere}
 
@@ -154,50 +155,60 @@ module _ {P S : Type 0} (L : Layout P S) where
   -- no key has two places
 
   none-open : (k i : ℕ) (ps : List P) (s : List ℕ) → any (openBy L k) ps ≡ false → Absent k (keysOf (viewFrom L i ps s))
-  none-open k i [] s h = tt
+  none-open k i [] s h = refl
   none-open k i (p ∷ ps) s h =
       by-test (L .isFree p)
       (λ f. rw f (none-open k (suc i) ps s (rw f at h)))
       (λ f. by-test (eqb (L .keyOf p) k)
       (λ g. true-false (rw (f, g) at h))
-      (λ g. rw f (eqb-false (L .keyOf p) k g, none-open k (suc i) ps s (rw (f, g) at h))))
+      (λ g. rw f (absent-cons k (L .keyOf p) (keysOf (viewFrom L (suc i) ps s)) (λ e. eqb-false (L .keyOf p) k g (sym e))
+      (none-open k (suc i) ps s (rw (f, g) at h)))))
 
   open-none : (k i : ℕ) (ps : List P) (s : List ℕ) → Absent k (keysOf (viewFrom L i ps s)) → any (openBy L k) ps ≡ false
   open-none k i [] s h = refl
   open-none k i (p ∷ ps) s h =
       by-test (L .isFree p)
       (λ f. rw f (open-none k (suc i) ps s (rw f at h)))
-      (λ f. let h′ = rw f at h in rw (f, ne-eqb (L .keyOf p) k (h′ .0)) (open-none k (suc i) ps s (h′ .1)))
+      (λ f.
+      let h′ = rw f at h in
+      let ks = keysOf (viewFrom L (suc i) ps s) in
+      let n : L .keyOf p ≢ k = λ e. absent-head k (L .keyOf p) ks h′ (sym e) in
+      rw (f, ne-eqb (L .keyOf p) k n) (open-none k (suc i) ps s (absent-tail k (L .keyOf p) ks h′)))
+
+  -- a free place has no holder; an open one has the same as each that is open by its key
+
+  pub free-same : (p : P) (ps : List P) → L .isFree p ≡ true → any (sameHolder L p) ps ≡ false
+  free-same p [] f = refl
+  free-same p (q ∷ ps) f = rw f (free-same p ps f)
+
+  pub open-same : (p : P) (ps : List P) → L .isFree p ≡ false → any (sameHolder L p) ps ≡ any (openBy L (L .keyOf p)) ps
+  open-same p [] f = refl
+  open-same p (q ∷ ps) f = rw (f, open-same p ps f)
 
   each-view : (i : ℕ) (ps : List P) (s : List ℕ) → oneEach L ps ≡ true → OnePlaceEach (viewFrom L i ps s)
-  each-view i [] s h = tt
+  each-view i [] s h = refl
   each-view i (p ∷ ps) s h =
-      let t = both-true (alone L p ps) _ h in
+      let t = both-true (not (any (sameHolder L p) ps)) _ h in
       by-test (L .isFree p)
       (λ f. rw f (each-view (suc i) ps s (t .1)))
-      (λ f. rw f (none-open (L .keyOf p) (suc i) ps s (not-true _ (rw f at (t .0))), each-view (suc i) ps s (t .1)))
+      (λ f.
+      let ks = keysOf (viewFrom L (suc i) ps s) in
+      let a = none-open (L .keyOf p) (suc i) ps s (sym (open-same p ps f) ∙ not-true (any (sameHolder L p) ps) (t .0)) in
+      rw f (distinct-cons (L .keyOf p) ks a (each-view (suc i) ps s (t .1))))
 
   view-each : (i : ℕ) (ps : List P) (s : List ℕ) → OnePlaceEach (viewFrom L i ps s) → oneEach L ps ≡ true
   view-each i [] s h = refl
   view-each i (p ∷ ps) s h =
       by-test (L .isFree p)
-      (λ f. rw f (view-each (suc i) ps s (rw f at h)))
-      (λ f. let h′ = rw f at h in rw (f, open-none (L .keyOf p) (suc i) ps s (h′ .0)) (view-each (suc i) ps s (h′ .1)))
+      (λ f. rw (free-same p ps f) (view-each (suc i) ps s (rw f at h)))
+      (λ f.
+      let h′ = rw f at h in
+      let ks = keysOf (viewFrom L (suc i) ps s) in
+      let a = open-none (L .keyOf p) (suc i) ps s (distinct-head (L .keyOf p) ks h′) in
+      rw (open-same p ps f, a) (view-each (suc i) ps s (distinct-tail (L .keyOf p) ks h′)))
 
   pub one-each-view : OneEachView L
   one-each-view ps s = ((λ h. each-view 0 ps s h), (λ h. view-each 0 ps s h))
-
-  -- turns of the loop that computes it
-
-  pub one-each-pass : (ps : List P) (i : ℕ) (d : P) → i < length ps → alone L (getD ps i d) (drop (i + 1) ps) ≡ true
-      → oneEach L (drop i ps) ≡ oneEach L (drop (i + 1) ps)
-  one-each-pass ps i d h e = rw (drop-cons ps i d h) (let e′ = rw add-one at e in rw e′ (rw add-one))
-
-  pub one-each-stop : (ps : List P) (i : ℕ) (d : P) → i < length ps → alone L (getD ps i d) (drop (i + 1) ps) ≡ false → oneEach L (drop i ps) ≡ false
-  one-each-stop ps i d h e = rw (drop-cons ps i d h) (let e′ = rw add-one at e in rw e′)
-
-  pub one-each-end : (ps : List P) (i : ℕ) → length ps ≤ i → oneEach L (drop i ps) ≡ true
-  one-each-end ps i h = rw (drop-of-length-le ps h)
 
   -- the number of places, and blank ones
 
