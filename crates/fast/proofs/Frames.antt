@@ -1,6 +1,6 @@
 -- What a frame can mean to the receiver, read off its definition.
 -- Assumes nothing.
-use mathlib.Core.Path.{_≡_, refl, sym, subst}
+use mathlib.Core.Path.{_≡_, refl, sym, subst, subst⁻¹}
 use mathlib.Core.Bool.{Bool, true, false, not}
 use mathlib.Core.List.{List, [], _∷_}
 use Prim.Native.Nat.{ℕ, _≤_, _<_, _/_}
@@ -45,8 +45,8 @@ pub named-allowed : (names : List ℕ) (dgn : ℕ) → every mayBeNamed names �
 named-allowed [] dgn e n = true-false (sym n)
 named-allowed (name ∷ names) dgn e n =
     let k = both-true (mayBeNamed name) _ e in
-    by-test (name =? dgn)
-    (λ t. subst (λ (d : ℕ). mayBeNamed d ≡ true) (eqb-true name dgn t) (k .0))
+    by-test (dgn =? name)
+    (λ t. subst⁻¹ (λ (d : ℕ). mayBeNamed d ≡ true) (eqb-true dgn name t) (k .0))
     (λ t. named-allowed names dgn (k .1) (rw t at n))
 
 -- its sender is no higher than 253: it is none of those that a node without an address may send

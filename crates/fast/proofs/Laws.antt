@@ -11,7 +11,7 @@ use borrow.Author.Tests.{eqb-true, eqb-false, leb-true, leb-false, ltb-true, ltb
 use lib.ListN.{List·getD-append, length, take, drop, getD, length-drop, length-take}
 use lib.Seq.{paste, getD-take, getD-drop, getD-append-add, take-paste, drop-paste, take-append-seam}
 use Rattle.words.specs.Words.{if_then_else_, _=?_, _<?_, _≤?_, _and_, bits, Told, refused, gives, numberIn}
-use Rattle.words.specs.Lists.{every, count, first}
+use Rattle.words.specs.Lists.{every, count, first, Distinct}
 use Rattle.frame.specs.Identifier.{greatestDgn}
 use Rattle.frame.specs.Standard.{announcementDgn, packetDgn}
 use Rattle.frame.specs.Frame.{frameBytes}
@@ -24,9 +24,9 @@ use Rattle.frame.proofs.Laws.{badBack, bad-back}
 use Rattle.places.specs.Places.{placeCount}
 use Rattle.words.specs.declared.Found.{Found}
 use Rattle.words.specs.declared.Found.the-variants.{At, Nowhere}
-use Rattle.words.proofs.Lists.{every-at, every-replicate}
+use Rattle.words.proofs.Lists.{every-at, every-replicate, distinct-cons, distinct-head, distinct-tail}
 use Rattle.fast.specs.FastPacket.{greatestSequence, firstBytes, longest, offsetOf, lastFrame, neededFirst, needed, pairOf, frameNumberOf, byteAt, Meaning, other, begins, continues, begun, carried, meaningOf}
-use Rattle.fast.specs.Names.{mostNamed, mayBeNamed, isNamed, noneTwice, isWellFormed, padded}
+use Rattle.fast.specs.Names.{mostNamed, mayBeNamed, isNamed, isWellFormed}
 use Rattle.fast.specs.Receiver.{room, freePlace, isOpenBy, namesOf, isZero, placeKeepsRules, keepsRules, Outcome, nothingToDo, opened, stored, finished, After, leaves, placing, placeFor, newPlace, firstKept, keptAt, frameAt, byMeaning, heard, pausedState, pausedAnswer}
 use Rattle.fast.specs.Receiver as Receiver
 use Rattle.fast.specs.Splitter.{refusalIn, frameBytesOf, frameOf}
@@ -217,42 +217,38 @@ every-by f (name ∷ names) k =
 
 named-at : (names : List ℕ) (dgn j : ℕ) → j < length names → dgn ≡ getD names j 0 → isNamed dgn names ≡ true
 named-at [] dgn j h e = absurd (not-suc-le-zero h)
-named-at (name ∷ names) dgn zero h e = rw (eq-eqb name dgn (sym e))
+named-at (name ∷ names) dgn zero h e = rw (eq-eqb dgn name e)
 named-at (name ∷ names) dgn (suc j) h e =
-    by-test (name =? dgn) (λ t. rw t) (λ t. rw (t, named-at names dgn j (le-of-suc-le-suc h) e))
+    by-test (dgn =? name) (λ t. rw t) (λ t. rw (t, named-at names dgn j (le-of-suc-le-suc h) e))
 
 not-named : (names : List ℕ) (dgn : ℕ) → ((j : ℕ) → j < length names → dgn ≢ getD names j 0) → isNamed dgn names ≡ false
 not-named [] dgn k = refl
 not-named (name ∷ names) dgn k =
-    rw (ne-eqb name dgn (λ e. k 0 (omega arith) (sym e)), not-named names dgn (λ j h. k (suc j) (omega arith)))
+    rw (ne-eqb dgn name (k 0 (omega arith)), not-named names dgn (λ j h. k (suc j) (omega arith)))
 
-none-twice-at : (names : List ℕ) → noneTwice names ≡ true
+none-twice-at : (names : List ℕ) → Distinct names
     → (i j : ℕ) → i < j → j < length names → getD names i 0 ≢ getD names j 0
-unfolding noneTwice
 none-twice-at [] t i j l h e = not-suc-le-zero h
 none-twice-at (name ∷ names) t i zero l h e = not-suc-le-zero l
 none-twice-at (name ∷ names) t zero (suc j) l h e =
     true-false
-    (sym (named-at names name j (le-of-suc-le-suc h) e)
-    ∙ not-true (isNamed name names) (both-true (not (isNamed name names)) _ t .0))
+    (sym (named-at names name j (le-of-suc-le-suc h) e) ∙ distinct-head name names t)
 none-twice-at (name ∷ names) t (suc i) (suc j) l h e =
-    none-twice-at names (both-true (not (isNamed name names)) _ t .1) i j (le-of-suc-le-suc l) (le-of-suc-le-suc h) e
+    none-twice-at names (distinct-tail name names t) i j (le-of-suc-le-suc l) (le-of-suc-le-suc h) e
 
 none-twice-by : (names : List ℕ) → ((i j : ℕ) → i < j → j < length names → getD names i 0 ≢ getD names j 0)
-    → noneTwice names ≡ true
-unfolding noneTwice
+    → Distinct names
 none-twice-by [] k = refl
 none-twice-by (name ∷ names) k =
-    rw (
-      not-named names name (λ j h. k 0 (suc j) (omega arith) (omega arith)),
-      none-twice-by names (λ i j l h. k (suc i) (suc j) (omega arith) (omega arith)),
-    )
+    distinct-cons name names
+    (not-named names name (λ j h. k 0 (suc j) (omega arith) (omega arith)))
+    (none-twice-by names (λ i j l h. k (suc i) (suc j) (omega arith) (omega arith)))
 
 -- a list that a start takes
 record WellFormed (names : List ℕ) : Type 0 where
   few : length names ≤ mostNamed
   allowed : every mayBeNamed names ≡ true
-  different : noneTwice names ≡ true
+  different : Distinct names
 
 well-formed : (names : List ℕ) → isWellFormed names ≡ true → WellFormed names
 unfolding isWellFormed
@@ -268,7 +264,6 @@ well-formed-by names w = rw (le-leb _ _ (w .few), w .allowed, w .different)
 -- a receiver at the start names those DGNs, and keeps its rules
 
 pub named-so : (names : List ℕ) → namesOf (naming names) ≡ names
-unfolding padded
 named-so names = take-append-seam names _
 
 pub free-keeps-rules : (names : List ℕ) → placeKeepsRules names freePlace ≡ true

@@ -5,11 +5,12 @@ use mathlib.Core.List.{List, []}
 use Prim.Native.Nat.{ℕ, _*_}
 use lib.ListN.{length, take, drop, replicate}
 use Rattle.words.specs.Words.{if_then_else_, _<?_, _≤?_, _or_, Told, refused, gives, numberIn}
+use Rattle.words.specs.Lists.{filledTo}
 use Rattle.frame.specs.Frame.{frameBytes}
 use Rattle.frame.specs.Promises.{refusalOf}
 use Rattle.places.specs.Places.{placeCount}
 use Rattle.fast.specs.FastPacket.{longest}
-use Rattle.fast.specs.Names.{mostNamed, isWellFormed, padded}
+use Rattle.fast.specs.Names.{mostNamed, isWellFormed}
 use Rattle.fast.specs.Receiver.{room, freePlace, Outcome, nothingToDo, opened, stored, finished, After, heard, pausedState, pausedAnswer}
 use Rattle.fast.specs.Splitter.{frameOf}
 use Rattle.fast.specs.declared.Receiver.{Receiver}
@@ -36,9 +37,10 @@ startingNumber Starting.ListMalformed = 16
 pub record StartingRefusal (answer : Starting) (r : ℕ) : Type 0 where
   pub number : r ≡ startingNumber answer
 
--- a receiver with eight free places, for these DGNs
+-- a receiver with eight free places, for these DGNs: it keeps the list filled up with zeros
 abbrev pub naming : List ℕ → Receiver
-naming names = record { dgns = padded names; named = length names; places = replicate placeCount freePlace }
+naming names =
+    record { dgns = filledTo mostNamed 0 names; named = length names; places = replicate placeCount freePlace }
 
 -- one that names none, beside a refused start
 abbrev pub namingNone : Receiver
