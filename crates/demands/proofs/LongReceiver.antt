@@ -21,14 +21,13 @@ use Rattle.words.proofs.Words.{by-test, both-true}
 use Rattle.places.specs.Format.{fixed, opens, feeds, goes, ends}
 use Rattle.places.specs.Places.{Out, full, said, rest, closes}
 use Rattle.places.specs.Layout.{stretch, AgreeBut, openBy, seat, view, oneEach}
-use Rattle.places.specs.Receiver.{Shows}
 use Rattle.places.specs.Calls.{KeepsPlaces}
 use Rattle.words.specs.declared.Found.{Found}
 use Rattle.words.specs.declared.Found.the-variants.{At, Nowhere}
 use Rattle.words.proofs.Lists.{found-at, every-at, every-set, every-map, every-replicate}
 use Rattle.places.proofs.Stretch.{stretch-same, stretch-other}
 use Rattle.places.proofs.View.{one-each-view, length-view, blank-view, view-pass, view-closes}
-use Rattle.places.proofs.Receiver.{shows-fixed, shows-opens-held, shows-opens-free, shows-full, shows-feeds-nowhere, shows-feeds-goes, shows-feeds-ends, shows-keeps, pass-keeps}
+use Rattle.places.proofs.Receiver.{Shows, shows-fixed, shows-opens-held, shows-opens-free, shows-full, shows-feeds-nowhere, shows-feeds-goes, shows-feeds-ends, shows-keeps, pass-keeps}
 use Rattle.message.specs.LongMessage.{shortest, longest, packetBytes, packetsOf, idleLimit, needed, Meaning, other, announcement, packet, meaningOf}
 use Rattle.message.specs.OneSender.{Open, Part, Tells, announcedBy, joined, expectingNext, fedBy, waits, asksBy, longMessages}
 use Rattle.message.specs.OneSender as OneSender
