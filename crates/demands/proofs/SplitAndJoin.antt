@@ -25,8 +25,8 @@ use Rattle.message.specs.Receiver.{greatestSender}
 use Rattle.message.specs.Splitter.{announcementBytes, packetBytesOf}
 use Rattle.message.specs.Promises.{Announcement, Packet}
 use Rattle.message.specs.declared.Announced.{Announced}
-use Rattle.message.specs.declared.Cut.{Cut}
-use Rattle.message.proofs.Laws.{splitter-announces, splitter-cuts}
+use Rattle.message.specs.declared.Split.{Split}
+use Rattle.message.proofs.Laws.{splitter-announces, splitter-splits}
 use Rattle.demands.specs.SplitAndJoin.{sent, isApart, Sending, pauses, sends, next, last, Sent, announces, Sendable, SplitAndJoin, JoinedByRules}
 use Rattle.demands.proofs.BusyBus.{told-on-bus}
 
@@ -130,7 +130,7 @@ module _ (message : List ℕ) (dgn sender : ℕ) (w : Sendable message dgn sende
   ToldLast events m = (answers : List (Told Tells)) × (solo longMessages m events ≡ answers ++ (gives (finished sender dgn message) ∷ []))
 
   -- one packet, heard alone
-  module _ (number sum priority : ℕ) (r : Cut) (high : priority ≤ lowestPriority) (one : 1 ≤ number) (most : number ≤ packetsOf (length message))
+  module _ (number sum priority : ℕ) (r : Split) (high : priority ≤ lowestPriority) (one : 1 ≤ number) (most : number ≤ packetsOf (length message))
       (cut : Packet message dgn number r) where
     abbrev f : Frame
     f = sent priority packetDgn sender (r .bytes)
@@ -139,7 +139,7 @@ module _ (message : List ℕ) (dgn sender : ℕ) (w : Sendable message dgn sende
     m = openAt message dgn sender number sum
 
     packet-is : r .bytes ≡ packetBytesOf message number
-    packet-is = splitter-cuts message dgn number r cut .given (w .about) (w .long) (w .short) one most .1
+    packet-is = splitter-splits message dgn number r cut .given (w .about) (w .long) (w .short) one most .1
 
     packet-asks : meaningOf (f .id) (f .bytes) ≡ gives (packet sender number)
     packet-asks =

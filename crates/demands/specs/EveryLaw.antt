@@ -108,7 +108,7 @@ pub record MessageLaws : Type 0 where
   pub told-answer-same : Message.ToldAnswerSame
   pub told-pausing-same : Message.ToldPausingSame
   pub announcing-number-same : Message.AnnouncingNumberSame
-  pub cutting-number-same : Message.CuttingNumberSame
+  pub splitting-number-same : Message.SplittingNumberSame
   pub new-only : Message.NewOnly
   pub hear-only : Message.HearOnly
   pub pause-only : Message.PauseOnly
@@ -118,7 +118,7 @@ pub record MessageLaws : Type 0 where
   pub answer-refusal-only : Message.AnswerRefusalOnly
   pub pausing-refusal-only : Message.PausingRefusalOnly
   pub announcing-refusal-only : Message.AnnouncingRefusalOnly
-  pub cutting-refusal-only : Message.CuttingRefusalOnly
+  pub splitting-refusal-only : Message.SplittingRefusalOnly
   pub unsplittable-refusal-only : Message.UnsplittableRefusalOnly
   pub refused-keeps : Message.RefusedKeeps
   pub ten-closes : Message.TenCloses
@@ -127,7 +127,7 @@ pub record MessageLaws : Type 0 where
   pub writes-its-own : Message.WritesItsOwn
   pub not-beyond : Message.NotBeyond
   pub splitter-announces : Message.SplitterAnnounces
-  pub splitter-cuts : Message.SplitterCuts
+  pub splitter-splits : Message.SplitterSplits
   pub lowest-wins :
       (id : ℕ) (bytes : List ℕ) (places : List Place) (storage : List ℕ) → Message.LowestWins id bytes places storage
 
@@ -135,7 +135,7 @@ pub record FastLaws : Type 1 where
   pub starting-number-same : Fast.StartingNumberSame
   pub told-answer-same : Fast.ToldAnswerSame
   pub told-pausing-same : Fast.ToldPausingSame
-  pub cutting-number-same : Fast.CuttingNumberSame
+  pub splitting-number-same : Fast.SplittingNumberSame
   pub start-only : Fast.StartOnly
   pub hear-only : Fast.HearOnly
   pub pause-only : Fast.PauseOnly
@@ -144,7 +144,7 @@ pub record FastLaws : Type 1 where
   pub starting-refusal-only : Fast.StartingRefusalOnly
   pub answer-refusal-only : Fast.AnswerRefusalOnly
   pub pausing-refusal-only : Fast.PausingRefusalOnly
-  pub cutting-refusal-only : Fast.CuttingRefusalOnly
+  pub splitting-refusal-only : Fast.SplittingRefusalOnly
   pub pair-same : Fast.PairSame
   pub first-byte-read : Fast.FirstByteRead
   pub frames-needed : Fast.FramesNeeded
@@ -159,7 +159,7 @@ pub record FastLaws : Type 1 where
   pub writes-the-frame : Fast.WritesTheFrame
   pub writes-its-own : Fast.WritesItsOwn
   pub not-beyond : Fast.NotBeyond
-  pub splitter-cuts : Fast.SplitterCuts
+  pub splitter-splits : Fast.SplitterSplits
   pub statistics-joined : FastExample.StatisticsJoined
   pub statistics-split : FastExample.StatisticsSplit
   pub every-list-starts : FastCalls.EveryListStarts

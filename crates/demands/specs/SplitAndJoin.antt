@@ -21,7 +21,7 @@ use Rattle.message.specs.Receiver.{greatestSender}
 use Rattle.message.specs.Promises.{Announcement, Packet}
 use Rattle.message.specs.Calls.{Held, receiverCalls}
 use Rattle.message.specs.declared.Announced.{Announced}
-use Rattle.message.specs.declared.Cut.{Cut}
+use Rattle.message.specs.declared.Split.{Split}
 
 -- a frame of the message, as its sender puts it on the bus
 abbrev pub sent : ℕ → ℕ → ℕ → List ℕ → Frame
@@ -41,11 +41,11 @@ pub data Sending (message : List ℕ) (dgn sender : ℕ) : ℕ → ℕ → List 
       → Sending message dgn sender number (sum + ms) events → Sending message dgn sender number sum (pause ms ∷ events)
   sends : {number sum : ℕ} {events : List (Event Frame)} (f : Frame) → isApart (meaningOf (f .id) (f .bytes)) ≡ true
       → Sending message dgn sender number sum events → Sending message dgn sender number sum (frame f ∷ events)
-  next : {number sum : ℕ} {events : List (Event Frame)} (priority : ℕ) (r : Cut) → priority ≤ lowestPriority
+  next : {number sum : ℕ} {events : List (Event Frame)} (priority : ℕ) (r : Split) → priority ≤ lowestPriority
       → Packet message dgn number r → number < packetsOf (length message)
       → Sending message dgn sender (number + 1) 0 events
       → Sending message dgn sender number sum (frame (sent priority packetDgn sender (r .bytes)) ∷ events)
-  last : {number sum : ℕ} (priority : ℕ) (r : Cut) → priority ≤ lowestPriority
+  last : {number sum : ℕ} (priority : ℕ) (r : Split) → priority ≤ lowestPriority
       → Packet message dgn number r → number ≡ packetsOf (length message)
       → Sending message dgn sender number sum (frame (sent priority packetDgn sender (r .bytes)) ∷ [])
 

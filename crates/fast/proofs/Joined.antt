@@ -24,10 +24,10 @@ use Rattle.fast.specs.OnePair.{Open, Tells, joined, asksBy, fastPackets,
 use Rattle.fast.specs.Splitter.{firstBytesOf, laterBytesOf, frameBytesOf}
 use Rattle.fast.specs.Promises.{FrameOf}
 use Rattle.fast.specs.Sending.{sent, isApart, Sendable, Sending, pauses, sends, next, last, Sent, at-once, in-frames, JoinedByRules}
-use Rattle.fast.specs.declared.Cut.{Cut}
+use Rattle.fast.specs.declared.Split.{Split}
 use Rattle.fast.proofs.Steps.{all-allowed, meant-carried}
 use Rattle.fast.proofs.Frames.{named-allowed}
-use Rattle.fast.proofs.Laws.{first-byte-read, splitter-cuts}
+use Rattle.fast.proofs.Laws.{first-byte-read, splitter-splits}
 
 -- a frame as sent passes refusals 3 to 6, and its parts are those that it was formed from
 
@@ -86,18 +86,18 @@ unpadded n m l h k = take-take n m (l ++ replicate m unused) h ∙ take-append-l
 
 module _ (message : List ℕ) (sequence : ℕ) (numbered : sequence ≤ greatestSequence) (long : 1 ≤ length message)
     (short : length message ≤ longest) where
-  cut-is : (number : ℕ) → number ≤ lastFrame (length message) → (r : Cut) → FrameOf message sequence number r
+  frame-is : (number : ℕ) → number ≤ lastFrame (length message) → (r : Split) → FrameOf message sequence number r
       → r .bytes ≡ frameBytesOf message sequence number
-  cut-is number most r c = splitter-cuts message sequence number r c .given numbered long short most .1
+  frame-is number most r c = splitter-splits message sequence number r c .given numbered long short most .1
 
-  first-is : (r : Cut) → FrameOf message sequence 0 r → r .bytes ≡ firstBytesOf message sequence
+  first-is : (r : Split) → FrameOf message sequence 0 r → r .bytes ≡ firstBytesOf message sequence
   unfolding frameBytesOf
-  first-is r c = cut-is 0 (omega arith) r c
+  first-is r c = frame-is 0 (omega arith) r c
 
-  later-is : (number : ℕ) (r : Cut) → 1 ≤ number → number ≤ lastFrame (length message)
+  later-is : (number : ℕ) (r : Split) → 1 ≤ number → number ≤ lastFrame (length message)
       → FrameOf message sequence number r → r .bytes ≡ laterBytesOf message sequence number
   unfolding frameBytesOf
-  later-is number r one most c = cut-is number most r c ∙ rw (ne-eqb number 0 (λ e. omega arith))
+  later-is number r one most c = frame-is number most r c ∙ rw (ne-eqb number 0 (λ e. omega arith))
 
   -- they mean what they are to mean
 
@@ -170,7 +170,7 @@ module _ (names message : List ℕ) (dgn sender sequence : ℕ) (well-formed : i
       ∙ meant-carried names sender dgn bytes (w .about)
 
   -- frame 0, heard alone
-  module _ (before : Option Open) (priority : ℕ) (r : Cut) (high : priority ≤ lowestPriority)
+  module _ (before : Option Open) (priority : ℕ) (r : Split) (high : priority ≤ lowestPriority)
       (cut : FrameOf message sequence 0 r) where
     abbrev f₀ : Frame
     f₀ = sent priority dgn sender (r .bytes)
@@ -198,7 +198,7 @@ module _ (names message : List ℕ) (dgn sender sequence : ℕ) (well-formed : i
         rw (first-means, lt-leb _ _ h, c)
 
   -- a later frame, heard alone
-  module _ (number sum priority : ℕ) (r : Cut) (high : priority ≤ lowestPriority) (one : 1 ≤ number)
+  module _ (number sum priority : ℕ) (r : Split) (high : priority ≤ lowestPriority) (one : 1 ≤ number)
       (most : number ≤ lastFrame (length message)) (cut : FrameOf message sequence number r) where
     abbrev f : Frame
     f = sent priority dgn sender (r .bytes)

@@ -30,8 +30,8 @@ use Rattle.fast.specs.Names.{mostNamed, mayBeNamed, isNamed, isWellForme
 use Rattle.fast.specs.Receiver.{room, freePlace, isOpenBy, namesOf, isZero, placeKeepsRules, keepsRules, Outcome, nothingToDo, opened, stored, finished, After, leaves, placing, placeFor, newPlace, firstKept, keptAt, frameAt, byMeaning, heard, pausedState, pausedAnswer}
 use Rattle.fast.specs.Receiver as Receiver
 use Rattle.fast.specs.Splitter.{refusalIn, frameBytesOf, frameOf}
-use Rattle.fast.specs.Promises.{startingNumber, toldAnswer, toldPausing, cuttingNumber, naming, namingNone, bytesIn}
-use Rattle.fast.specs.Laws.{StartingNumberSame, ToldAnswerSame, ToldPausingSame, CuttingNumberSame, StartOnly, HearOnly, PauseOnly, MessageOnly, FrameOfOnly, StartingRefusalOnly, AnswerRefusalOnly, PausingRefusalOnly, CuttingRefusalOnly, PairSame, FirstByteRead, FramesNeeded, NamedWhen, StartNames, StartRefusedKeeps, RefusedKeeps, OutOfTurn, ClosedAt, TenCloses, PauseRefusedKeeps, LowestWins, ItsOwn, WritesFrameZero, WritesTheFrame, WritesItsOwn, NotBeyond, SplitterCuts}
+use Rattle.fast.specs.Promises.{startingNumber, toldAnswer, toldPausing, splittingNumber, naming, namingNone, bytesIn}
+use Rattle.fast.specs.Laws.{StartingNumberSame, ToldAnswerSame, ToldPausingSame, SplittingNumberSame, StartOnly, HearOnly, PauseOnly, MessageOnly, FrameOfOnly, StartingRefusalOnly, AnswerRefusalOnly, PausingRefusalOnly, SplittingRefusalOnly, PairSame, FirstByteRead, FramesNeeded, NamedWhen, StartNames, StartRefusedKeeps, RefusedKeeps, OutOfTurn, ClosedAt, TenCloses, PauseRefusedKeeps, LowestWins, ItsOwn, WritesFrameZero, WritesTheFrame, WritesItsOwn, NotBeyond, SplitterSplits}
 use Rattle.fast.specs.declared.Place.{Place}
 use Rattle.fast.specs.declared.Receiver.{Receiver}
 use Rattle.fast.specs.declared.Starting.{Starting}
@@ -40,9 +40,9 @@ use Rattle.fast.specs.declared.Answer.{Answer}
 use Rattle.fast.specs.declared.Answer.the-variants.{StorageTooShort, BrokenState, BadFrame, MalformedLength, NoPlaceFree, NoOpenMessage, UnexpectedFrame, NothingToDo, Opened, Stored, Finished}
 use Rattle.fast.specs.declared.Pausing.{Pausing}
 use Rattle.fast.specs.declared.Pausing.the-variants as Pausing
-use Rattle.fast.specs.declared.Cutting.{Cutting}
-use Rattle.fast.specs.declared.Cutting.the-variants as Cutting
-use Rattle.fast.proofs.Cuts.{frame-given}
+use Rattle.fast.specs.declared.Splitting.{Splitting}
+use Rattle.fast.specs.declared.Splitting.the-variants as Splitting
+use Rattle.fast.proofs.Splits.{frame-given}
 use Rattle.fast.proofs.Frames.{Known, meaning-known}
 use Rattle.fast.proofs.Steps.{found-below, place-for-below, begins-at, begins-nowhere, entered-short, entered-long, entered-storage, advanced-last, advanced-next, advanced-storage, frame-expected, frame-other-sequence, frame-other-number, continues-at, continues-nowhere, rules-of, keeps-rules, all-allowed, OpenRules, rules-at, heard-short, heard-broken, heard-kept, meaning-refused, meaning-given, meant-other, meant-carried}
 
@@ -109,22 +109,22 @@ pausing-back Pausing.BrokenState = refl
 pub told-pausing-same : ToldPausingSame
 told-pausing-same r s e = sym (pausing-back r) ∙ ap pausingBack e ∙ pausing-back s
 
-cuttingBack : ℕ → Cutting
-cuttingBack n =
-    if n =? 0 then Cutting.Bytes else
-    if n =? 12 then Cutting.SequenceTooLarge else
-    if n =? 13 then Cutting.LengthNotSplit else
-    Cutting.NoSuchFrame
+splittingBack : ℕ → Splitting
+splittingBack n =
+    if n =? 0 then Splitting.Bytes else
+    if n =? 12 then Splitting.NoCode else
+    if n =? 13 then Splitting.LengthNotSplit else
+    Splitting.NoSuchFrame
 
-cutting-back : (r : Cutting) → cuttingBack (cuttingNumber r) ≡ r
-unfolding cuttingBack
-cutting-back Cutting.Bytes = refl
-cutting-back Cutting.SequenceTooLarge = refl
-cutting-back Cutting.LengthNotSplit = refl
-cutting-back Cutting.NoSuchFrame = refl
+splitting-back : (r : Splitting) → splittingBack (splittingNumber r) ≡ r
+unfolding splittingBack
+splitting-back Splitting.Bytes = refl
+splitting-back Splitting.NoCode = refl
+splitting-back Splitting.LengthNotSplit = refl
+splitting-back Splitting.NoSuchFrame = refl
 
-pub cutting-number-same : CuttingNumberSame
-cutting-number-same r s e = sym (cutting-back r) ∙ ap cuttingBack e ∙ cutting-back s
+pub splitting-number-same : SplittingNumberSame
+splitting-number-same r s e = sym (splitting-back r) ∙ ap splittingBack e ∙ splitting-back s
 
 -- no second answer
 
@@ -151,7 +151,7 @@ message-only storage answer r s p q = p .bytes ∙ sym (q .bytes)
 
 pub frame-of-only : FrameOfOnly
 frame-of-only message sequence number r s p q =
-    let a = cutting-number-same (r .answer) (s .answer) (p .number ∙ sym (q .number)) in
+    let a = splitting-number-same (r .answer) (s .answer) (p .number ∙ sym (q .number)) in
     let b = p .bytes ∙ sym (q .bytes) in
     λ i. record { answer = a i; bytes = b i }
 
@@ -164,8 +164,8 @@ answer-refusal-only answer r s p q = p .number ∙ sym (q .number)
 pub pausing-refusal-only : PausingRefusalOnly
 pausing-refusal-only answer r s p q = p .number ∙ sym (q .number)
 
-pub cutting-refusal-only : CuttingRefusalOnly
-cutting-refusal-only answer r s p q = p .number ∙ sym (q .number)
+pub splitting-refusal-only : SplittingRefusalOnly
+splitting-refusal-only answer r s p q = p .number ∙ sym (q .number)
 
 -- the numbers of a pair, of a first byte, and of the last frame
 
@@ -642,13 +642,13 @@ module _ (size sequence number : ℕ) where
   refusal-none q l h n = search tests
 
 module _ (message : List ℕ) (sequence number : ℕ) where
-  cut-refused : refusalIn (length message) sequence number ≢ 0
+  split-refused : refusalIn (length message) sequence number ≢ 0
       → frameOf message sequence number ≡ refused (refusalIn (length message) sequence number)
   unfolding frameOf
-  cut-refused n = rw (ne-eqb (refusalIn (length message) sequence number) 0 n)
+  split-refused n = rw (ne-eqb (refusalIn (length message) sequence number) 0 n)
 
-pub splitter-cuts : SplitterCuts
-splitter-cuts message sequence number r p =
+pub splitter-splits : SplitterSplits
+splitter-splits message sequence number r p =
     let size = length message in
     record {
       twelve = λ q. refuses-by (refusal-twelve size sequence number q) (λ z. omega arith);
@@ -656,15 +656,15 @@ splitter-cuts message sequence number r p =
       fifteen = λ q l h n. refuses-by (refusal-fifteen size sequence number q l h n) (λ z. omega arith);
       zeros = λ x.
           let n : refusalIn size sequence number ≢ 0 = λ z. x (answers-bytes (frame-given message sequence number z)) in
-          p .bytes ∙ ap bytesIn (cut-refused message sequence number n);
+          p .bytes ∙ ap bytesIn (split-refused message sequence number n);
       given = λ q l h n.
           let g = frame-given message sequence number (refusal-none size sequence number q l h n) in
           (answers-bytes g, p .bytes ∙ ap bytesIn g);
     }
   where
-    refuses-by : {n : ℕ} → refusalIn (length message) sequence number ≡ n → n ≢ 0 → cuttingNumber (r .answer) ≡ n
-    refuses-by e z = p .number ∙ ap numberIn (cut-refused message sequence number (λ x. z (sym e ∙ x))) ∙ e
+    refuses-by : {n : ℕ} → refusalIn (length message) sequence number ≡ n → n ≢ 0 → splittingNumber (r .answer) ≡ n
+    refuses-by e z = p .number ∙ ap numberIn (split-refused message sequence number (λ x. z (sym e ∙ x))) ∙ e
 
     answers-bytes : frameOf message sequence number ≡ gives (frameBytesOf message sequence number)
-        → r .answer ≡ Cutting.Bytes
-    answers-bytes g = cutting-number-same (r .answer) Cutting.Bytes (p .number ∙ ap numberIn g)
+        → r .answer ≡ Splitting.Bytes
+    answers-bytes g = splitting-number-same (r .answer) Splitting.Bytes (p .number ∙ ap numberIn g)

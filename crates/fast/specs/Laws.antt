@@ -19,7 +19,7 @@ use Rattle.fast.specs.FastPacket.{frameNumberOf, sequenceOf, firstByteOf
 use Rattle.fast.specs.Names.{mostNamed, mayBeNamed, isNamed}
 use Rattle.fast.specs.Receiver.{room, freePlace, isOpenBy, namesOf, keepsRules, placing, placeFor, nothingToDo}
 use Rattle.fast.specs.Splitter.{frameBytesOf}
-use Rattle.fast.specs.Promises.{startingNumber, namingNone, toldAnswer, toldPausing, cuttingNumber, Start, Hear, Pause, Message, FrameOf, StartingRefusal, AnswerRefusal, PausingRefusal, CuttingRefusal}
+use Rattle.fast.specs.Promises.{startingNumber, namingNone, toldAnswer, toldPausing, splittingNumber, Start, Hear, Pause, Message, FrameOf, StartingRefusal, AnswerRefusal, PausingRefusal, SplittingRefusal}
 use Rattle.fast.specs.declared.Place.{Place}
 use Rattle.fast.specs.declared.Receiver.{Receiver}
 use Rattle.fast.specs.declared.Starting.{Starting}
@@ -30,9 +30,9 @@ use Rattle.fast.specs.declared.Answer.the-variants.{UnexpectedFrame}
 use Rattle.fast.specs.declared.Heard.{Heard}
 use Rattle.fast.specs.declared.Pausing.{Pausing}
 use Rattle.fast.specs.declared.Paused.{Paused}
-use Rattle.fast.specs.declared.Cutting.{Cutting}
-use Rattle.fast.specs.declared.Cutting.the-variants as Cutting
-use Rattle.fast.specs.declared.Cut.{Cut}
+use Rattle.fast.specs.declared.Splitting.{Splitting}
+use Rattle.fast.specs.declared.Splitting.the-variants as Splitting
+use Rattle.fast.specs.declared.Split.{Split}
 
 -- An answer read as number and values loses nothing (RULES 2.10).
 
@@ -45,8 +45,8 @@ ToldAnswerSame = (r s : Answer) → toldAnswer r ≡ toldAnswer s → r ≡ s
 abbrev pub ToldPausingSame : Type 0
 ToldPausingSame = (r s : Pausing) → toldPausing r ≡ toldPausing s → r ≡ s
 
-abbrev pub CuttingNumberSame : Type 0
-CuttingNumberSame = (r s : Cutting) → cuttingNumber r ≡ cuttingNumber s → r ≡ s
+abbrev pub SplittingNumberSame : Type 0
+SplittingNumberSame = (r s : Splitting) → splittingNumber r ≡ splittingNumber s → r ≡ s
 
 -- No second answer, state and storage keep a promise.
 
@@ -67,7 +67,7 @@ MessageOnly =
 
 abbrev pub FrameOfOnly : Type 0
 FrameOfOnly =
-    (message : List ℕ) (sequence number : ℕ) (r s : Cut)
+    (message : List ℕ) (sequence number : ℕ) (r s : Split)
     → FrameOf message sequence number r → FrameOf message sequence number s → r ≡ s
 
 abbrev pub StartingRefusalOnly : Type 0
@@ -79,8 +79,8 @@ AnswerRefusalOnly = (answer : Answer) (r s : ℕ) → AnswerRefusal answer r →
 abbrev pub PausingRefusalOnly : Type 0
 PausingRefusalOnly = (answer : Pausing) (r s : ℕ) → PausingRefusal answer r → PausingRefusal answer s → r ≡ s
 
-abbrev pub CuttingRefusalOnly : Type 0
-CuttingRefusalOnly = (answer : Cutting) (r s : ℕ) → CuttingRefusal answer r → CuttingRefusal answer s → r ≡ s
+abbrev pub SplittingRefusalOnly : Type 0
+SplittingRefusalOnly = (answer : Splitting) (r s : ℕ) → SplittingRefusal answer r → SplittingRefusal answer s → r ≡ s
 
 -- Two pairs of sender and DGN with one number are one pair.
 abbrev pub PairSame : Type 0
@@ -239,18 +239,18 @@ NotBeyond =
 
 -- What frame `number` of a message answers: 12 for a sequence above 7, else 13 for a length outside 1 to 223, else 15
 -- for a number past the last frame, and zeros beside each; otherwise the bytes.
-pub record FrameAnswers (message : List ℕ) (sequence number : ℕ) (r : Cut) : Type 0 where
-  pub twelve : greatestSequence < sequence → cuttingNumber (r .answer) ≡ 12
+pub record FrameAnswers (message : List ℕ) (sequence number : ℕ) (r : Split) : Type 0 where
+  pub twelve : greatestSequence < sequence → splittingNumber (r .answer) ≡ 12
   pub thirteen :
-      sequence ≤ greatestSequence → (length message < 1) ⊎ (longest < length message) → cuttingNumber (r .answer) ≡ 13
+      sequence ≤ greatestSequence → (length message < 1) ⊎ (longest < length message) → splittingNumber (r .answer) ≡ 13
   pub fifteen : sequence ≤ greatestSequence → 1 ≤ length message → length message ≤ longest
-      → lastFrame (length message) < number → cuttingNumber (r .answer) ≡ 15
-  pub zeros : r .answer ≢ Cutting.Bytes → r .bytes ≡ replicate frameBytes 0
+      → lastFrame (length message) < number → splittingNumber (r .answer) ≡ 15
+  pub zeros : r .answer ≢ Splitting.Bytes → r .bytes ≡ replicate frameBytes 0
   pub given : sequence ≤ greatestSequence → 1 ≤ length message → length message ≤ longest
       → number ≤ lastFrame (length message)
-      → (r .answer ≡ Cutting.Bytes) × (r .bytes ≡ frameBytesOf message sequence number)
+      → (r .answer ≡ Splitting.Bytes) × (r .bytes ≡ frameBytesOf message sequence number)
 
-abbrev pub SplitterCuts : Type 0
-SplitterCuts =
-    (message : List ℕ) (sequence number : ℕ) (r : Cut)
+abbrev pub SplitterSplits : Type 0
+SplitterSplits =
+    (message : List ℕ) (sequence number : ℕ) (r : Split)
     → FrameOf message sequence number r → FrameAnswers message sequence number r

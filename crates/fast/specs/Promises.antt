@@ -23,9 +23,9 @@ use Rattle.fast.specs.declared.Heard.{Heard}
 use Rattle.fast.specs.declared.Pausing.{Pausing}
 use Rattle.fast.specs.declared.Pausing.the-variants as Pausing
 use Rattle.fast.specs.declared.Paused.{Paused}
-use Rattle.fast.specs.declared.Cutting.{Cutting}
-use Rattle.fast.specs.declared.Cutting.the-variants as Cutting
-use Rattle.fast.specs.declared.Cut.{Cut}
+use Rattle.fast.specs.declared.Splitting.{Splitting}
+use Rattle.fast.specs.declared.Splitting.the-variants as Splitting
+use Rattle.fast.specs.declared.Split.{Split}
 
 -- Receiver::start
 
@@ -110,23 +110,23 @@ pub record Message (storage : List ℕ) (answer : Answer) (r : List ℕ) : Type 
 -- frame_of
 
 -- 0 where the bytes are given
-abbrev pub cuttingNumber : Cutting → ℕ
-cuttingNumber Cutting.Bytes = 0
-cuttingNumber Cutting.SequenceTooLarge = 12
-cuttingNumber Cutting.LengthNotSplit = 13
-cuttingNumber Cutting.NoSuchFrame = 15
+abbrev pub splittingNumber : Splitting → ℕ
+splittingNumber Splitting.Bytes = 0
+splittingNumber Splitting.NoCode = 12
+splittingNumber Splitting.LengthNotSplit = 13
+splittingNumber Splitting.NoSuchFrame = 15
 
-pub record CuttingRefusal (answer : Cutting) (r : ℕ) : Type 0 where
-  pub number : r ≡ cuttingNumber answer
+pub record SplittingRefusal (answer : Splitting) (r : ℕ) : Type 0 where
+  pub number : r ≡ splittingNumber answer
 
 -- the eight bytes that a definition tells: zeros beside a refusal
 abbrev pub bytesIn : Told (List ℕ) → List ℕ
 bytesIn (gives bytes) = bytes
 bytesIn (refused n) = replicate frameBytes 0
 
-pub record CutBy (told : Told (List ℕ)) (r : Cut) : Type 0 where
-  pub number : cuttingNumber (r .answer) ≡ numberIn told
+pub record SplitBy (told : Told (List ℕ)) (r : Split) : Type 0 where
+  pub number : splittingNumber (r .answer) ≡ numberIn told
   pub bytes : r .bytes ≡ bytesIn told
 
-abbrev pub FrameOf : List ℕ → ℕ → ℕ → Cut → Type 0
-FrameOf message sequence number r = CutBy (frameOf message sequence number) r
+abbrev pub FrameOf : List ℕ → ℕ → ℕ → Split → Type 0
+FrameOf message sequence number r = SplitBy (frameOf message sequence number) r

@@ -16,7 +16,7 @@ use Rattle.fast.specs.FastPacket.{greatestSequence, firstBytes, longest,
 use Rattle.fast.specs.Names.{isNamed, isWellFormed}
 use Rattle.fast.specs.OnePair.{Open, Tells, finished, fastPackets}
 use Rattle.fast.specs.Promises.{FrameOf}
-use Rattle.fast.specs.declared.Cut.{Cut}
+use Rattle.fast.specs.declared.Split.{Split}
 
 -- a frame of the message, as its sender puts it on the bus
 abbrev pub sent : ℕ → ℕ → ℕ → List ℕ → Frame
@@ -48,20 +48,20 @@ module _ (names message : List ℕ) (dgn sender sequence : ℕ) where
         → isApart (meaningOf names (f .id) (f .bytes)) ≡ true
         → Sending number sum events
         → Sending number sum (frame f ∷ events)
-    next : {number sum : ℕ} {events : List (Event Frame)} (priority : ℕ) (r : Cut) → priority ≤ lowestPriority
+    next : {number sum : ℕ} {events : List (Event Frame)} (priority : ℕ) (r : Split) → priority ≤ lowestPriority
         → FrameOf message sequence number r → number < lastFrame (length message)
         → Sending (number + 1) 0 events
         → Sending number sum (frame (sent priority dgn sender (r .bytes)) ∷ events)
-    last : {number sum : ℕ} (priority : ℕ) (r : Cut) → priority ≤ lowestPriority
+    last : {number sum : ℕ} (priority : ℕ) (r : Split) → priority ≤ lowestPriority
         → FrameOf message sequence number r → number ≡ lastFrame (length message)
         → Sending number sum (frame (sent priority dgn sender (r .bytes)) ∷ [])
 
   -- The whole message: its frame 0, which is all of a short one, and then the others.
   pub data Sent : List (Event Frame) → Type 0 where
-    at-once : (priority : ℕ) (r : Cut) → priority ≤ lowestPriority → FrameOf message sequence 0 r
+    at-once : (priority : ℕ) (r : Split) → priority ≤ lowestPriority → FrameOf message sequence 0 r
         → length message ≤ firstBytes
         → Sent (frame (sent priority dgn sender (r .bytes)) ∷ [])
-    in-frames : {events : List (Event Frame)} (priority : ℕ) (r : Cut) → priority ≤ lowestPriority
+    in-frames : {events : List (Event Frame)} (priority : ℕ) (r : Split) → priority ≤ lowestPriority
         → FrameOf message sequence 0 r → firstBytes < length message
         → Sending 1 0 events
         → Sent (frame (sent priority dgn sender (r .bytes)) ∷ events)

@@ -1,6 +1,6 @@
 // Fast packets (RULES 12; NMEA 2000's format, as AEBus batteries send it): the receiver of eight pairs of sender and
 // DGN over lent storage, and the splitter. It has its places and its storage to itself, beside those of long messages.
-ghost use Rattle.fast.specs.Promises.{Start, Hear, Pause, Message, FrameOf, StartingRefusal, AnswerRefusal, PausingRefusal, CuttingRefusal};
+ghost use Rattle.fast.specs.Promises.{Start, Hear, Pause, Message, FrameOf, StartingRefusal, AnswerRefusal, PausingRefusal, SplittingRefusal};
 
 mod eight_places;
 pub mod limits;
@@ -8,7 +8,7 @@ mod meaning;
 mod names;
 mod one_place;
 mod rules;
-mod split;
+mod splitter;
 mod storage;
 
 use frame::BadFrame;
@@ -83,16 +83,16 @@ pub struct Paused {
 }
 
 // A frame of a message, or refusal 12, 13 or 15.
-pub enum Cutting {
+pub enum Splitting {
     Bytes,
-    SequenceTooLarge,
+    NoCode,
     LengthNotSplit,
     NoSuchFrame,
 }
 
 // A frame's eight bytes; zeros where it is refused.
-pub struct Cut {
-    pub answer: Cutting,
+pub struct Split {
+    pub answer: Splitting,
     pub bytes: [u8; 8],
 }
 
@@ -149,17 +149,17 @@ impl Pausing {
     }
 }
 
-impl Cutting {
+impl Splitting {
     // The number of the refusal; 0 where the frame is given.
     pub fn refusal(self) -> u8
-        ensures { λ r. ⌜ CuttingRefusal self r ⌝ }
+        ensures { λ r. ⌜ SplittingRefusal self r ⌝ }
     {
         let answer = self;
         match answer {
-            Cutting::Bytes => 0,
-            Cutting::SequenceTooLarge => 12,
-            Cutting::LengthNotSplit => 13,
-            Cutting::NoSuchFrame => 15,
+            Splitting::Bytes => 0,
+            Splitting::NoCode => 12,
+            Splitting::LengthNotSplit => 13,
+            Splitting::NoSuchFrame => 15,
         }
     }
 }
@@ -240,15 +240,15 @@ pub fn message(storage: &[u8], answer: Answer) -> &[u8]
 
 // Any one frame of a message, by its number from 0: 12 where three bits cannot hold the sequence number, 13 for a
 // message that has not 1 to 223 bytes, 15 for a number past its last frame.
-pub fn frame_of(message: &[u8], sequence: u8, number: u32) -> Cut
+pub fn frame_of(message: &[u8], sequence: u8, number: u32) -> Split
     ensures { λ r. ⌜ FrameOf (now (message .entry)) sequence number r ⌝ }
 {
-    match split::splittable(message.len(), sequence, number) {
-        Cutting::Bytes => Cut {
-            answer: Cutting::Bytes,
-            bytes: split::frame_bytes(message, sequence, number as u8),
+    match splitter::splittable(message.len(), sequence, number) {
+        Splitting::Bytes => Split {
+            answer: Splitting::Bytes,
+            bytes: splitter::frame_bytes(message, sequence, number as u8),
         },
-        answer => Cut {
+        answer => Split {
             answer,
             bytes: [0u8; 8],
         },

@@ -25,8 +25,8 @@ use Rattle.message.specs.LongMessage.{shortest, longest, packetBytes, pa
 use Rattle.message.specs.Receiver.{placeCount, room, freePlace, isOpenBy, keepsRules, Outcome, nothingToDo, opened, stored, finished, After, leaves, placeFor, openedAt, announces, keptAt, packetAt, carries, byMeaning, heard, pausedPlaces, pausedAnswer}
 use Rattle.message.specs.Receiver as Receiver
 use Rattle.message.specs.Splitter.{mostPackets, splits, numbered}
-use Rattle.message.specs.Promises.{toldAnswer, toldPausing, announcingNumber, cuttingNumber, bytesIn}
-use Rattle.message.specs.Laws.{ToldAnswerSame, ToldPausingSame, AnnouncingNumberSame, CuttingNumberSame, NewOnly, HearOnly, PauseOnly, MessageOnly, AnnouncementOnly, PacketOnly, AnswerRefusalOnly, PausingRefusalOnly, UnsplittableRefusalOnly, AnnouncingRefusalOnly, CuttingRefusalOnly, RefusedKeeps, ClosedAt, TenCloses, LowestWins, PauseRefusedKeeps, WritesThePacket, WritesItsOwn, NotBeyond, SplitterAnnounces, SplitterCuts}
+use Rattle.message.specs.Promises.{toldAnswer, toldPausing, announcingNumber, splittingNumber, bytesIn}
+use Rattle.message.specs.Laws.{ToldAnswerSame, ToldPausingSame, AnnouncingNumberSame, SplittingNumberSame, NewOnly, HearOnly, PauseOnly, MessageOnly, AnnouncementOnly, PacketOnly, AnswerRefusalOnly, PausingRefusalOnly, UnsplittableRefusalOnly, AnnouncingRefusalOnly, SplittingRefusalOnly, RefusedKeeps, ClosedAt, TenCloses, LowestWins, PauseRefusedKeeps, WritesThePacket, WritesItsOwn, NotBeyond, SplitterAnnounces, SplitterSplits}
 use Rattle.message.specs.declared.Place.{Place}
 use Rattle.message.specs.declared.Receiver.{Receiver}
 use Rattle.message.specs.declared.Answer.{Answer}
@@ -34,11 +34,11 @@ use Rattle.message.specs.declared.Answer.the-variants.{StorageTooShort, 
 use Rattle.message.specs.declared.Pausing.{Pausing}
 use Rattle.message.specs.declared.Pausing.the-variants as Pausing
 use Rattle.message.specs.declared.Unsplittable.{Unsplittable}
-use Rattle.message.specs.declared.Unsplittable.the-variants.{DgnTooLarge, LengthNotSplit, TooManyPackets}
+use Rattle.message.specs.declared.Unsplittable.the-variants.{NoCode, LengthNotSplit, TooManyPackets}
 use Rattle.message.specs.declared.Announcing.{Announcing}
 use Rattle.message.specs.declared.Announcing.the-variants as Announcing
-use Rattle.message.specs.declared.Cutting.{Cutting}
-use Rattle.message.specs.declared.Cutting.the-variants as Cutting
+use Rattle.message.specs.declared.Splitting.{Splitting}
+use Rattle.message.specs.declared.Splitting.the-variants as Splitting
 use Rattle.message.proofs.Frames.{Known, meaning-known}
 use Rattle.message.proofs.Steps.{found-below, OpenRules, rules-at, announces-at, announces-nowhere, advanced-last, advanced-next, advanced-storage, packet-expected, packet-other, carries-at, carries-nowhere, heard-short, heard-broken, heard-kept}
 use Rattle.message.proofs.Packets.{announcement-refused, announcement-given, packet-refused, packet-numbered, numbered-zero, numbered-above, numbered-given}
@@ -96,7 +96,7 @@ pub told-pausing-same : ToldPausingSame
 told-pausing-same r s e = sym (pausing-back r) ∙ ap pausingBack e ∙ pausing-back s
 
 whyBack : ℕ → Unsplittable
-whyBack n = if n =? 12 then DgnTooLarge else if n =? 13 then LengthNotSplit else TooManyPackets
+whyBack n = if n =? 12 then NoCode else if n =? 13 then LengthNotSplit else TooManyPackets
 
 announcingBack : ℕ → Announcing
 announcingBack n = if n =? 0 then Announcing.Bytes else Announcing.Refused (whyBack n)
@@ -104,26 +104,26 @@ announcingBack n = if n =? 0 then Announcing.Bytes else Announcing.Refused (whyB
 announcing-back : (r : Announcing) → announcingBack (announcingNumber r) ≡ r
 unfolding announcingBack whyBack
 announcing-back Announcing.Bytes = refl
-announcing-back (Announcing.Refused DgnTooLarge) = refl
+announcing-back (Announcing.Refused NoCode) = refl
 announcing-back (Announcing.Refused LengthNotSplit) = refl
 announcing-back (Announcing.Refused TooManyPackets) = refl
 
 pub announcing-number-same : AnnouncingNumberSame
 announcing-number-same r s e = sym (announcing-back r) ∙ ap announcingBack e ∙ announcing-back s
 
-cuttingBack : ℕ → Cutting
-cuttingBack n = if n =? 0 then Cutting.Bytes else if n =? 15 then Cutting.NoSuchPacket else Cutting.Refused (whyBack n)
+splittingBack : ℕ → Splitting
+splittingBack n = if n =? 0 then Splitting.Bytes else if n =? 15 then Splitting.NoSuchPacket else Splitting.Refused (whyBack n)
 
-cutting-back : (r : Cutting) → cuttingBack (cuttingNumber r) ≡ r
-unfolding cuttingBack whyBack
-cutting-back Cutting.Bytes = refl
-cutting-back (Cutting.Refused DgnTooLarge) = refl
-cutting-back (Cutting.Refused LengthNotSplit) = refl
-cutting-back (Cutting.Refused TooManyPackets) = refl
-cutting-back Cutting.NoSuchPacket = refl
+splitting-back : (r : Splitting) → splittingBack (splittingNumber r) ≡ r
+unfolding splittingBack whyBack
+splitting-back Splitting.Bytes = refl
+splitting-back (Splitting.Refused NoCode) = refl
+splitting-back (Splitting.Refused LengthNotSplit) = refl
+splitting-back (Splitting.Refused TooManyPackets) = refl
+splitting-back Splitting.NoSuchPacket = refl
 
-pub cutting-number-same : CuttingNumberSame
-cutting-number-same r s e = sym (cutting-back r) ∙ ap cuttingBack e ∙ cutting-back s
+pub splitting-number-same : SplittingNumberSame
+splitting-number-same r s e = sym (splitting-back r) ∙ ap splittingBack e ∙ splitting-back s
 
 -- no second answer
 
@@ -153,7 +153,7 @@ announcement-only message dgn r s p q =
 
 pub packet-only : PacketOnly
 packet-only message dgn number r s p q =
-    let a = cutting-number-same (r .answer) (s .answer) (p .number ∙ sym (q .number)) in
+    let a = splitting-number-same (r .answer) (s .answer) (p .number ∙ sym (q .number)) in
     let b = p .bytes ∙ sym (q .bytes) in
     λ i. record { answer = a i; bytes = b i }
 
@@ -169,8 +169,8 @@ unsplittable-refusal-only why r s p q = p .number ∙ sym (q .number)
 pub announcing-refusal-only : AnnouncingRefusalOnly
 announcing-refusal-only answer r s p q = p .number ∙ sym (q .number)
 
-pub cutting-refusal-only : CuttingRefusalOnly
-cutting-refusal-only answer r s p q = p .number ∙ sym (q .number)
+pub splitting-refusal-only : SplittingRefusalOnly
+splitting-refusal-only answer r s p q = p .number ∙ sym (q .number)
 
 -- A frame, by its outcomes: either a refusal or an announcement that leaves the storage, or a packet at its sender's place.
 
@@ -399,8 +399,8 @@ splitter-announces message dgn r p =
           (announcing-number-same (r .answer) Announcing.Bytes (p .number ∙ ap numberIn e), p .bytes ∙ ap bytesIn e);
     }
 
-pub splitter-cuts : SplitterCuts
-splitter-cuts message dgn number r p =
+pub splitter-splits : SplitterSplits
+splitter-splits message dgn number r p =
     let size = length message in
     record {
       twelve = λ d. p .number ∙ ap numberIn (packet-refused message dgn number (splits-above size dgn d));
@@ -411,7 +411,7 @@ splitter-cuts message dgn number r p =
       given = λ d l h one most.
           let e = packet-numbered message dgn number (splits-within size dgn d l h (omega arith)) in
           let g = e ∙ numbered-given message number (packetsOf size) (λ z. omega arith) most in
-          (cutting-number-same (r .answer) Cutting.Bytes (p .number ∙ ap numberIn g), p .bytes ∙ ap bytesIn g);
+          (splitting-number-same (r .answer) Splitting.Bytes (p .number ∙ ap numberIn g), p .bytes ∙ ap bytesIn g);
     }
   where
     numbered-outside : (number ≡ 0) ⊎ (packetsOf (length message) < number)

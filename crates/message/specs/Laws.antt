@@ -15,7 +15,7 @@ use Rattle.words.specs.declared.Found.the-variants.{At}
 use Rattle.message.specs.LongMessage.{shortest, longest, packetBytes, packetsOf, needed, packet, meaningOf}
 use Rattle.message.specs.Receiver.{placeCount, room, freePlace, isOpenBy, keepsRules, heard}
 use Rattle.message.specs.Splitter.{announcementBytes, packetBytesOf}
-use Rattle.message.specs.Promises.{toldAnswer, toldPausing, announcingNumber, cuttingNumber, New, Hear, Pause, Message, Announcement, Packet, AnswerRefusal, PausingRefusal, UnsplittableRefusal, AnnouncingRefusal, CuttingRefusal}
+use Rattle.message.specs.Promises.{toldAnswer, toldPausing, announcingNumber, splittingNumber, New, Hear, Pause, Message, Announcement, Packet, AnswerRefusal, PausingRefusal, UnsplittableRefusal, AnnouncingRefusal, SplittingRefusal}
 use Rattle.message.specs.declared.Place.{Place}
 use Rattle.message.specs.declared.Receiver.{Receiver}
 use Rattle.message.specs.declared.Answer.{Answer}
@@ -27,9 +27,9 @@ use Rattle.message.specs.declared.Unsplittable.{Unsplittable}
 use Rattle.message.specs.declared.Announcing.{Announcing}
 use Rattle.message.specs.declared.Announcing.the-variants as Announcing
 use Rattle.message.specs.declared.Announced.{Announced}
-use Rattle.message.specs.declared.Cutting.{Cutting}
-use Rattle.message.specs.declared.Cutting.the-variants as Cutting
-use Rattle.message.specs.declared.Cut.{Cut}
+use Rattle.message.specs.declared.Splitting.{Splitting}
+use Rattle.message.specs.declared.Splitting.the-variants as Splitting
+use Rattle.message.specs.declared.Split.{Split}
 
 -- An answer read as number and values loses nothing (RULES 2.10).
 
@@ -42,8 +42,8 @@ ToldPausingSame = (r s : Pausing) → toldPausing r ≡ toldPausing s → r ≡ 
 abbrev pub AnnouncingNumberSame : Type 0
 AnnouncingNumberSame = (r s : Announcing) → announcingNumber r ≡ announcingNumber s → r ≡ s
 
-abbrev pub CuttingNumberSame : Type 0
-CuttingNumberSame = (r s : Cutting) → cuttingNumber r ≡ cuttingNumber s → r ≡ s
+abbrev pub SplittingNumberSame : Type 0
+SplittingNumberSame = (r s : Splitting) → splittingNumber r ≡ splittingNumber s → r ≡ s
 
 -- No second answer, state and storage keep a promise.
 
@@ -68,7 +68,7 @@ AnnouncementOnly =
 
 abbrev pub PacketOnly : Type 0
 PacketOnly =
-    (message : List ℕ) (dgn number : ℕ) (r s : Cut) → Packet message dgn number r → Packet message dgn number s → r ≡ s
+    (message : List ℕ) (dgn number : ℕ) (r s : Split) → Packet message dgn number r → Packet message dgn number s → r ≡ s
 
 abbrev pub AnswerRefusalOnly : Type 0
 AnswerRefusalOnly = (answer : Answer) (r s : ℕ) → AnswerRefusal answer r → AnswerRefusal answer s → r ≡ s
@@ -82,8 +82,8 @@ UnsplittableRefusalOnly = (why : Unsplittable) (r s : ℕ) → UnsplittableRefus
 abbrev pub AnnouncingRefusalOnly : Type 0
 AnnouncingRefusalOnly = (answer : Announcing) (r s : ℕ) → AnnouncingRefusal answer r → AnnouncingRefusal answer s → r ≡ s
 
-abbrev pub CuttingRefusalOnly : Type 0
-CuttingRefusalOnly = (answer : Cutting) (r s : ℕ) → CuttingRefusal answer r → CuttingRefusal answer s → r ≡ s
+abbrev pub SplittingRefusalOnly : Type 0
+SplittingRefusalOnly = (answer : Splitting) (r s : ℕ) → SplittingRefusal answer r → SplittingRefusal answer s → r ≡ s
 
 -- A refusal keeps state and storage; 10 closes the sender's place, and keeps every other place and all bytes.
 
@@ -172,16 +172,16 @@ SplitterAnnounces =
 
 -- What packet `number` of a message answers: 12 and 13 as above, else 15 for a number that the message has no packet
 -- of, and otherwise the bytes.
-pub record PacketAnswers (message : List ℕ) (dgn number : ℕ) (r : Cut) : Type 0 where
-  pub twelve : greatestDgn < dgn → cuttingNumber (r .answer) ≡ 12
+pub record PacketAnswers (message : List ℕ) (dgn number : ℕ) (r : Split) : Type 0 where
+  pub twelve : greatestDgn < dgn → splittingNumber (r .answer) ≡ 12
   pub thirteen :
-      dgn ≤ greatestDgn → (length message < shortest) ⊎ (longest < length message) → cuttingNumber (r .answer) ≡ 13
+      dgn ≤ greatestDgn → (length message < shortest) ⊎ (longest < length message) → splittingNumber (r .answer) ≡ 13
   pub fifteen : dgn ≤ greatestDgn → shortest ≤ length message → length message ≤ longest
-      → (number ≡ 0) ⊎ (packetsOf (length message) < number) → cuttingNumber (r .answer) ≡ 15
+      → (number ≡ 0) ⊎ (packetsOf (length message) < number) → splittingNumber (r .answer) ≡ 15
   pub given : dgn ≤ greatestDgn → shortest ≤ length message → length message ≤ longest
       → 1 ≤ number → number ≤ packetsOf (length message)
-      → (r .answer ≡ Cutting.Bytes) × (r .bytes ≡ packetBytesOf message number)
+      → (r .answer ≡ Splitting.Bytes) × (r .bytes ≡ packetBytesOf message number)
 
-abbrev pub SplitterCuts : Type 0
-SplitterCuts =
-    (message : List ℕ) (dgn number : ℕ) (r : Cut) → Packet message dgn number r → PacketAnswers message dgn number r
+abbrev pub SplitterSplits : Type 0
+SplitterSplits =
+    (message : List ℕ) (dgn number : ℕ) (r : Split) → Packet message dgn number r → PacketAnswers message dgn number r

@@ -11,8 +11,8 @@ use Rattle.message.specs.declared.Place.{Place}
 use Rattle.message.specs.declared.Paused.{Paused}
 use Rattle.message.specs.declared.meaning.Meant.{Meant}
 use Rattle.message.specs.declared.meaning.Meant.the-variants.{Malformed, Other, Announcement, Packet}
-use Rattle.message.specs.declared.split.Splits.{Splits}
-use Rattle.message.specs.declared.split.Splits.the-variants.{Into, Refused}
+use Rattle.message.specs.declared.splitter.Splits.{Splits}
+use Rattle.message.specs.declared.splitter.Splits.the-variants.{Into, Refused}
 
 abbrev pub toldMeant : Meant → Told Meaning
 toldMeant Malformed = refused 7

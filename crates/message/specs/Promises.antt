@@ -20,13 +20,13 @@ use Rattle.message.specs.declared.Pausing.{Pausing}
 use Rattle.message.specs.declared.Pausing.the-variants as Pausing
 use Rattle.message.specs.declared.Paused.{Paused}
 use Rattle.message.specs.declared.Unsplittable.{Unsplittable}
-use Rattle.message.specs.declared.Unsplittable.the-variants.{DgnTooLarge, LengthNotSplit, TooManyPackets}
+use Rattle.message.specs.declared.Unsplittable.the-variants.{NoCode, LengthNotSplit, TooManyPackets}
 use Rattle.message.specs.declared.Announcing.{Announcing}
 use Rattle.message.specs.declared.Announcing.the-variants as Announcing
 use Rattle.message.specs.declared.Announced.{Announced}
-use Rattle.message.specs.declared.Cutting.{Cutting}
-use Rattle.message.specs.declared.Cutting.the-variants as Cutting
-use Rattle.message.specs.declared.Cut.{Cut}
+use Rattle.message.specs.declared.Splitting.{Splitting}
+use Rattle.message.specs.declared.Splitting.the-variants as Splitting
+use Rattle.message.specs.declared.Split.{Split}
 
 -- Receiver::new
 
@@ -92,7 +92,7 @@ pub record Message (storage : List ℕ) (answer : Answer) (r : List ℕ) : Type 
 -- announcement
 
 abbrev pub refusalWhy : Unsplittable → ℕ
-refusalWhy DgnTooLarge = 12
+refusalWhy NoCode = 12
 refusalWhy LengthNotSplit = 13
 refusalWhy TooManyPackets = 14
 
@@ -121,17 +121,17 @@ Announcement message dgn r = AnnouncedBy (announcementOf message dgn) r
 
 -- packet
 
-abbrev pub cuttingNumber : Cutting → ℕ
-cuttingNumber Cutting.Bytes = 0
-cuttingNumber (Cutting.Refused why) = refusalWhy why
-cuttingNumber Cutting.NoSuchPacket = 15
+abbrev pub splittingNumber : Splitting → ℕ
+splittingNumber Splitting.Bytes = 0
+splittingNumber (Splitting.Refused why) = refusalWhy why
+splittingNumber Splitting.NoSuchPacket = 15
 
-pub record CuttingRefusal (answer : Cutting) (r : ℕ) : Type 0 where
-  pub number : r ≡ cuttingNumber answer
+pub record SplittingRefusal (answer : Splitting) (r : ℕ) : Type 0 where
+  pub number : r ≡ splittingNumber answer
 
-pub record CutBy (told : Told (List ℕ)) (r : Cut) : Type 0 where
-  pub number : cuttingNumber (r .answer) ≡ numberIn told
+pub record SplitBy (told : Told (List ℕ)) (r : Split) : Type 0 where
+  pub number : splittingNumber (r .answer) ≡ numberIn told
   pub bytes : r .bytes ≡ bytesIn told
 
-abbrev pub Packet : List ℕ → ℕ → ℕ → Cut → Type 0
-Packet message dgn number r = CutBy (packetOf message dgn number) r
+abbrev pub Packet : List ℕ → ℕ → ℕ → Split → Type 0
+Packet message dgn number r = SplitBy (packetOf message dgn number) r

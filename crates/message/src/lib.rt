@@ -1,12 +1,12 @@
 // Long messages (RULES 4 and 5): the receiver of eight senders over lent storage, and the splitter.
-ghost use Rattle.message.specs.Promises.{New, Hear, Pause, Message, Announcement, Packet, AnswerRefusal, PausingRefusal, UnsplittableRefusal, AnnouncingRefusal, CuttingRefusal};
+ghost use Rattle.message.specs.Promises.{New, Hear, Pause, Message, Announcement, Packet, AnswerRefusal, PausingRefusal, UnsplittableRefusal, AnnouncingRefusal, SplittingRefusal};
 
 mod eight_places;
 pub mod limits;
 mod meaning;
 mod one_place;
 mod rules;
-mod split;
+mod splitter;
 mod storage;
 
 use frame::BadFrame;
@@ -65,7 +65,7 @@ pub struct Paused {
 
 // Why a message cannot be split: refusals 12, 13 and 14.
 pub enum Unsplittable {
-    DgnTooLarge,
+    NoCode,
     LengthNotSplit,
     TooManyPackets,
 }
@@ -82,15 +82,15 @@ pub struct Announced {
 }
 
 // A packet, or why not; refusal 15 where the message has no packet of that number.
-pub enum Cutting {
+pub enum Splitting {
     Bytes,
     Refused(Unsplittable),
     NoSuchPacket,
 }
 
 // A data packet's eight bytes; zeros where it is refused.
-pub struct Cut {
-    pub answer: Cutting,
+pub struct Split {
+    pub answer: Splitting,
     pub bytes: [u8; 8],
 }
 
@@ -141,7 +141,7 @@ impl Unsplittable {
     {
         let why = self;
         match why {
-            Unsplittable::DgnTooLarge => 12,
+            Unsplittable::NoCode => 12,
             Unsplittable::LengthNotSplit => 13,
             Unsplittable::TooManyPackets => 14,
         }
@@ -161,16 +161,16 @@ impl Announcing {
     }
 }
 
-impl Cutting {
+impl Splitting {
     // The number of the refusal; 0 where the packet is given.
     pub fn refusal(self) -> u8
-        ensures { λ r. ⌜ CuttingRefusal self r ⌝ }
+        ensures { λ r. ⌜ SplittingRefusal self r ⌝ }
     {
         let answer = self;
         match answer {
-            Cutting::Bytes => 0,
-            Cutting::Refused(why) => why.refusal(),
-            Cutting::NoSuchPacket => 15,
+            Splitting::Bytes => 0,
+            Splitting::Refused(why) => why.refusal(),
+            Splitting::NoSuchPacket => 15,
         }
     }
 }
@@ -235,24 +235,24 @@ pub fn message(storage: &[u8], answer: Answer) -> &[u8]
 pub fn announcement(message: &[u8], dgn: u32) -> Announced
     ensures { λ r. ⌜ Announcement (now (message .entry)) dgn r ⌝ }
 {
-    match split::splittable(message.len(), dgn) {
-        split::Splits::Refused(why) => Announced {
+    match splitter::splittable(message.len(), dgn) {
+        splitter::Splits::Refused(why) => Announced {
             answer: Announcing::Refused(why),
             bytes: [0u8; 8],
         },
-        split::Splits::Into(count) => Announced {
+        splitter::Splits::Into(count) => Announced {
             answer: Announcing::Bytes,
-            bytes: split::announcement_bytes(message.len() as u16, dgn, count),
+            bytes: splitter::announcement_bytes(message.len() as u16, dgn, count),
         },
     }
 }
 
 // Any one data packet of a message, by its number from 1.
-pub fn packet(message: &[u8], dgn: u32, number: u32) -> Cut
+pub fn packet(message: &[u8], dgn: u32, number: u32) -> Split
     ensures { λ r. ⌜ Packet (now (message .entry)) dgn number r ⌝ }
 {
-    match split::splittable(message.len(), dgn) {
-        split::Splits::Refused(why) => split::refused(Cutting::Refused(why)),
-        split::Splits::Into(count) => split::cut(message, number, count),
+    match splitter::splittable(message.len(), dgn) {
+        splitter::Splits::Refused(why) => splitter::refused(Splitting::Refused(why)),
+        splitter::Splits::Into(count) => splitter::numbered(message, number, count),
     }
 }
