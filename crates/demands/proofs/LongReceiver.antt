@@ -31,7 +31,7 @@ use Rattle.places.proofs.Receiver.{Shows, shows-fixed, shows-opens-held, shows-
 use Rattle.message.specs.LongMessage.{shortest, longest, packetBytes, packetsOf, idleLimit, needed, Meaning, other, announcement, packet, meaningOf}
 use Rattle.message.specs.OneSender.{Open, Part, Tells, announcedBy, joined, expectingNext, fedBy, waits, asksBy, longMessages}
 use Rattle.message.specs.OneSender as OneSender
-use Rattle.message.specs.Receiver.{greatestSender, placeCount, room, freePlace, isFree, openMessage, layout, isOpenBy, isZero, placeKeepsRules, keepsRules, Outcome, After, leaves, placeFor, announces, keptAt, expecting, advanced, packetAt, carries, byMeaning, heard, idled, pausedPlaces, pausedAnswer}
+use Rattle.message.specs.Receiver.{greatestSender, placeCount, room, freePlace, isFree, openMessage, layout, isOpenBy, isZero, placeKeepsRules, keepsRules, Outcome, After, leaves, placeFor, hearsAnnouncement, keptAt, expecting, advanced, packetAt, carries, byMeaning, heard, idled, pausedPlaces, pausedAnswer}
 use Rattle.message.specs.Receiver as Eight
 use Rattle.message.specs.Promises.{toldAnswer, messageIn, partOf}
 use Rattle.message.specs.Calls.{Held, Starts, Keeps, tells, Hears, Pauses, openIn, receiverCalls}
@@ -39,7 +39,7 @@ use Rattle.message.specs.declared.Place.{Place}
 use Rattle.message.specs.declared.Answer.{Answer}
 use Rattle.message.specs.declared.Answer.the-variants.{BadFrame, MalformedAnnouncement, NoPlaceFree, NoOpenMessage, UnexpectedPacket, NothingToDo, Opened, Stored, Finished}
 use Rattle.message.specs.declared.Pausing.the-variants as Pausing
-use Rattle.message.proofs.Steps.{found-below, OpenRules, open-rules, rules-at, announces-at, announces-nowhere, advanced-last, advanced-next, packet-expected, packet-other, carries-at, carries-nowhere, heard-kept}
+use Rattle.message.proofs.Steps.{found-below, OpenRules, open-rules, rules-at, announcing-at, announcing-nowhere, advanced-last, advanced-next, packet-expected, packet-other, carries-at, carries-nowhere, heard-kept}
 use Rattle.message.proofs.Frames.{Known, meaning-known}
 
 -- an open place that keeps its rules
@@ -162,11 +162,11 @@ module _ (f : Frame) (ps : List Place) (s : List ℕ) (eight : length ps ≡ pla
     new-set : (j : ℕ) → every placeKeepsRules (set ps j new) ≡ true
     new-set j = every-set placeKeepsRules ps j new each-rules new-rules
 
-    announced : Agrees (announces sender size dgn ps s)
-    unfolding announces placeFor
+    announced : Agrees (hearsAnnouncement sender size dgn ps s)
+    unfolding hearsAnnouncement placeFor
     announced = held (first (isOpenBy sender) ps) refl
       where
-        free : (g : Found) → first (isOpenBy sender) ps ≡ Nowhere → first isFree ps ≡ g → Agrees (announces sender size dgn ps s)
+        free : (g : Found) → first (isOpenBy sender) ps ≡ Nowhere → first isFree ps ≡ g → Agrees (hearsAnnouncement sender size dgn ps s)
         free (At j) n e =
             rw (n, e)
             (record {
@@ -178,7 +178,7 @@ module _ (f : Frame) (ps : List Place) (s : List ℕ) (eight : length ps ≡ pla
         free Nowhere n e =
             rw (n, e) (record { shows = shows-full longMessages layout f ps s (rw asks) (found Nowhere n) e; rules = each-rules; long = refl; answers = (NoPlaceFree, refl) })
 
-        held : (g : Found) → first (isOpenBy sender) ps ≡ g → Agrees (announces sender size dgn ps s)
+        held : (g : Found) → first (isOpenBy sender) ps ≡ g → Agrees (hearsAnnouncement sender size dgn ps s)
         held (At j) e =
             rw e
             (record {

@@ -99,8 +99,8 @@ toldOf sender events = toldFrom sender (replicate placeCount freePlace) storageO
 abbrev pub oneOpen : List Place
 oneOpen = record { sender = 0x54; length = 9; dgn = 0xFEEB; expected = 1; idle = 0 } ∷ replicate 7 freePlace
 
-abbrev pub announces : ℕ → List ℕ → Event Frame
-announces sender l = frame (record { id = identifierOf 7 0xECFF sender; bytes = l })
+abbrev pub announcementBy : ℕ → List ℕ → Event Frame
+announcementBy sender l = frame (record { id = identifierOf 7 0xECFF sender; bytes = l })
 
 abbrev pub nineBytes : List ℕ
 nineBytes = 0x20 ∷ 0x09 ∷ 0x00 ∷ 0x02 ∷ 0xFF ∷ 0xEB ∷ 0xFE ∷ 0x00 ∷ []
@@ -120,8 +120,8 @@ announced low high packets = meaningOf 0x1CECFF54 (0x20 ∷ low ∷ high ∷ pac
 
 abbrev pub eightSenders : List (Event Frame)
 eightSenders =
-    announces 1 nineBytes ∷ announces 2 nineBytes ∷ announces 3 nineBytes ∷ announces 4 nineBytes ∷ announces 5 nineBytes
-    ∷ announces 6 nineBytes ∷ announces 7 nineBytes ∷ announces 8 nineBytes ∷ []
+    announcementBy 1 nineBytes ∷ announcementBy 2 nineBytes ∷ announcementBy 3 nineBytes ∷ announcementBy 4 nineBytes ∷ announcementBy 5 nineBytes
+    ∷ announcementBy 6 nineBytes ∷ announcementBy 7 nineBytes ∷ announcementBy 8 nineBytes ∷ []
 
 -- a node that holds 9Ch
 abbrev pub holding9C : Claim
@@ -182,7 +182,7 @@ idleClosed = line 5 (number (pausedAnswer 751 oneOpen)) (0 ∷ 1 ∷ [])
 
 -- (6) a ninth sender
 abbrev pub ninthSender : Line
-ninthSender = line 6 (answers (toldOf 9 (eightSenders ++ (announces 9 nineBytes ∷ [])))) (8 ∷ [])
+ninthSender = line 6 (answers (toldOf 9 (eightSenders ++ (announcementBy 9 nineBytes ∷ [])))) (8 ∷ [])
 
 -- (7) the long message
 abbrev pub longMessage : Line

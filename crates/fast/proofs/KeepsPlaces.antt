@@ -318,7 +318,7 @@ module _ (f : Frame) (r : Receiver) (s : List ℕ) (eight : length (r .places) �
         (λ t. finished-free (leb-true _ _ t) j n e)
         (λ t. opened-free (leb-false _ _ t) j n e)
 
-    begun : Agrees (Eight.begins new (f .bytes) r s)
+    begun : Agrees (Eight.hearsFirst new (f .bytes) r s)
     begun = go (placeFor (pairOf sender dgn) ps) refl
       where
         opening : isOpening (format .asks f) ≡ true
@@ -327,7 +327,7 @@ module _ (f : Frame) (r : Receiver) (s : List ℕ) (eight : length (r .places) �
             (λ t. rw (asks-finishes (leb-true _ _ t)))
             (λ t. rw (asks-opens (leb-false _ _ t)))
 
-        go : (g : Found) → placeFor (pairOf sender dgn) ps ≡ g → Agrees (Eight.begins new (f .bytes) r s)
+        go : (g : Found) → placeFor (pairOf sender dgn) ps ≡ g → Agrees (Eight.hearsFirst new (f .bytes) r s)
         go (At j) e =
             subst⁻¹ Agrees (begins-at new (f .bytes) r s j e) (entering j (place-for-at (pairOf sender dgn) ps j e))
         go Nowhere e =
@@ -506,11 +506,11 @@ module _ (f : Frame) (r : Receiver) (s : List ℕ) (eight : length (r .places) �
           (frame-other-sequence j p r s sequence number (f .bytes) (eqb-false sequence (p .sequence) t))
           (closed (rw t)))
 
-    continued : Agrees (Eight.continues (pairOf sender dgn) sequence number (f .bytes) r s)
+    continued : Agrees (Eight.hearsLater (pairOf sender dgn) sequence number (f .bytes) r s)
     continued = go (first (isOpenBy (pairOf sender dgn)) ps) refl
       where
         go : (g : Found) → first (isOpenBy (pairOf sender dgn)) ps ≡ g
-            → Agrees (Eight.continues (pairOf sender dgn) sequence number (f .bytes) r s)
+            → Agrees (Eight.hearsLater (pairOf sender dgn) sequence number (f .bytes) r s)
         go (At j) e =
             subst⁻¹ Agrees (continues-at (pairOf sender dgn) sequence number (f .bytes) r s j e) (at-place j e)
         go Nowhere e =

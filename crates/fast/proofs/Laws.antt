@@ -339,14 +339,14 @@ module _ (id : ℕ) (bytes : List ℕ) (r : Receiver) (s : List ℕ) where
   begins-left : (sender dgn sequence size : ℕ)
       → meaningOf (namesOf r) id bytes ≡ gives (begins sender dgn sequence size)
       → room ≤ length s → length bytes ≡ frameBytes
-      → Left id bytes r s (Receiver.begins (newPlace sender dgn sequence size) bytes r s)
+      → Left id bytes r s (Receiver.hearsFirst (newPlace sender dgn sequence size) bytes r s)
   begins-left sender dgn sequence size m enough l = go (placeFor (pairOf sender dgn) (r .places)) refl
     where
       p : Place
       p = newPlace sender dgn sequence size
 
       go : (g : Found) → placeFor (pairOf sender dgn) (r .places) ≡ g
-          → Left id bytes r s (Receiver.begins (newPlace sender dgn sequence size) bytes r s)
+          → Left id bytes r s (Receiver.hearsFirst (newPlace sender dgn sequence size) bytes r s)
       go (At i) e =
           subst⁻¹ (Left id bytes r s) (begins-at p bytes r s i e)
           (by-test (size ≤? firstBytes)
@@ -359,7 +359,7 @@ module _ (id : ℕ) (bytes : List ℕ) (r : Receiver) (s : List ℕ) where
   continues-left : (sender dgn sequence number : ℕ)
       → meaningOf (namesOf r) id bytes ≡ gives (continues sender dgn sequence number)
       → keepsRules r ≡ true → room ≤ length s → length bytes ≡ frameBytes
-      → Left id bytes r s (Receiver.continues (pairOf sender dgn) sequence number bytes r s)
+      → Left id bytes r s (Receiver.hearsLater (pairOf sender dgn) sequence number bytes r s)
   continues-left sender dgn sequence number m v enough l = go (first (isOpenBy (pairOf sender dgn)) (r .places)) refl
     where
       at : (i : ℕ) → first (isOpenBy (pairOf sender dgn)) (r .places) ≡ At i
@@ -389,7 +389,7 @@ module _ (id : ℕ) (bytes : List ℕ) (r : Receiver) (s : List ℕ) where
           subst⁻¹ (Left id bytes r s) (frame-other-sequence i p r s sequence number bytes d) (closes m e (inl d)))
 
       go : (g : Found) → first (isOpenBy (pairOf sender dgn)) (r .places) ≡ g
-          → Left id bytes r s (Receiver.continues (pairOf sender dgn) sequence number bytes r s)
+          → Left id bytes r s (Receiver.hearsLater (pairOf sender dgn) sequence number bytes r s)
       go (At i) e =
           subst⁻¹ (Left id bytes r s) (continues-at (pairOf sender dgn) sequence number bytes r s i e) (at i e)
       go Nowhere e =

@@ -20,7 +20,7 @@ use Rattle.words.specs.declared.Found.{Found}
 use Rattle.words.specs.declared.Found.the-variants.{At, Nowhere}
 use Rattle.fast.specs.FastPacket.{greatestSequence, firstBytes, longest, lastFrame, idleLimit, pairOf, other, carried, meant, meaningOf}
 use Rattle.fast.specs.Names.{mostNamed, mayBeNamed, isNamed, isWellFormed}
-use Rattle.fast.specs.Receiver.{room, freePlace, isFree, isOpenBy, layout, namesOf, holdsNames, keepsLimits, placeKeepsRules, keepsRules, Outcome, opened, stored, finished, After, leaves, placing, placeFor, entered, entersAt, begins, keptAt, expecting, advanced, frameAt, continues, byMeaning, heard}
+use Rattle.fast.specs.Receiver.{room, freePlace, isFree, isOpenBy, layout, namesOf, holdsNames, keepsLimits, placeKeepsRules, keepsRules, Outcome, opened, stored, finished, After, leaves, placing, placeFor, entered, entersAt, hearsFirst, keptAt, expecting, advanced, frameAt, hearsLater, byMeaning, heard}
 use Rattle.fast.specs.Promises.{toldAnswer, LeftBy}
 use Rattle.fast.specs.Private.{Live}
 use Rattle.fast.specs.declared.Place.{Place}
@@ -81,13 +81,13 @@ place-for-below pair ps j h e = go (place-for-at pair ps j e)
 
 module _ (p : Place) (bytes : List ℕ) (r : Receiver) (s : List ℕ) where
   pub begins-at : (i : ℕ) → placeFor (pairOf (p .sender) (p .dgn)) (r .places) ≡ At i
-      → begins p bytes r s ≡ entersAt i p bytes r s
-  unfolding begins
+      → hearsFirst p bytes r s ≡ entersAt i p bytes r s
+  unfolding hearsFirst
   begins-at i e = rw e
 
   pub begins-nowhere : placeFor (pairOf (p .sender) (p .dgn)) (r .places) ≡ Nowhere
-      → begins p bytes r s ≡ leaves r s (refused 8)
-  unfolding begins
+      → hearsFirst p bytes r s ≡ leaves r s (refused 8)
+  unfolding hearsFirst
   begins-nowhere e = rw e
 
 module _ (i : ℕ) (p : Place) (r : Receiver) (s : List ℕ) where
@@ -144,13 +144,13 @@ module _ (i : ℕ) (p : Place) (r : Receiver) (s : List ℕ) where
 
 module _ (pair sequence number : ℕ) (bytes : List ℕ) (r : Receiver) (s : List ℕ) where
   pub continues-at : (i : ℕ) → first (isOpenBy pair) (r .places) ≡ At i
-      → continues pair sequence number bytes r s ≡ frameAt i (getD (r .places) i freePlace) sequence number bytes r s
-  unfolding continues
+      → hearsLater pair sequence number bytes r s ≡ frameAt i (getD (r .places) i freePlace) sequence number bytes r s
+  unfolding hearsLater
   continues-at i e = rw e
 
   pub continues-nowhere : first (isOpenBy pair) (r .places) ≡ Nowhere
-      → continues pair sequence number bytes r s ≡ leaves r s (refused 9)
-  unfolding continues
+      → hearsLater pair sequence number bytes r s ≡ leaves r s (refused 9)
+  unfolding hearsLater
   continues-nowhere e = rw e
 
 -- the rules of a state, one by one

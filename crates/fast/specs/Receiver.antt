@@ -12,8 +12,7 @@ use Rattle.words.specs.declared.Found.{Found}
 use Rattle.words.specs.declared.Found.the-variants.{At, Nowhere}
 use Rattle.places.specs.Places.{placeCount}
 use Rattle.places.specs.Layout.{Layout, openBy, oneEach}
-use Rattle.fast.specs.FastPacket as FastPacket
-use Rattle.fast.specs.FastPacket.{greatestSequence, firstBytes, longest, offsetOf, lastFrame, neededFirst, needed, idleLimit, pairOf, Meaning, other, meaningOf}
+use Rattle.fast.specs.FastPacket.{greatestSequence, firstBytes, longest, offsetOf, lastFrame, neededFirst, needed, idleLimit, pairOf, Meaning, other, begins, continues, meaningOf}
 use Rattle.fast.specs.Names.{mostNamed, isNamed, isWellFormed}
 use Rattle.fast.specs.OnePair.{Open}
 use Rattle.fast.specs.declared.Place.{Place}
@@ -138,8 +137,8 @@ abbrev pub entersIn : Found → Place → List ℕ → Receiver → List ℕ →
 entersIn (At i) p bytes r storage = entersAt i p bytes r storage
 entersIn Nowhere p bytes r storage = leaves r storage (refused 8)
 
-unfoldable pub begins : Place → List ℕ → Receiver → List ℕ → After
-begins p bytes r storage = entersIn (placeFor (pairOf (p .sender) (p .dgn)) (r .places)) p bytes r storage
+unfoldable pub hearsFirst : Place → List ℕ → Receiver → List ℕ → After
+hearsFirst p bytes r storage = entersIn (placeFor (pairOf (p .sender) (p .dgn)) (r .places)) p bytes r storage
 
 -- A later frame: the expected one of the same sequence is stored in its place's own stretch, from 6 + 7 (number - 1)
 -- on, and only what the length still needs.
@@ -177,8 +176,8 @@ frameIn (At i) sequence number bytes r storage =
     frameAt i (getD (r .places) i freePlace) sequence number bytes r storage
 frameIn Nowhere sequence number bytes r storage = leaves r storage (refused 9)
 
-unfoldable pub continues : ℕ → ℕ → ℕ → List ℕ → Receiver → List ℕ → After
-continues pair sequence number bytes r storage =
+unfoldable pub hearsLater : ℕ → ℕ → ℕ → List ℕ → Receiver → List ℕ → After
+hearsLater pair sequence number bytes r storage =
     frameIn (first (isOpenBy pair) (r .places)) sequence number bytes r storage
 
 -- A frame.
@@ -186,10 +185,10 @@ continues pair sequence number bytes r storage =
 abbrev pub byMeaning : Told Meaning → List ℕ → Receiver → List ℕ → After
 byMeaning (refused n) bytes r storage = leaves r storage (refused n)
 byMeaning (gives other) bytes r storage = leaves r storage (gives nothingToDo)
-byMeaning (gives (FastPacket.begins sender dgn sequence size)) bytes r storage =
-    begins (newPlace sender dgn sequence size) bytes r storage
-byMeaning (gives (FastPacket.continues sender dgn sequence number)) bytes r storage =
-    continues (pairOf sender dgn) sequence number bytes r storage
+byMeaning (gives (begins sender dgn sequence size)) bytes r storage =
+    hearsFirst (newPlace sender dgn sequence size) bytes r storage
+byMeaning (gives (continues sender dgn sequence number)) bytes r storage =
+    hearsLater (pairOf sender dgn) sequence number bytes r storage
 
 unfoldable pub heard : ℕ → List ℕ → Receiver → List ℕ → After
 heard id bytes r storage =

@@ -22,7 +22,7 @@ use Rattle.frame.proofs.Laws.{badBack, bad-back}
 use Rattle.words.specs.declared.Found.{Found}
 use Rattle.words.specs.declared.Found.the-variants.{At, Nowhere}
 use Rattle.message.specs.LongMessage.{shortest, longest, packetBytes, packetsOf, needed, Meaning, other, announcement, packet, meaningOf}
-use Rattle.message.specs.Receiver.{placeCount, room, freePlace, isOpenBy, keepsRules, Outcome, nothingToDo, opened, stored, finished, After, leaves, placeFor, openedAt, announces, keptAt, packetAt, carries, byMeaning, heard, pausedPlaces, pausedAnswer}
+use Rattle.message.specs.Receiver.{placeCount, room, freePlace, isOpenBy, keepsRules, Outcome, nothingToDo, opened, stored, finished, After, leaves, placeFor, openedAt, hearsAnnouncement, keptAt, packetAt, carries, byMeaning, heard, pausedPlaces, pausedAnswer}
 use Rattle.message.specs.Receiver as Receiver
 use Rattle.message.specs.Splitter.{mostPackets, splits, numbered}
 use Rattle.message.specs.Promises.{toldAnswer, toldPausing, announcingNumber, splittingNumber, bytesIn}
@@ -40,7 +40,7 @@ use Rattle.message.specs.declared.Announcing.the-variants as Announcing
 use Rattle.message.specs.declared.Splitting.{Splitting}
 use Rattle.message.specs.declared.Splitting.the-variants as Splitting
 use Rattle.message.proofs.Frames.{Known, meaning-known}
-use Rattle.message.proofs.Steps.{found-below, OpenRules, rules-at, announces-at, announces-nowhere, advanced-last, advanced-next, advanced-storage, packet-expected, packet-other, carries-at, carries-nowhere, heard-short, heard-broken, heard-kept}
+use Rattle.message.proofs.Steps.{found-below, OpenRules, rules-at, announcing-at, announcing-nowhere, advanced-last, advanced-next, advanced-storage, packet-expected, packet-other, carries-at, carries-nowhere, heard-short, heard-broken, heard-kept}
 use Rattle.message.proofs.Packets.{announcement-refused, announcement-given, packet-refused, packet-numbered, numbered-zero, numbered-above, numbered-given}
 
 -- an answer is read back from what it tells
@@ -185,12 +185,12 @@ data Left (id : ℕ) (bytes : List ℕ) (ps : List Place) (s : List ℕ) : After
       → Left id bytes ps s (leaves qs (keptAt i (getD ps i freePlace) bytes s) (gives o))
 
 module _ (id : ℕ) (bytes : List ℕ) (ps : List Place) (s : List ℕ) where
-  announces-left : (sender size dgn : ℕ) → Left id bytes ps s (announces sender size dgn ps s)
-  announces-left sender size dgn = go (placeFor sender ps) refl
+  announcing-left : (sender size dgn : ℕ) → Left id bytes ps s (hearsAnnouncement sender size dgn ps s)
+  announcing-left sender size dgn = go (placeFor sender ps) refl
     where
-      go : (g : Found) → placeFor sender ps ≡ g → Left id bytes ps s (announces sender size dgn ps s)
-      go (At i) e = subst⁻¹ (Left id bytes ps s) (announces-at sender size dgn ps s i e) (opens i _)
-      go Nowhere e = subst⁻¹ (Left id bytes ps s) (announces-nowhere sender size dgn ps s e) (refuses (λ x. omega arith))
+      go : (g : Found) → placeFor sender ps ≡ g → Left id bytes ps s (hearsAnnouncement sender size dgn ps s)
+      go (At i) e = subst⁻¹ (Left id bytes ps s) (announcing-at sender size dgn ps s i e) (opens i _)
+      go Nowhere e = subst⁻¹ (Left id bytes ps s) (announcing-nowhere sender size dgn ps s e) (refuses (λ x. omega arith))
 
   carries-left : (sender number : ℕ) → meaningOf id bytes ≡ gives (packet sender number) → keepsRules ps ≡ true → room ≤ length s → length bytes ≡ frameBytes
       → Left id bytes ps s (carries sender number bytes ps s)
@@ -216,7 +216,7 @@ module _ (id : ℕ) (bytes : List ℕ) (ps : List Place) (s : List ℕ) where
   meaning-left : (m : Told Meaning) → meaningOf id bytes ≡ m → Known id bytes m → keepsRules ps ≡ true → room ≤ length s → Left id bytes ps s (byMeaning m bytes ps s)
   meaning-left (refused n) e k v enough = let h : n < 8 = k .1 in let x : n ≡ 10 → ⊥ = λ y. omega arith in refuses x
   meaning-left (gives other) e k v enough = passes
-  meaning-left (gives (announcement sender size dgn)) e k v enough = announces-left sender size dgn
+  meaning-left (gives (announcement sender size dgn)) e k v enough = announcing-left sender size dgn
   meaning-left (gives (packet sender number)) e k v enough = carries-left sender number e v enough (k .1)
 
   heard-left : Left id bytes ps s (heard id bytes ps s)

@@ -97,8 +97,8 @@ abbrev pub openedAt : Found → Place → List Place → List ℕ → After
 openedAt (At i) p places storage = leaves (set places i p) storage (gives opened)
 openedAt Nowhere p places storage = leaves places storage (refused 8)
 
-unfoldable pub announces : ℕ → ℕ → ℕ → List Place → List ℕ → After
-announces sender size dgn places storage =
+unfoldable pub hearsAnnouncement : ℕ → ℕ → ℕ → List Place → List ℕ → After
+hearsAnnouncement sender size dgn places storage =
     openedAt (placeFor sender places) (record { sender = sender; length = size; dgn = dgn; expected = 1; idle = 0 }) places storage
 
 -- A data packet: the expected one is stored in its place's own stretch, from 7 (number - 1) on, and only what the
@@ -136,7 +136,7 @@ carries sender number bytes places storage = packetFor (first (isOpenBy sender) 
 abbrev pub byMeaning : Told Meaning → List ℕ → List Place → List ℕ → After
 byMeaning (refused n) bytes places storage = leaves places storage (refused n)
 byMeaning (gives other) bytes places storage = leaves places storage (gives nothingToDo)
-byMeaning (gives (announcement sender size dgn)) bytes places storage = announces sender size dgn places storage
+byMeaning (gives (announcement sender size dgn)) bytes places storage = hearsAnnouncement sender size dgn places storage
 byMeaning (gives (packet sender number)) bytes places storage = carries sender number bytes places storage
 
 unfoldable pub heard : ℕ → List ℕ → List Place → List ℕ → After

@@ -6,7 +6,7 @@ ghost use Prim.Native.Nat.{ℕ, _<_, _≤_};
 ghost use lib.ListN.{length, getD, set};
 ghost use Rattle.words.specs.Lists.{first};
 ghost use Rattle.message.specs.LongMessage.{meant, meaningOf};
-ghost use Rattle.message.specs.Receiver.{room, freePlace, isFree, isOpenBy, keepsRules, placeFor, announces, packetAt, carries, byMeaning, advanced};
+ghost use Rattle.message.specs.Receiver.{room, freePlace, isFree, isOpenBy, keepsRules, placeFor, hearsAnnouncement, packetAt, carries, byMeaning, advanced};
 ghost use Rattle.message.specs.Promises.{LeftBy};
 ghost use Rattle.message.specs.Private.{PausedBy, Live};
 use crate::Answer;
@@ -63,7 +63,7 @@ fn heed(r: Receiver, storage: &mut [u8], sender: u8, dgn: u32, bytes: [u8; 8]) -
 
 // A well-formed announcement.
 fn announce(r: Receiver, sender: u8, size: u16, dgn: u32) -> Heard
-    ensures { λ h. ⌜ ((s : List ℕ) → LeftBy (announces sender size dgn (r .places) s) h s) ⌝ }
+    ensures { λ h. ⌜ ((s : List ℕ) → LeftBy (hearsAnnouncement sender size dgn (r .places) s) h s) ⌝ }
 {
     match place_for(r, sender) {
         Found::At(at) => {

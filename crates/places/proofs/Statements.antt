@@ -16,7 +16,7 @@ use Rattle.words.proofs.Words.{by-test}
 use Rattle.words.proofs.Lists.{absent-cons, absent-head, absent-tail, distinct-cons, distinct-head, distinct-tail}
 use Rattle.places.specs.Format.{Asks, fixed, opens, finishes, feeds, Fed, goes, ends, Format, Event, frame, pause, step}
 use Rattle.places.specs.OneKey.{fedAlone, packetAlone, askedAlone, hearAlone, pauseAlone, solo, openAfter}
-use Rattle.places.specs.Places.{free, held, Out, full, said, heard, paused, lookup, keyed, update, anyFree, keysOf, OnePlaceEach, isNone, placeCount, Places, opened, finished, fed, packet, asked, hear, rest, pass, closes, closedBy, eightFree, after, History, run, eventsOf, toldTo, only, admitted, NeverFull, answered}
+use Rattle.places.specs.Places.{free, held, Out, full, said, heard, paused, lookup, keyed, update, anyFree, keysOf, OnePlaceEach, isNone, placeCount, Places, hearsOpening, hearsWhole, afterPacket, hearsPacket, asked, hear, rest, pass, closes, closedBy, eightFree, after, History, run, eventsOf, toldTo, only, admitted, NeverFull, answered}
 use Rattle.places.specs.Statements.{StepAgrees, PauseCloses, RunKeeps, onBusyBus, AsRulesFrom, AsRulesFromAny, OpenAsRules, ToldAsRules, BusyAsQuiet, EightOthersOpen, EightOthers, isOpening, FullExactlyWhen, FullExactlyWhenAt, ClosesAsRules, Pausing, spaced, spacing, SumsOfPauses, AllKept, PausesAdd}
 use Rattle.places.proofs.Places.{by-equal, some-none, absent-lookup, lookup-absent, update-other, update-each, freed-holders, holders-below, holders-full, full-holders}
 use Rattle.places.proofs.Steps.{said-full, no-place, one-step, pass-lookup, pass-each, closed-count}
@@ -135,29 +135,29 @@ module _ (𝓕 : Format) where
   others-full : (k : ℕ) (ps : Places 𝓕) → EightOthers k ps → (lookup k ps ≡ none) × (anyFree ps ≡ false)
   others-full k ps o = (absent-lookup k ps (distinct-head k (keysOf ps) (o .different)), holders-full ps (o .holders ∙ sym (o .places)))
 
-  full-opened : (k : ℕ) (s : 𝓕 .Session) (a : 𝓕 .Answer) (ps : Places 𝓕) (m : Option (𝓕 .Session)) → opened 𝓕 k s a ps m .answer ≡ full
+  full-opening : (k : ℕ) (s : 𝓕 .Session) (a : 𝓕 .Answer) (ps : Places 𝓕) (m : Option (𝓕 .Session)) → hearsOpening 𝓕 k s a ps m .answer ≡ full
       → (m ≡ none) × (anyFree ps ≡ false)
-  full-opened k s a ps none h = by-test (anyFree ps) (λ f. said-full (rw f at h)) (λ f. (refl, f))
-  full-opened k s a ps (some t) h = said-full h
+  full-opening k s a ps none h = by-test (anyFree ps) (λ f. said-full (rw f at h)) (λ f. (refl, f))
+  full-opening k s a ps (some t) h = said-full h
 
-  full-finished : (k : ℕ) (a : 𝓕 .Answer) (ps : Places 𝓕) (m : Option (𝓕 .Session)) → finished 𝓕 k a ps m .answer ≡ full
+  full-whole : (k : ℕ) (a : 𝓕 .Answer) (ps : Places 𝓕) (m : Option (𝓕 .Session)) → hearsWhole 𝓕 k a ps m .answer ≡ full
       → (m ≡ none) × (anyFree ps ≡ false)
-  full-finished k a ps none h = by-test (anyFree ps) (λ f. said-full (rw f at h)) (λ f. (refl, f))
-  full-finished k a ps (some t) h = said-full h
+  full-whole k a ps none h = by-test (anyFree ps) (λ f. said-full (rw f at h)) (λ f. (refl, f))
+  full-whole k a ps (some t) h = said-full h
 
-  not-fed : (k : ℕ) (ps : Places 𝓕) (r : Fed (𝓕 .Session) (𝓕 .Answer)) → fed 𝓕 k ps r .answer ≢ full
-  not-fed k ps (goes s a) h = said-full h
-  not-fed k ps (ends a) h = said-full h
+  not-after-packet : (k : ℕ) (ps : Places 𝓕) (r : Fed (𝓕 .Session) (𝓕 .Answer)) → afterPacket 𝓕 k ps r .answer ≢ full
+  not-after-packet k ps (goes s a) h = said-full h
+  not-after-packet k ps (ends a) h = said-full h
 
-  not-packet : (k : ℕ) (d : 𝓕 .Data) (a : 𝓕 .Answer) (ps : Places 𝓕) (m : Option (𝓕 .Session)) → packet 𝓕 k d a ps m .answer ≢ full
+  not-packet : (k : ℕ) (d : 𝓕 .Data) (a : 𝓕 .Answer) (ps : Places 𝓕) (m : Option (𝓕 .Session)) → hearsPacket 𝓕 k d a ps m .answer ≢ full
   not-packet k d a ps none h = said-full h
-  not-packet k d a ps (some s) h = not-fed k ps (𝓕 .feed s d) h
+  not-packet k d a ps (some s) h = not-after-packet k ps (𝓕 .feed s d) h
 
   full-asked : (k : ℕ) (q : Asks (𝓕 .Session) (𝓕 .Data) (𝓕 .Answer)) (ps : Places 𝓕) → asked 𝓕 k q ps .answer ≡ full
       → (isOpening q ≡ true) × (lookup k ps ≡ none) × (anyFree ps ≡ false)
   full-asked k (fixed a) ps h = said-full h
-  full-asked k (opens s a) ps h = let r = full-opened k s a ps (lookup k ps) h in (refl, r .0, r .1)
-  full-asked k (finishes a) ps h = let r = full-finished k a ps (lookup k ps) h in (refl, r .0, r .1)
+  full-asked k (opens s a) ps h = let r = full-opening k s a ps (lookup k ps) h in (refl, r .0, r .1)
+  full-asked k (finishes a) ps h = let r = full-whole k a ps (lookup k ps) h in (refl, r .0, r .1)
   full-asked k (feeds d a) ps h = absurd (not-packet k d a ps (lookup k ps) h)
 
   pub full-exactly-when-at : FullExactlyWhenAt 𝓕

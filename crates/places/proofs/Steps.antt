@@ -14,7 +14,7 @@ use Rattle.words.proofs.Words.{by-test, true-false}
 use Rattle.words.proofs.Lists.{absent-head, absent-tail, distinct-head, distinct-tail}
 use Rattle.places.specs.Format.{Asks, fixed, opens, finishes, feeds, Fed, goes, ends, Format, Step, step}
 use Rattle.places.specs.OneKey.{fedAlone, packetAlone, askedAlone, pauseAlone}
-use Rattle.places.specs.Places.{free, held, full, said, lookup, update, anyFree, keysOf, OnePlaceEach, isNone, Places, opened, finished, fed, packet, asked, pass, closedBy}
+use Rattle.places.specs.Places.{free, held, full, said, lookup, update, anyFree, keysOf, OnePlaceEach, isNone, Places, hearsOpening, hearsWhole, afterPacket, hearsPacket, asked, pass, closedBy}
 use Rattle.places.specs.Statements.{StepAgrees, OneStep, isOpening}
 use Rattle.places.proofs.Places.{by-equal, some-none, absent-lookup, keyed-other, keyed-same, keyed-each, update-other, update-same, update-each, length-update, take-other, take-same, take-each, length-lowest}
 
@@ -67,9 +67,9 @@ module _ (𝓕 : Format) where
         as-many = refl;
       }
 
-  opened-agrees : (k : ℕ) (s : 𝓕 .Session) (a : 𝓕 .Answer) (ps : Places 𝓕) (m : Option (𝓕 .Session)) → OnePlaceEach ps → lookup k ps ≡ m
-      → StepAgrees k ps (opened 𝓕 k s a ps m) (step (some s) a)
-  opened-agrees k s a ps none u e =
+  opening-agrees : (k : ℕ) (s : 𝓕 .Session) (a : 𝓕 .Answer) (ps : Places 𝓕) (m : Option (𝓕 .Session)) → OnePlaceEach ps → lookup k ps ≡ m
+      → StepAgrees k ps (hearsOpening 𝓕 k s a ps m) (step (some s) a)
+  opening-agrees k s a ps none u e =
       by-test (anyFree ps)
       (λ f. rw f (record {
         answered = λ _. refl;
@@ -80,28 +80,28 @@ module _ (𝓕 : Format) where
         as-many = length-lowest k s ps;
       }))
       (λ f. rw f (refused k (step (some s) a) ps u))
-  opened-agrees k s a ps (some t) u e = updated k (some s) a t ps u e
+  opening-agrees k s a ps (some t) u e = updated k (some s) a t ps u e
 
-  finished-agrees : (k : ℕ) (a : 𝓕 .Answer) (ps : Places 𝓕) (m : Option (𝓕 .Session)) → OnePlaceEach ps → lookup k ps ≡ m
-      → StepAgrees k ps (finished 𝓕 k a ps m) (step none a)
-  finished-agrees k a ps none u e = by-test (anyFree ps) (λ f. rw f (idle k a none ps u e)) (λ f. rw f (refused k (step none a) ps u))
-  finished-agrees k a ps (some t) u e = updated k none a t ps u e
+  whole-agrees : (k : ℕ) (a : 𝓕 .Answer) (ps : Places 𝓕) (m : Option (𝓕 .Session)) → OnePlaceEach ps → lookup k ps ≡ m
+      → StepAgrees k ps (hearsWhole 𝓕 k a ps m) (step none a)
+  whole-agrees k a ps none u e = by-test (anyFree ps) (λ f. rw f (idle k a none ps u e)) (λ f. rw f (refused k (step none a) ps u))
+  whole-agrees k a ps (some t) u e = updated k none a t ps u e
 
-  fed-agrees : (k : ℕ) (ps : Places 𝓕) (t : 𝓕 .Session) (r : Fed (𝓕 .Session) (𝓕 .Answer)) → OnePlaceEach ps → lookup k ps ≡ some t
-      → StepAgrees k ps (fed 𝓕 k ps r) (fedAlone 𝓕 r)
-  fed-agrees k ps t (goes s a) u e = updated k (some s) a t ps u e
-  fed-agrees k ps t (ends a) u e = updated k none a t ps u e
+  after-packet-agrees : (k : ℕ) (ps : Places 𝓕) (t : 𝓕 .Session) (r : Fed (𝓕 .Session) (𝓕 .Answer)) → OnePlaceEach ps → lookup k ps ≡ some t
+      → StepAgrees k ps (afterPacket 𝓕 k ps r) (fedAlone 𝓕 r)
+  after-packet-agrees k ps t (goes s a) u e = updated k (some s) a t ps u e
+  after-packet-agrees k ps t (ends a) u e = updated k none a t ps u e
 
   packet-agrees : (k : ℕ) (d : 𝓕 .Data) (a : 𝓕 .Answer) (ps : Places 𝓕) (m : Option (𝓕 .Session)) → OnePlaceEach ps → lookup k ps ≡ m
-      → StepAgrees k ps (packet 𝓕 k d a ps m) (packetAlone 𝓕 d a m)
+      → StepAgrees k ps (hearsPacket 𝓕 k d a ps m) (packetAlone 𝓕 d a m)
   packet-agrees k d a ps none u e = idle k a none ps u e
-  packet-agrees k d a ps (some s) u e = fed-agrees k ps s (𝓕 .feed s d) u e
+  packet-agrees k d a ps (some s) u e = after-packet-agrees k ps s (𝓕 .feed s d) u e
 
   asked-agrees : (k : ℕ) (q : Asks (𝓕 .Session) (𝓕 .Data) (𝓕 .Answer)) (ps : Places 𝓕) → OnePlaceEach ps
       → StepAgrees k ps (asked 𝓕 k q ps) (askedAlone 𝓕 q (lookup k ps))
   asked-agrees k (fixed a) ps u = idle k a (lookup k ps) ps u refl
-  asked-agrees k (opens s a) ps u = opened-agrees k s a ps (lookup k ps) u refl
-  asked-agrees k (finishes a) ps u = finished-agrees k a ps (lookup k ps) u refl
+  asked-agrees k (opens s a) ps u = opening-agrees k s a ps (lookup k ps) u refl
+  asked-agrees k (finishes a) ps u = whole-agrees k a ps (lookup k ps) u refl
   asked-agrees k (feeds d a) ps u = packet-agrees k d a ps (lookup k ps) u refl
 
   -- a frame
