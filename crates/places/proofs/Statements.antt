@@ -14,9 +14,9 @@ use Rattle.words.specs.Words.{if_then_else_, _=?_}
 use Rattle.words.specs.Lists.{count, Absent, Distinct}
 use Rattle.words.proofs.Words.{by-test}
 use Rattle.words.proofs.Lists.{absent-cons, absent-head, absent-tail, distinct-cons, distinct-head, distinct-tail}
-use Rattle.places.specs.Format.{Asks, fixed, opens, finishes, feeds, Fed, goes, ends, Format, Event, frame, pause, step}
-use Rattle.places.specs.OneKey.{fedAlone, packetAlone, askedAlone, hearAlone, pauseAlone, solo, openAfter}
-use Rattle.places.specs.Places.{free, held, Out, full, said, heard, paused, lookup, keyed, update, anyFree, keysOf, OnePlaceEach, isNone, placeCount, Places, hearsOpening, hearsWhole, afterPacket, hearsPacket, asked, hear, rest, pass, closes, closedBy, eightFree, after, History, run, eventsOf, toldTo, only, admitted, NeverFull, answered}
+use Rattle.places.specs.Format.{Asks, fixed, opens, finishes, feeds, Fed, goes, ends, Format, isNone, Event, frame, pause, step}
+use Rattle.places.specs.OneKey.{fedAlone, packetAlone, askedAlone, hearAlone, pauseAlone, closesAlone, solo, openAfter}
+use Rattle.places.specs.Places.{free, held, Out, full, said, heard, paused, lookup, keyed, update, anyFree, keysOf, OnePlaceEach, placeCount, Places, hearsOpening, hearsWhole, afterPacket, hearsPacket, asked, hear, rest, pass, closes, closedBy, eightFree, after, History, run, eventsOf, toldTo, only, admitted, NeverFull, answered}
 use Rattle.places.specs.Statements.{StepAgrees, PauseCloses, RunKeeps, onBusyBus, AsRulesFrom, AsRulesFromAny, OpenAsRules, ToldAsRules, BusyAsQuiet, EightOthersOpen, EightOthers, isOpening, FullExactlyWhen, FullExactlyWhenAt, ClosesAsRules, Pausing, spaced, spacing, SumsOfPauses, AllKept, PausesAdd}
 use Rattle.places.proofs.Places.{by-equal, some-none, absent-lookup, lookup-absent, update-other, update-each, freed-holders, holders-below, holders-full, full-holders}
 use Rattle.places.proofs.Steps.{said-full, no-place, one-step, pass-lookup, pass-each, closed-count}
@@ -234,7 +234,7 @@ module _ (𝓕 : Format) where
         keys = keysOf ps;
         different = u;
         exactly = λ k. ((λ a. sym (open-as-rules k events) ∙ absent-lookup k ps a), (λ e. lookup-absent k ps (open-as-rules k events ∙ e)));
-        number = closed-count 𝓕 ms ps u ∙ count-same (λ k. ap (λ m. isNone (pauseAlone 𝓕 ms m)) (open-as-rules k events)) (keysOf ps);
+        number = closed-count 𝓕 ms ps u ∙ count-same (λ k. ap (closesAlone 𝓕 ms) (open-as-rules k events)) (keysOf ps);
       }
 
 module _ (𝓕 : Format) (𝓟 : Pausing 𝓕) where

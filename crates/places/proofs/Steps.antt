@@ -12,10 +12,10 @@ use Rattle.words.specs.Words.{if_then_else_}
 use Rattle.words.specs.Lists.{count, Absent}
 use Rattle.words.proofs.Words.{by-test, true-false}
 use Rattle.words.proofs.Lists.{absent-head, absent-tail, distinct-head, distinct-tail}
-use Rattle.places.specs.Format.{Asks, fixed, opens, finishes, feeds, Fed, goes, ends, Format, Step, step}
-use Rattle.places.specs.OneKey.{fedAlone, packetAlone, askedAlone, pauseAlone}
-use Rattle.places.specs.Places.{free, held, full, said, lookup, update, anyFree, keysOf, OnePlaceEach, isNone, Places, hearsOpening, hearsWhole, afterPacket, hearsPacket, asked, pass, closedBy}
-use Rattle.places.specs.Statements.{StepAgrees, OneStep, isOpening}
+use Rattle.places.specs.Format.{Asks, fixed, opens, finishes, feeds, Fed, goes, ends, Format, isNone, Step, step}
+use Rattle.places.specs.OneKey.{fedAlone, packetAlone, askedAlone, pauseAlone, closesAlone}
+use Rattle.places.specs.Places.{free, held, full, said, lookup, update, anyFree, keysOf, OnePlaceEach, Places, hearsOpening, hearsWhole, afterPacket, hearsPacket, asked, pass, closedBy}
+use Rattle.places.specs.Statements.{StepAgrees, OneStep, closedAlone, isOpening}
 use Rattle.places.proofs.Places.{by-equal, some-none, absent-lookup, keyed-other, keyed-same, keyed-each, update-other, update-same, update-each, length-update, take-other, take-same, take-each, length-lowest}
 
 pub said-full : {A B : Type 0} {a : A} → said a ≡ full → B
@@ -140,11 +140,11 @@ module _ (𝓕 : Format) where
 
   -- a first place changes nothing of the keys that are not its own
   count-apart : (ms j : ℕ) (s : 𝓕 .Session) (ps : Places 𝓕) (ks : List ℕ) → Absent j ks
-      → count (λ k. isNone (pauseAlone 𝓕 ms (lookup k (held j s ∷ ps)))) ks ≡ count (λ k. isNone (pauseAlone 𝓕 ms (lookup k ps))) ks
+      → count (λ k. closesAlone 𝓕 ms (lookup k (held j s ∷ ps))) ks ≡ count (λ k. closesAlone 𝓕 ms (lookup k ps)) ks
   count-apart ms j s ps [] h = refl
   count-apart ms j s ps (k ∷ ks) h = rw (ne-eqb j k (absent-head j k ks h), count-apart ms j s ps ks (absent-tail j k ks h))
 
-  pub closed-count : (ms : ℕ) (ps : Places 𝓕) → OnePlaceEach ps → closedBy 𝓕 ms ps ≡ count (λ k. isNone (pauseAlone 𝓕 ms (lookup k ps))) (keysOf ps)
+  pub closed-count : (ms : ℕ) (ps : Places 𝓕) → OnePlaceEach ps → closedBy 𝓕 ms ps ≡ closedAlone 𝓕 ms ps
   closed-count ms [] u = refl
   closed-count ms (free ∷ ps) u = zero-add _ ∙ closed-count ms ps u
   closed-count ms (held j s ∷ ps) u =

@@ -6,7 +6,8 @@ use Prim.Native.Nat.{ℕ, _+_}
 use lib.ListN.{replicate}
 use Rattle.words.specs.Words.{if_then_else_, _=?_, Told, gives}
 use Rattle.words.specs.Lists.{count, Distinct}
-use Rattle.places.specs.Format.{Asks, fixed, opens, finishes, feeds, Fed, goes, ends, Format, Event, frame, pause, Step, step}
+use Rattle.places.specs.Format.{Asks, fixed, opens, finishes, feeds, Fed, goes, ends, Format, isNone}
+use Rattle.places.specs.Format.{Event, frame, pause, Step, step}
 
 pub data Place (S : Type 0) : Type 0 where
   free : Place S
@@ -63,10 +64,6 @@ keysOf (held j s ∷ ps) = j ∷ keysOf ps
 -- no key has two places
 abbrev pub OnePlaceEach : {S : Type 0} → List (Place S) → Type 0
 OnePlaceEach ps = Distinct (keysOf ps)
-
-abbrev pub isNone : {A : Type 0} → Option A → Bool
-isNone none = true
-isNone (some a) = false
 
 module _ (𝓕 : Format) where
   abbrev pub Places : Type 0
