@@ -215,7 +215,7 @@ module _ (f : Frame) (ps : List Place) (s : List ℕ) (eight : length ps ≡ pla
       freed = every-set placeKeepsRules ps j freePlace each-rules free-rules
 
       last : number ≡ p .expected → p .expected ≡ packetsOf (p .length)
-          → fedBy (openMessage p (stretch longest j s)) part ≡ ends (gives (OneSender.finished (p .sender) (p .dgn) (joined (openMessage p (stretch longest j s)) (drop 1 (f .bytes)))))
+          → fedBy (openMessage p (stretch longest j s)) part ≡ ends (gives (OneSender.finished (record { sender = p .sender; dgn = p .dgn; bytes = joined (openMessage p (stretch longest j s)) (drop 1 (f .bytes)) })))
       last n u = rw (eq-eqb _ _ n, eq-eqb _ _ u)
 
       next : number ≡ p .expected → p .expected ≢ packetsOf (p .length)
@@ -235,9 +235,9 @@ module _ (f : Frame) (ps : List Place) (s : List ℕ) (eight : length ps ≡ pla
           (record {
             shows =
                 subst⁻¹
-                (λ (m : List ℕ). Shows longMessages layout f ps s (set ps j freePlace) (keptAt j p (f .bytes) s) (said (gives (OneSender.finished (p .sender) (p .dgn) m))))
+                (λ (m : List ℕ). Shows longMessages layout f ps s (set ps j freePlace) (keptAt j p (f .bytes) s) (said (gives (OneSender.finished (record { sender = p .sender; dgn = p .dgn; bytes = m })))))
                 (whole-message s (f .bytes) j p enough below rules-here size u)
-                (shows-feeds-ends longMessages layout f ps s part (refused 9) (gives (OneSender.finished (p .sender) (p .dgn) (joined (openMessage p (stretch longest j s)) (drop 1 (f .bytes)))))
+                (shows-feeds-ends longMessages layout f ps s part (refused 9) (gives (OneSender.finished (record { sender = p .sender; dgn = p .dgn; bytes = joined (openMessage p (stretch longest j s)) (drop 1 (f .bytes)) })))
                 j freePlace freePlace (keptAt j p (f .bytes) s) asks (sought (At j) e) (last n u) refl (others s (f .bytes) j p enough below rules-here size));
             rules = freed;
             long = length-written s (f .bytes) j p enough below rules-here size;

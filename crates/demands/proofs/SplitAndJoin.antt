@@ -127,7 +127,7 @@ joins message dgn sender number sum one most =
 
 module _ (message : List ℕ) (dgn sender : ℕ) (w : Sendable message dgn sender) where
   abbrev ToldLast : List (Event Frame) → Option Open → Type 0
-  ToldLast events m = (answers : List (Told Tells)) × (solo longMessages m events ≡ answers ++ (gives (finished sender dgn message) ∷ []))
+  ToldLast events m = (answers : List (Told Tells)) × (solo longMessages m events ≡ answers ++ (gives (finished (record { sender = sender; dgn = dgn; bytes = message })) ∷ []))
 
   -- one packet, heard alone
   module _ (number sum priority : ℕ) (r : Split) (high : priority ≤ lowestPriority) (one : 1 ≤ number) (most : number ≤ packetsOf (length message))
@@ -155,7 +155,7 @@ module _ (message : List ℕ) (dgn sender : ℕ) (w : Sendable message dgn sende
         let c : joined m (drop 1 (r .bytes)) ≡ take (packetBytes * (number + 1 - 1)) message = packet-joins ∙ ap (λ (n : ℕ). take n message) y in
         rw (packet-asks, eq-eqb number number refl, ne-eqb number (packetsOf (length message)) (λ e. omega arith), c)
 
-    hears-last : number ≡ packetsOf (length message) → hearAlone longMessages f (some m) ≡ step none (gives (finished sender dgn message))
+    hears-last : number ≡ packetsOf (length message) → hearAlone longMessages f (some m) ≡ step none (gives (finished (record { sender = sender; dgn = dgn; bytes = message })))
     hears-last h =
         let y : length message ≤ packetBytes * (number - 1) + needed (length message) number = omega (arith, w .long) in
         let c : joined m (drop 1 (r .bytes)) ≡ message = packet-joins ∙ take-all _ message y in
@@ -216,7 +216,7 @@ pub split-and-join : SplitAndJoin
 split-and-join message dgn sender h s earlier own w b e o =
     let r = joined-by-rules message dgn sender own w o (openAfter longMessages none earlier) in
     let first = solo longMessages none earlier in
-    let last = gives (finished sender dgn message) ∷ [] in (
+    let last = gives (finished (record { sender = sender; dgn = dgn; bytes = message })) ∷ [] in (
       first ++ r .0,
       told-on-bus h s b sender
           ∙ ap (λ (x : List (Event Frame)). solo longMessages none x) e

@@ -71,7 +71,7 @@ SplitAndJoin =
     → Sendable message dgn sender → FromStart receiverCalls h s → admitted longMessages sender h ≡ earlier ++ own
     → Sent message dgn sender own
     → (answers : List (Told Tells))
-    × (answered (toldTo longMessages sender h) ≡ answers ++ (gives (finished sender dgn message) ∷ []))
+    × (answered (toldTo longMessages sender h) ≡ answers ++ (gives (finished (record { sender = sender; dgn = dgn; bytes = message })) ∷ []))
 
 -- By the single-sender rules: whatever was open, the last answer hands over the message.
 abbrev pub JoinedByRules : Type 0
@@ -80,4 +80,4 @@ JoinedByRules =
     → Sent message dgn sender events
     → (before : Option Open)
     → (answers : List (Told Tells))
-    × (solo longMessages before events ≡ answers ++ (gives (finished sender dgn message) ∷ []))
+    × (solo longMessages before events ≡ answers ++ (gives (finished (record { sender = sender; dgn = dgn; bytes = message })) ∷ []))

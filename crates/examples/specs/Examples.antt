@@ -58,7 +58,7 @@ answer (said (refused n)) = n ∷ []
 answer (said (gives nothingToDo)) = 0 ∷ 0 ∷ []
 answer (said (gives opened)) = 0 ∷ 1 ∷ []
 answer (said (gives stored)) = 0 ∷ 2 ∷ []
-answer (said (gives (finished sender dgn l))) = 0 ∷ sender ∷ dgn ∷ l
+answer (said (gives (finished m))) = 0 ∷ m .sender ∷ m .dgn ∷ m .bytes
 
 abbrev pub answers : List (Out (Told Tells)) → List ℕ
 answers [] = []

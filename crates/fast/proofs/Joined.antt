@@ -158,7 +158,7 @@ module _ (names message : List ℕ) (dgn sender sequence : ℕ) (well-formed : i
   abbrev ToldLast : List (Event Frame) → Option Open → Type 0
   ToldLast events m =
       (answers : List (Told Tells))
-      × (solo (fastPackets names) m events ≡ answers ++ (gives (finished sender dgn message) ∷ []))
+      × (solo (fastPackets names) m events ≡ answers ++ (gives (finished (record { sender = sender; dgn = dgn; bytes = message })) ∷ []))
 
   small : dgn ≤ greatestDgn
   small = may-be-small dgn (named-allowed names dgn (all-allowed names well-formed) (w .about))
@@ -185,7 +185,7 @@ module _ (names message : List ℕ) (dgn sender sequence : ℕ) (well-formed : i
         ∙ rw first-bytes (first-carried message sequence (w .numbered) (w .long) (w .short) sender dgn)
 
     hears-whole : length message ≤ firstBytes
-        → hearAlone (fastPackets names) f₀ before ≡ step none (gives (finished sender dgn message))
+        → hearAlone (fastPackets names) f₀ before ≡ step none (gives (finished (record { sender = sender; dgn = dgn; bytes = message })))
     hears-whole h =
         let c : take (length message) (drop 2 (r .bytes)) ≡ message = rw first-bytes (all-bytes message sequence h) in
         rw (first-means, le-leb _ _ h, c)
@@ -229,7 +229,7 @@ module _ (names message : List ℕ) (dgn sender sequence : ℕ) (well-formed : i
         rw (later-means, eq-eqb sequence sequence refl, eq-eqb number number refl, u, c)
 
     hears-last : number ≡ lastFrame (length message)
-        → hearAlone (fastPackets names) f (some m) ≡ step none (gives (finished sender dgn message))
+        → hearAlone (fastPackets names) f (some m) ≡ step none (gives (finished (record { sender = sender; dgn = dgn; bytes = message })))
     hears-last h =
         let y : length message ≤ offsetOf number + needed (length message) number = omega arith in
         let c : joined m (drop 1 (r .bytes)) ≡ message = later-joins ∙ take-all _ message y in

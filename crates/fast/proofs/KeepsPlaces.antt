@@ -196,7 +196,7 @@ module _ (f : Frame) (r : Receiver) (s : List ℕ) (eight : length (r .places) �
     -- of six bytes or fewer: it finishes at once, in the pair's place or the lowest free one
     module _ (few : size ≤ firstBytes) where
       abbrev told : Told Tells
-      told = gives (OnePair.finished sender dgn (take size six))
+      told = gives (OnePair.finished (record { sender = sender; dgn = dgn; bytes = take size six }))
 
       asks-finishes : format .asks f ≡ finishes told
       asks-finishes = asked ∙ rw (le-leb _ _ few)
@@ -428,7 +428,7 @@ module _ (f : Frame) (r : Receiver) (s : List ℕ) (eight : length (r .places) �
           rw (not-free p (omega (arith, here .long)), eq-eqb (pairOf (p .sender) (p .dgn)) key (of-the-pair ∙ sym by))
 
       last : sequence ≡ p .sequence → number ≡ p .expected → p .expected ≡ lastFrame (p .length)
-          → fedBy m part ≡ ends (gives (OnePair.finished (p .sender) (p .dgn) (joined m seven)))
+          → fedBy m part ≡ ends (gives (OnePair.finished (record { sender = p .sender; dgn = p .dgn; bytes = joined m seven })))
       last q n u = rw (eq-eqb _ _ q, eq-eqb _ _ n, eq-eqb _ _ u)
 
       next : sequence ≡ p .sequence → number ≡ p .expected → p .expected ≢ lastFrame (p .length)
@@ -445,10 +445,10 @@ module _ (f : Frame) (r : Receiver) (s : List ℕ) (eight : length (r .places) �
                 subst⁻¹
                 (λ (l : List ℕ).
                 Shows format layout f ps s (set ps j freePlace) t
-                (said (gives (OnePair.finished (p .sender) (p .dgn) l))))
+                (said (gives (OnePair.finished (record { sender = p .sender; dgn = p .dgn; bytes = l })))))
                 (whole-message u)
                 (shows-feeds-ends format layout f ps s part (refused 9)
-                (gives (OnePair.finished (p .sender) (p .dgn) (joined m seven)))
+                (gives (OnePair.finished (record { sender = p .sender; dgn = p .dgn; bytes = joined m seven })))
                 j freePlace freePlace t asks (sought (At j) e) (last q n u) refl others);
             rules = freed j;
             long = length-kept;

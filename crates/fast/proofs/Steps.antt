@@ -20,7 +20,7 @@ use Rattle.words.specs.declared.Found.{Found}
 use Rattle.words.specs.declared.Found.the-variants.{At, Nowhere}
 use Rattle.fast.specs.FastPacket.{greatestSequence, firstBytes, longest, lastFrame, idleLimit, pairOf, other, carried, meant, meaningOf}
 use Rattle.fast.specs.Names.{mostNamed, mayBeNamed, isNamed, isWellFormed}
-use Rattle.fast.specs.Receiver.{room, freePlace, isFree, isOpenBy, layout, namesOf, holdsNames, keepsLimits, placeKeepsRules, keepsRules, Outcome, opened, stored, finished, After, leaves, placing, placeFor, entered, entersAt, hearsFirst, keptAt, expecting, advanced, frameAt, hearsLater, byMeaning, heard}
+use Rattle.fast.specs.Receiver.{room, freePlace, isFree, isOpenBy, layout, namesOf, holdsNames, keepsLimits, placeKeepsRules, keepsRules, Outcome, opened, stored, finished, wholeAt, After, leaves, placing, placeFor, entered, entersAt, hearsFirst, keptAt, expecting, advanced, frameAt, hearsLater, byMeaning, heard}
 use Rattle.fast.specs.Promises.{toldAnswer, LeftBy}
 use Rattle.fast.specs.Private.{Live}
 use Rattle.fast.specs.declared.Place.{Place}
@@ -92,7 +92,7 @@ module _ (p : Place) (bytes : List ℕ) (r : Receiver) (s : List ℕ) where
 
 module _ (i : ℕ) (p : Place) (r : Receiver) (s : List ℕ) where
   pub entered-short : p .length ≤ firstBytes
-      → entered i p r s ≡ leaves (placing r i freePlace) s (gives (finished i (p .sender) (p .dgn) (p .length)))
+      → entered i p r s ≡ leaves (placing r i freePlace) s (gives (finished (wholeAt i p)))
   unfolding entered
   entered-short h = rw (le-leb _ _ h)
 
@@ -111,7 +111,7 @@ module _ (i : ℕ) (p : Place) (r : Receiver) (s : List ℕ) where
 
 module _ (i : ℕ) (p : Place) (r : Receiver) (s : List ℕ) where
   pub advanced-last : p .expected ≡ lastFrame (p .length)
-      → advanced i p r s ≡ leaves (placing r i freePlace) s (gives (finished i (p .sender) (p .dgn) (p .length)))
+      → advanced i p r s ≡ leaves (placing r i freePlace) s (gives (finished (wholeAt i p)))
   unfolding advanced
   advanced-last e = rw (eq-eqb _ _ e)
 

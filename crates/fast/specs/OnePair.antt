@@ -25,12 +25,18 @@ pub record Part : Type 0 where
   pub number : ℕ
   pub seven : List ℕ
 
+-- A whole message.
+pub record Whole : Type 0 where
+  pub sender : ℕ
+  pub dgn : ℕ
+  pub bytes : List ℕ
+
 -- What the caller is told of a frame that is not refused.
 pub data Tells : Type 0 where
   nothingToDo : Tells
   opened : Tells
   stored : Tells
-  finished : ℕ → ℕ → List ℕ → Tells  -- sender, DGN and bytes of the message
+  finished : Whole → Tells
 
 -- Frame 0 opens the message with its six bytes: frame 1 is expected.
 abbrev pub begunBy : ℕ → ℕ → ℕ → ℕ → List ℕ → Open
@@ -40,6 +46,9 @@ begunBy sender dgn sequence size six =
 -- Of a later frame only the bytes are kept that the length still needs.
 abbrev pub joined : Open → List ℕ → List ℕ
 joined m seven = m .collected ++ take (needed (m .size) (m .expected)) seven
+
+abbrev pub wholeOf : Open → List ℕ → Whole
+wholeOf m bytes = record { sender = m .sender; dgn = m .dgn; bytes = bytes }
 
 abbrev pub expectingNext : Open → List ℕ → Open
 expectingNext m collected =
@@ -59,7 +68,7 @@ abbrev pub fedBy : Open → Part → Fed Open (Told Tells)
 fedBy m part =
     if (part .sequence =? m .sequence) and (part .number =? m .expected) then
     if m .expected =? lastFrame (m .size)
-    then ends (gives (finished (m .sender) (m .dgn) (joined m (part .seven))))
+    then ends (gives (finished (wholeOf m (joined m (part .seven)))))
     else goes (expectingNext m (joined m (part .seven))) (gives stored)
     else ends (refused 10)
 
@@ -85,7 +94,7 @@ asksBy (refused n) bytes = fixed (refused n)
 asksBy (gives other) bytes = fixed (gives nothingToDo)
 asksBy (gives (begins sender dgn sequence size)) bytes =
     if size ≤? firstBytes
-    then finishes (gives (finished sender dgn (take size (drop 2 bytes))))
+    then finishes (gives (finished (record { sender = sender; dgn = dgn; bytes = take size (drop 2 bytes) })))
     else opens (begunBy sender dgn sequence size (take firstBytes (drop 2 bytes))) (gives opened)
 asksBy (gives (continues sender dgn sequence number)) bytes =
     feeds (record { sequence = sequence; number = number; seven = drop 1 bytes }) (refused 9)

@@ -86,11 +86,21 @@ keepsRules r = holdsNames r and every (placeKeepsRules (namesOf r)) (r .places) 
 
 -- What a frame leaves: the state, the storage, and the answer.
 
+-- a finished message: the place in whose stretch it stands, and what it is
+pub record WholeAt : Type 0 where
+  pub place : ℕ
+  pub sender : ℕ
+  pub dgn : ℕ
+  pub size : ℕ
+
 pub data Outcome : Type 0 where
   nothingToDo : Outcome
   opened : Outcome
   stored : Outcome
-  finished : ℕ → ℕ → ℕ → ℕ → Outcome  -- place, sender, DGN and length of the message
+  finished : WholeAt → Outcome
+
+abbrev pub wholeAt : ℕ → Place → WholeAt
+wholeAt i p = record { place = i; sender = p .sender; dgn = p .dgn; size = p .length }
 
 pub record After : Type 0 where
   pub receiver : Receiver
@@ -127,7 +137,7 @@ firstKept i p bytes storage = paste storage (longest * i + 0) (drop 2 bytes) (ne
 unfoldable pub entered : ℕ → Place → Receiver → List ℕ → After
 entered i p r storage =
     if p .length ≤? firstBytes
-    then leaves (placing r i freePlace) storage (gives (finished i (p .sender) (p .dgn) (p .length)))
+    then leaves (placing r i freePlace) storage (gives (finished (wholeAt i p)))
     else leaves (placing r i p) storage (gives opened)
 
 abbrev pub entersAt : ℕ → Place → List ℕ → Receiver → List ℕ → After
@@ -162,7 +172,7 @@ expecting number p =
 unfoldable pub advanced : ℕ → Place → Receiver → List ℕ → After
 advanced i p r storage =
     if p .expected =? lastFrame (p .length)
-    then leaves (placing r i freePlace) storage (gives (finished i (p .sender) (p .dgn) (p .length)))
+    then leaves (placing r i freePlace) storage (gives (finished (wholeAt i p)))
     else leaves (placing r i (expecting (p .expected + 1) p)) storage (gives stored)
 
 unfoldable pub frameAt : ℕ → Place → ℕ → ℕ → List ℕ → Receiver → List ℕ → After

@@ -73,4 +73,4 @@ JoinedByRules =
     → Sendable names message dgn sender sequence → Sent names message dgn sender sequence events
     → (before : Option Open)
     → (answers : List (Told Tells))
-    × (solo (fastPackets names) before events ≡ answers ++ (gives (finished sender dgn message) ∷ []))
+    × (solo (fastPackets names) before events ≡ answers ++ (gives (finished (record { sender = sender; dgn = dgn; bytes = message })) ∷ []))

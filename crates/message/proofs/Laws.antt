@@ -57,7 +57,7 @@ answerBack (refused n) =
 answerBack (gives nothingToDo) = NothingToDo
 answerBack (gives opened) = Opened
 answerBack (gives stored) = Stored
-answerBack (gives (finished place sender dgn size)) = Finished place sender dgn size
+answerBack (gives (finished m)) = Finished (m .place) (m .sender) (m .dgn) (m .size)
 
 bad-answer : (w : Frames.BadFrame) → answerBack (refused (refusalOf w)) ≡ BadFrame w
 unfolding answerBack

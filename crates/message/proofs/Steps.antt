@@ -19,7 +19,7 @@ use Rattle.words.proofs.Lists.{found-at, every-at}
 use Rattle.words.specs.declared.Found.{Found}
 use Rattle.words.specs.declared.Found.the-variants.{At, Nowhere}
 use Rattle.message.specs.LongMessage.{shortest, longest, packetsOf, idleLimit, Meaning, meant, meaningOf}
-use Rattle.message.specs.Receiver.{greatestSender, room, freePlace, isFree, isOpenBy, layout, placeKeepsRules, keepsRules, Outcome, stored, finished, After, leaves, orElse, placeFor, openedAt, hearsAnnouncement, keptAt, expecting, advanced, packetAt, carries, byMeaning, heard}
+use Rattle.message.specs.Receiver.{greatestSender, room, freePlace, isFree, isOpenBy, layout, placeKeepsRules, keepsRules, Outcome, stored, finished, wholeAt, After, leaves, orElse, placeFor, openedAt, hearsAnnouncement, keptAt, expecting, advanced, packetAt, carries, byMeaning, heard}
 use Rattle.message.specs.Promises.{toldAnswer, LeftBy}
 use Rattle.message.specs.Private.{Live}
 use Rattle.message.specs.declared.Place.{Place}
@@ -67,7 +67,7 @@ module _ (sender size dgn : ℕ) (ps : List Place) (s : List ℕ) where
 -- a packet
 
 module _ (i : ℕ) (p : Place) (ps : List Place) (s : List ℕ) where
-  pub advanced-last : p .expected ≡ packetsOf (p .length) → advanced i p ps s ≡ leaves (set ps i freePlace) s (gives (finished i (p .sender) (p .dgn) (p .length)))
+  pub advanced-last : p .expected ≡ packetsOf (p .length) → advanced i p ps s ≡ leaves (set ps i freePlace) s (gives (finished (wholeAt i p)))
   unfolding advanced
   advanced-last e = rw (eq-eqb _ _ e)
 

@@ -23,12 +23,18 @@ pub record Part : Type 0 where
   pub number : ℕ
   pub seven : List ℕ
 
+-- A whole message.
+pub record Whole : Type 0 where
+  pub sender : ℕ
+  pub dgn : ℕ
+  pub bytes : List ℕ
+
 -- What the caller is told of a frame that is not refused.
 pub data Tells : Type 0 where
   nothingToDo : Tells
   opened : Tells
   stored : Tells
-  finished : ℕ → ℕ → List ℕ → Tells  -- sender, DGN and bytes of the message
+  finished : Whole → Tells
 
 -- A valid announcement opens the message: packet 1 is expected, nothing is collected.
 abbrev pub announcedBy : ℕ → ℕ → ℕ → Open
@@ -37,6 +43,9 @@ announcedBy sender size dgn = record { sender = sender; size = size; dgn = dgn; 
 -- Of a packet only the bytes are kept that the length still needs.
 abbrev pub joined : Open → List ℕ → List ℕ
 joined m seven = m .collected ++ take (needed (m .size) (m .expected)) seven
+
+abbrev pub wholeOf : Open → List ℕ → Whole
+wholeOf m bytes = record { sender = m .sender; dgn = m .dgn; bytes = bytes }
 
 abbrev pub expectingNext : Open → List ℕ → Open
 expectingNext m collected =
@@ -47,7 +56,7 @@ abbrev pub fedBy : Open → Part → Fed Open (Told Tells)
 fedBy m part =
     if part .number =? m .expected then
     if m .expected =? packetsOf (m .size)
-    then ends (gives (finished (m .sender) (m .dgn) (joined m (part .seven))))
+    then ends (gives (finished (wholeOf m (joined m (part .seven)))))
     else goes (expectingNext m (joined m (part .seven))) (gives stored)
     else ends (refused 10)
 

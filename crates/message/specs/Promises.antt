@@ -46,7 +46,8 @@ toldAnswer UnexpectedPacket = refused 10
 toldAnswer NothingToDo = gives nothingToDo
 toldAnswer Opened = gives opened
 toldAnswer Stored = gives stored
-toldAnswer (Finished place sender dgn size) = gives (finished place sender dgn size)
+toldAnswer (Finished place sender dgn size) =
+    gives (finished (record { place = place; sender = sender; dgn = dgn; size = size }))
 
 -- state, storage and answer are those
 pub record LeftBy (after : After) (r : Heard) (storage : List ℕ) : Type 0 where
@@ -84,7 +85,7 @@ messageIn storage (refused n) = []
 messageIn storage (gives nothingToDo) = []
 messageIn storage (gives opened) = []
 messageIn storage (gives stored) = []
-messageIn storage (gives (finished place sender dgn size)) = partOf storage place size
+messageIn storage (gives (finished m)) = partOf storage (m .place) (m .size)
 
 pub record Message (storage : List ℕ) (answer : Answer) (r : List ℕ) : Type 0 where
   pub bytes : r ≡ (if length storage <? room then [] else messageIn storage (toldAnswer answer))

@@ -70,11 +70,21 @@ keepsRules places = every placeKeepsRules places and oneEach layout places
 
 -- What a frame leaves: the places, the storage, and the answer.
 
+-- a finished message: the place in whose stretch it stands, and what it is
+pub record WholeAt : Type 0 where
+  pub place : ℕ
+  pub sender : ℕ
+  pub dgn : ℕ
+  pub size : ℕ
+
 pub data Outcome : Type 0 where
   nothingToDo : Outcome
   opened : Outcome
   stored : Outcome
-  finished : ℕ → ℕ → ℕ → ℕ → Outcome  -- place, sender, DGN and length of the message
+  finished : WholeAt → Outcome
+
+abbrev pub wholeAt : ℕ → Place → WholeAt
+wholeAt i p = record { place = i; sender = p .sender; dgn = p .dgn; size = p .length }
 
 pub record After : Type 0 where
   pub places : List Place
@@ -115,7 +125,7 @@ expecting number p = record { sender = p .sender; length = p .length; dgn = p .d
 unfoldable pub advanced : ℕ → Place → List Place → List ℕ → After
 advanced i p places storage =
     if p .expected =? packetsOf (p .length)
-    then leaves (set places i freePlace) storage (gives (finished i (p .sender) (p .dgn) (p .length)))
+    then leaves (set places i freePlace) storage (gives (finished (wholeAt i p)))
     else leaves (set places i (expecting (p .expected + 1) p)) storage (gives stored)
 
 unfoldable pub packetAt : ℕ → Place → ℕ → List ℕ → List Place → List ℕ → After
