@@ -307,12 +307,13 @@ module _ (f : Frame) (ps : List Place) (s : List ℕ) (eight : length ps ≡ pla
           let h : (2 < n) × (n < 8) = rw e at k in
           rw e (kept (refused n) (refused n) (asked (refused n) e) (rw (ne-eqb n 8 (λ x. omega (arith, h .1)))) (refusal-named n (h .0) (h .1)))
       go (gives other) e k = rw e (kept (gives Eight.nothingToDo) (gives OneSender.nothingToDo) (asked (gives other) e) refl (NothingToDo, refl))
-      go (gives (announcement sender size dgn)) e k =
+      go (gives (announcement m)) e k =
           let h = rw e at k in
-          rw e (announced sender size dgn (sym (h .0)) (h .1) (h .2) (h .3) (h .4) (asked (gives (announcement sender size dgn)) e))
-      go (gives (packet sender number)) e k =
+          let asks = asked (gives (announcement m)) e in
+          rw e (announced (m .sender) (m .size) (m .dgn) (sym (h .0)) (h .1) (h .2) (h .3) (h .4) asks)
+      go (gives (packet p)) e k =
           let h = rw e at k in
-          rw e (carried sender number (sym (h .0)) (h .1) (asked (gives (packet sender number)) e))
+          rw e (carried (p .sender) (p .number) (sym (h .0)) (h .1) (asked (gives (packet p)) e))
 
 -- a pause at one place
 

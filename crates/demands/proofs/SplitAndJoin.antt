@@ -90,7 +90,7 @@ module _ (size dgn sender : ℕ) (long : shortest ≤ size) (short : size ≤ lo
   unfolding announcementBytes bytesOf
   count-read = refl
 
-  announced-well : announced sender size (packetsOf size) dgn ≡ gives (announcement sender size dgn)
+  announced-well : announced sender size (packetsOf size) dgn ≡ gives (announcement (record { sender = sender; size = size; dgn = dgn }))
   unfolding announced
   announced-well = rw (le-leb _ _ long, le-leb _ _ short, eq-eqb (packetsOf size) (packetsOf size) refl, le-leb _ _ about)
 
@@ -98,11 +98,11 @@ module _ (size dgn sender : ℕ) (long : shortest ≤ size) (short : size ≤ lo
   unfolding announcementBytes
   to-all = refl
 
-  announcement-meant : meant sender announcementDgn (announcementBytes size dgn) ≡ gives (announcement sender size dgn)
+  announcement-meant : meant sender announcementDgn (announcementBytes size dgn) ≡ gives (announcement (record { sender = sender; size = size; dgn = dgn }))
   unfolding meant
   announcement-meant = rw (eq-eqb _ _ to-all, size-read, dgn-read, count-read) announced-well
 
-packet-meant : (message : List ℕ) (number sender : ℕ) → meant sender packetDgn (packetBytesOf message number) ≡ gives (packet sender number)
+packet-meant : (message : List ℕ) (number sender : ℕ) → meant sender packetDgn (packetBytesOf message number) ≡ gives (packet (record { sender = sender; number = number }))
 unfolding meant packetBytesOf
 packet-meant message number sender = refl
 
@@ -141,7 +141,7 @@ module _ (message : List ℕ) (dgn sender : ℕ) (w : Sendable message dgn sende
     packet-is : r .bytes ≡ packetBytesOf message number
     packet-is = splitter-splits message dgn number r cut .given (w .about) (w .long) (w .short) one most .1
 
-    packet-asks : meaningOf (f .id) (f .bytes) ≡ gives (packet sender number)
+    packet-asks : meaningOf (f .id) (f .bytes) ≡ gives (packet (record { sender = sender; number = number }))
     packet-asks =
         let l : length (r .bytes) ≡ frameBytes = rw packet-is (packet-length message number) in
         sent-meaning priority packetDgn sender high (omega arith) (w .named) (r .bytes) l ∙ rw packet-is (packet-meant message number sender)
@@ -164,8 +164,8 @@ module _ (message : List ℕ) (dgn sender : ℕ) (w : Sendable message dgn sende
   apart-fixed : (t : Told Meaning) (bytes : List ℕ) → isApart t ≡ true → (a : Told Tells) × (asksBy t bytes ≡ fixed a)
   apart-fixed (refused n) bytes e = (refused n, refl)
   apart-fixed (gives other) bytes e = (gives nothingToDo, refl)
-  apart-fixed (gives (announcement x y z)) bytes e = true-false (sym e)
-  apart-fixed (gives (packet x y)) bytes e = true-false (sym e)
+  apart-fixed (gives (announcement m)) bytes e = true-false (sym e)
+  apart-fixed (gives (packet p)) bytes e = true-false (sym e)
 
   joined-up : (number sum : ℕ) (events : List (Event Frame)) → 1 ≤ number → Sending message dgn sender number sum events
       → ToldLast events (some (openAt message dgn sender number sum))
@@ -190,7 +190,7 @@ module _ (message : List ℕ) (dgn sender : ℕ) (w : Sendable message dgn sende
   announced-alone before priority r high given =
       let a = splitter-announces message dgn r given .given (w .about) (w .long) (w .short) .1 in
       let l : length (r .bytes) ≡ frameBytes = rw a (announcement-length (length message) dgn) in
-      let e : meaningOf (identifierOf priority announcementDgn sender) (r .bytes) ≡ gives (announcement sender (length message) dgn) =
+      let e : meaningOf (identifierOf priority announcementDgn sender) (r .bytes) ≡ gives (announcement (record { sender = sender; size = length message; dgn = dgn })) =
       sent-meaning priority announcementDgn sender high (omega arith) (w .named) (r .bytes) l
       ∙ rw a (announcement-meant (length message) dgn sender (w .long) (w .short) (w .about))
       in

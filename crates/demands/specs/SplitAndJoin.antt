@@ -31,8 +31,8 @@ sent priority dgn sender bytes = record { id = identifierOf priority dgn sender;
 abbrev pub isApart : Told Meaning → Bool
 isApart (refused n) = true
 isApart (gives other) = true
-isApart (gives (announcement sender size dgn)) = false
-isApart (gives (packet sender number)) = false
+isApart (gives (announcement m)) = false
+isApart (gives (packet p)) = false
 
 -- What a sender does that is to send packet `number` next, when `sum` ms have passed since the message's last frame: it
 -- pauses, sends something else, sends what `packet` answers for that number, and ends with the last one.

@@ -48,8 +48,8 @@ bytes (gives l) = 0 ∷ l
 abbrev pub meaning : Told Meaning → List ℕ
 meaning (refused n) = n ∷ []
 meaning (gives other) = 0 ∷ []
-meaning (gives (announcement sender size dgn)) = 0 ∷ sender ∷ size ∷ dgn ∷ []
-meaning (gives (packet sender number)) = 0 ∷ sender ∷ number ∷ []
+meaning (gives (announcement m)) = 0 ∷ m .sender ∷ m .size ∷ m .dgn ∷ []
+meaning (gives (packet p)) = 0 ∷ p .sender ∷ p .number ∷ []
 
 -- nothing to do 0, opened 1, stored 2, a finished message its sender, DGN and bytes
 abbrev pub answer : Out (Told Tells) → List ℕ

@@ -72,11 +72,11 @@ sender-low source dgn h m f =
 abbrev pub Known : List ℕ → ℕ → List ℕ → Told Meaning → Type 0
 Known names id bytes (refused n) = (2 < n) × (n < 8)
 Known names id bytes (gives other) = Unit {0}
-Known names id bytes (gives (begins sender dgn sequence size)) =
-    (sender ≡ sourceOf id) × (dgn ≡ dgnOf id) × (length bytes ≡ frameBytes) × (isNamed dgn names ≡ true)
-    × (sender ≤ greatestAddress) × (sequence ≤ greatestSequence) × (1 ≤ size) × (size ≤ longest)
-Known names id bytes (gives (continues sender dgn sequence number)) =
-    (sender ≡ sourceOf id) × (dgn ≡ dgnOf id) × (length bytes ≡ frameBytes)
+Known names id bytes (gives (begins m)) =
+    (m .sender ≡ sourceOf id) × (m .dgn ≡ dgnOf id) × (length bytes ≡ frameBytes) × (isNamed (m .dgn) names ≡ true)
+    × (m .sender ≤ greatestAddress) × (m .sequence ≤ greatestSequence) × (1 ≤ m .size) × (m .size ≤ longest)
+Known names id bytes (gives (continues f)) =
+    (f .sender ≡ sourceOf id) × (f .dgn ≡ dgnOf id) × (length bytes ≡ frameBytes)
 
 sequence-low : (byte : ℕ) → sequenceOf byte ≤ greatestSequence
 sequence-low byte = omega arith

@@ -102,14 +102,14 @@ module _ (message : List ℕ) (sequence : ℕ) (numbered : sequence ≤ greatest
   -- they mean what they are to mean
 
   first-carried : (sender dgn : ℕ)
-      → carried sender dgn (firstBytesOf message sequence) ≡ gives (begins sender dgn sequence (length message))
+      → carried sender dgn (firstBytesOf message sequence) ≡ gives (begins (record { sender = sender; dgn = dgn; sequence = sequence; size = length message }))
   unfolding carried begun firstBytesOf
   first-carried sender dgn =
       let b = first-byte-read sequence 0 numbered (omega arith) in
       rw (b .1, b .0, le-leb _ _ long, le-leb _ _ short)
 
   later-carried : (sender dgn number : ℕ) → 1 ≤ number → number ≤ lastFrame (length message)
-      → carried sender dgn (laterBytesOf message sequence number) ≡ gives (continues sender dgn sequence number)
+      → carried sender dgn (laterBytesOf message sequence number) ≡ gives (continues (record { sender = sender; dgn = dgn; sequence = sequence; number = number }))
   unfolding carried laterBytesOf
   later-carried sender dgn number one most =
       let b = first-byte-read sequence number numbered (omega arith) in
@@ -178,7 +178,7 @@ module _ (names message : List ℕ) (dgn sender sequence : ℕ) (well-formed : i
     first-bytes : r .bytes ≡ firstBytesOf message sequence
     first-bytes = first-is message sequence (w .numbered) (w .long) (w .short) r cut
 
-    first-means : meaningOf names (f₀ .id) (f₀ .bytes) ≡ gives (begins sender dgn sequence (length message))
+    first-means : meaningOf names (f₀ .id) (f₀ .bytes) ≡ gives (begins (record { sender = sender; dgn = dgn; sequence = sequence; size = length message }))
     first-means =
         let l : length (r .bytes) ≡ frameBytes = rw first-bytes (first-length message sequence) in
         means priority (r .bytes) high l
@@ -209,7 +209,7 @@ module _ (names message : List ℕ) (dgn sender sequence : ℕ) (well-formed : i
     later-bytes : r .bytes ≡ laterBytesOf message sequence number
     later-bytes = later-is message sequence (w .numbered) (w .long) (w .short) number r one most cut
 
-    later-means : meaningOf names (f .id) (f .bytes) ≡ gives (continues sender dgn sequence number)
+    later-means : meaningOf names (f .id) (f .bytes) ≡ gives (continues (record { sender = sender; dgn = dgn; sequence = sequence; number = number }))
     later-means =
         let l : length (r .bytes) ≡ frameBytes = rw later-bytes (later-length message sequence number) in
         means priority (r .bytes) high l
@@ -239,8 +239,8 @@ module _ (names message : List ℕ) (dgn sender sequence : ℕ) (well-formed : i
   apart-fixed : (t : Told Meaning) (bytes : List ℕ) → isApart t ≡ true → (a : Told Tells) × (asksBy t bytes ≡ fixed a)
   apart-fixed (refused n) bytes e = (refused n, refl)
   apart-fixed (gives other) bytes e = (gives nothingToDo, refl)
-  apart-fixed (gives (begins a b c d)) bytes e = true-false (sym e)
-  apart-fixed (gives (continues a b c d)) bytes e = true-false (sym e)
+  apart-fixed (gives (begins m)) bytes e = true-false (sym e)
+  apart-fixed (gives (continues f)) bytes e = true-false (sym e)
 
   joined-up : (number sum : ℕ) (events : List (Event Frame)) → 1 ≤ number
       → Sending names message dgn sender sequence number sum events

@@ -177,7 +177,7 @@ module _ (f : Frame) (r : Receiver) (s : List ℕ) (eight : length (r .places) �
   module _ (sender dgn sequence size : ℕ) (by : key ≡ pairOf sender dgn) (eightBytes : length (f .bytes) ≡ frameBytes)
       (about : isNamed dgn names ≡ true) (from : sender ≤ greatestAddress) (numbered : sequence ≤ greatestSequence)
       (some-bytes : 1 ≤ size) (short : size ≤ longest)
-      (asked : format .asks f ≡ asksBy (gives (begins sender dgn sequence size)) (f .bytes)) where
+      (asked : format .asks f ≡ asksBy (gives (begins (record { sender = sender; dgn = dgn; sequence = sequence; size = size }))) (f .bytes)) where
     abbrev new : Place
     new = newPlace sender dgn sequence size
 
@@ -343,7 +343,7 @@ module _ (f : Frame) (r : Receiver) (s : List ℕ) (eight : length (r .places) �
 
   -- a later frame
   module _ (sender dgn sequence number : ℕ) (by : key ≡ pairOf sender dgn) (eightBytes : length (f .bytes) ≡ frameBytes)
-      (asks : format .asks f ≡ asksBy (gives (continues sender dgn sequence number)) (f .bytes)) where
+      (asks : format .asks f ≡ asksBy (gives (continues (record { sender = sender; dgn = dgn; sequence = sequence; number = number }))) (f .bytes)) where
     abbrev seven : List ℕ
     seven = drop 1 (f .bytes)
 
@@ -547,16 +547,16 @@ module _ (f : Frame) (r : Receiver) (s : List ℕ) (eight : length (r .places) �
       go (gives other) e k =
           rw e
           (kept (gives Eight.nothingToDo) (gives OnePair.nothingToDo) (asked (gives other) e) refl (NothingToDo, refl))
-      go (gives (begins sender dgn sequence size)) e k =
+      go (gives (begins m)) e k =
           let h = rw e at k in
           rw e
-          (begun sender dgn sequence size (pair sender dgn (h .0) (h .1)) (h .2) (h .3) (h .4) (h .5) (h .6) (h .7)
-          (asked (gives (begins sender dgn sequence size)) e))
-      go (gives (continues sender dgn sequence number)) e k =
+          (begun (m .sender) (m .dgn) (m .sequence) (m .size) (pair (m .sender) (m .dgn) (h .0) (h .1))
+          (h .2) (h .3) (h .4) (h .5) (h .6) (h .7) (asked (gives (begins m)) e))
+      go (gives (continues l)) e k =
           let h = rw e at k in
           rw e
-          (continued sender dgn sequence number (pair sender dgn (h .0) (h .1)) (h .2)
-          (asked (gives (continues sender dgn sequence number)) e))
+          (continued (l .sender) (l .dgn) (l .sequence) (l .number) (pair (l .sender) (l .dgn) (h .0) (h .1)) (h .2)
+          (asked (gives (continues l)) e))
 
 -- a pause at one place
 
@@ -805,15 +805,15 @@ never e = let y : _≡_ {A = ℕ} 0 1 = cc in absurd (omega arith)
 opens-within : (t : Told Meaning) (bytes : List ℕ) (m : Open) (a : Told Tells) → asksBy t bytes ≡ opens m a → Within m
 opens-within (refused n) bytes m a e = let y : _≡_ {A = ℕ} 0 1 = cc in absurd (omega arith)
 opens-within (gives other) bytes m a e = let y : _≡_ {A = ℕ} 0 1 = cc in absurd (omega arith)
-opens-within (gives (begins sender dgn sequence size)) bytes m a e =
-    by-test (size ≤? firstBytes)
+opens-within (gives (begins n)) bytes m a e =
+    by-test (n .size ≤? firstBytes)
     (λ t. let z = rw t at e in let y : _≡_ {A = ℕ} 0 1 = cc in absurd (omega arith))
     (λ t.
     let z = rw t at e in
-    let y : begunBy sender dgn sequence size (take firstBytes (drop 2 bytes)) ≡ m = cc in
+    let y : begunBy (n .sender) (n .dgn) (n .sequence) (n .size) (take firstBytes (drop 2 bytes)) ≡ m = cc in
     let x : 0 ≡ m .idle = ap (λ (o : Open). o .idle) y in
     omega arith)
-opens-within (gives (continues sender dgn sequence number)) bytes m a e =
+opens-within (gives (continues f)) bytes m a e =
     let y : _≡_ {A = ℕ} 0 1 = cc in absurd (omega arith)
 
 goes-to : {m n : Open} {a b : Told Tells} → goes m a ≡ goes n b → m ≡ n

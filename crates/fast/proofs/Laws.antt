@@ -322,22 +322,22 @@ data Left (id : ℕ) (bytes : List ℕ) (r : Receiver) (s : List ℕ) : After �
   refuses : {n : ℕ} → n ≢ 10 → Left id bytes r s (leaves r s (refused n))
   passes : Left id bytes r s (leaves r s (gives nothingToDo))
   enters : {sender dgn sequence size i : ℕ} {q : Receiver} {o : Outcome}
-      → meaningOf (namesOf r) id bytes ≡ gives (begins sender dgn sequence size)
+      → meaningOf (namesOf r) id bytes ≡ gives (begins (record { sender = sender; dgn = dgn; sequence = sequence; size = size }))
       → placeFor (pairOf sender dgn) (r .places) ≡ At i → room ≤ length s → length bytes ≡ frameBytes
       → Left id bytes r s (leaves q (firstKept i (newPlace sender dgn sequence size) bytes s) (gives o))
   closes : {sender dgn sequence number i : ℕ}
-      → meaningOf (namesOf r) id bytes ≡ gives (continues sender dgn sequence number)
+      → meaningOf (namesOf r) id bytes ≡ gives (continues (record { sender = sender; dgn = dgn; sequence = sequence; number = number }))
       → first (isOpenBy (pairOf sender dgn)) (r .places) ≡ At i → OutOfTurn r i sequence number
       → Left id bytes r s (leaves (placing r i freePlace) s (refused 10))
   stores : {sender dgn sequence number i : ℕ} {q : Receiver} {o : Outcome}
-      → meaningOf (namesOf r) id bytes ≡ gives (continues sender dgn sequence number)
+      → meaningOf (namesOf r) id bytes ≡ gives (continues (record { sender = sender; dgn = dgn; sequence = sequence; number = number }))
       → first (isOpenBy (pairOf sender dgn)) (r .places) ≡ At i → number ≡ getD (r .places) i freePlace .expected
       → OpenRules (namesOf r) (getD (r .places) i freePlace) → room ≤ length s → length bytes ≡ frameBytes
       → Left id bytes r s (leaves q (keptAt i (getD (r .places) i freePlace) bytes s) (gives o))
 
 module _ (id : ℕ) (bytes : List ℕ) (r : Receiver) (s : List ℕ) where
   begins-left : (sender dgn sequence size : ℕ)
-      → meaningOf (namesOf r) id bytes ≡ gives (begins sender dgn sequence size)
+      → meaningOf (namesOf r) id bytes ≡ gives (begins (record { sender = sender; dgn = dgn; sequence = sequence; size = size }))
       → room ≤ length s → length bytes ≡ frameBytes
       → Left id bytes r s (Receiver.hearsFirst (newPlace sender dgn sequence size) bytes r s)
   begins-left sender dgn sequence size m enough l = go (placeFor (pairOf sender dgn) (r .places)) refl
@@ -357,7 +357,7 @@ module _ (id : ℕ) (bytes : List ℕ) (r : Receiver) (s : List ℕ) where
       go Nowhere e = subst⁻¹ (Left id bytes r s) (begins-nowhere p bytes r s e) (refuses (λ x. omega arith))
 
   continues-left : (sender dgn sequence number : ℕ)
-      → meaningOf (namesOf r) id bytes ≡ gives (continues sender dgn sequence number)
+      → meaningOf (namesOf r) id bytes ≡ gives (continues (record { sender = sender; dgn = dgn; sequence = sequence; number = number }))
       → keepsRules r ≡ true → room ≤ length s → length bytes ≡ frameBytes
       → Left id bytes r s (Receiver.hearsLater (pairOf sender dgn) sequence number bytes r s)
   continues-left sender dgn sequence number m v enough l = go (first (isOpenBy (pairOf sender dgn)) (r .places)) refl
@@ -403,10 +403,10 @@ module _ (id : ℕ) (bytes : List ℕ) (r : Receiver) (s : List ℕ) where
       let x : n ≡ 10 → ⊥ = λ y. omega arith in
       refuses x
   meaning-left (gives other) e k v enough = passes
-  meaning-left (gives (begins sender dgn sequence size)) e k v enough =
-      begins-left sender dgn sequence size e enough (k .2)
-  meaning-left (gives (continues sender dgn sequence number)) e k v enough =
-      continues-left sender dgn sequence number e v enough (k .2)
+  meaning-left (gives (begins m)) e k v enough =
+      begins-left (m .sender) (m .dgn) (m .sequence) (m .size) e enough (k .2)
+  meaning-left (gives (continues f)) e k v enough =
+      continues-left (f .sender) (f .dgn) (f .sequence) (f .number) e v enough (k .2)
 
   -- what is known of a frame, in a state that keeps its rules
   known-of : keepsRules r ≡ true → Known (namesOf r) id bytes (meaningOf (namesOf r) id bytes)
@@ -451,7 +451,7 @@ ten-closes id bytes state s r exit h e =
     go : (a : After) → Left id bytes state s a → a .answer ≡ refused 10
         → r .receiver ≡ a .receiver → exit ≡ a .storage
         → (sender dgn sequence number i : ℕ)
-        × (meaningOf (namesOf state) id bytes ≡ gives (continues sender dgn sequence number))
+        × (meaningOf (namesOf state) id bytes ≡ gives (continues (record { sender = sender; dgn = dgn; sequence = sequence; number = number })))
         × OutOfTurn state i sequence number × ClosedAt state s (r .receiver) exit (pairOf sender dgn) i
     go a (refuses x) y p q = absurd (x (refused-is y))
     go a passes y p q = given-refused y

@@ -157,7 +157,7 @@ TenCloses =
     (id : ℕ) (bytes : List ℕ) (state : Receiver) (storage : List ℕ) (r : Heard) (exit : List ℕ)
     → Hear id bytes state storage r exit → r .answer ≡ UnexpectedFrame
     → (sender dgn sequence number i : ℕ)
-    × (meaningOf (namesOf state) id bytes ≡ gives (continues sender dgn sequence number))
+    × (meaningOf (namesOf state) id bytes ≡ gives (continues (record { sender = sender; dgn = dgn; sequence = sequence; number = number })))
     × OutOfTurn state i sequence number × ClosedAt state storage (r .receiver) exit (pairOf sender dgn) i
 
 abbrev pub PauseRefusedKeeps : Type 0
@@ -199,7 +199,7 @@ WritesFrameZero =
     (sender dgn sequence size i k : ℕ)
     → length (state .places) ≡ placeCount → room ≤ length storage → keepsRules state ≡ true
     → Hear id bytes state storage r exit
-    → meaningOf (namesOf state) id bytes ≡ gives (begins sender dgn sequence size)
+    → meaningOf (namesOf state) id bytes ≡ gives (begins (record { sender = sender; dgn = dgn; sequence = sequence; size = size }))
     → placeFor (pairOf sender dgn) (state .places) ≡ At i
     → ItsOwn i 0 (neededFirst size) k
     → getD exit k 0 ≡ getD bytes (2 + (k - (longest * i + 0))) 0
@@ -212,7 +212,7 @@ WritesTheFrame =
     → length (state .places) ≡ placeCount → room ≤ length storage → keepsRules state ≡ true
     → Hear id bytes state storage r exit
     → p ≡ getD (state .places) i freePlace
-    → meaningOf (namesOf state) id bytes ≡ gives (continues sender dgn (p .sequence) (p .expected))
+    → meaningOf (namesOf state) id bytes ≡ gives (continues (record { sender = sender; dgn = dgn; sequence = p .sequence; number = p .expected }))
     → first (isOpenBy (pairOf sender dgn)) (state .places) ≡ At i
     → ItsOwn i (offsetOf (p .expected)) (needed (p .length) (p .expected)) k
     → getD exit k 0 ≡ getD bytes (1 + (k - (longest * i + offsetOf (p .expected)))) 0
@@ -223,10 +223,10 @@ WritesItsOwn =
     (id : ℕ) (bytes : List ℕ) (state : Receiver) (storage : List ℕ) (r : Heard) (exit : List ℕ) (k : ℕ)
     → length (state .places) ≡ placeCount → Hear id bytes state storage r exit
     → ((sender dgn sequence size i : ℕ)
-    → meaningOf (namesOf state) id bytes ≡ gives (begins sender dgn sequence size)
+    → meaningOf (namesOf state) id bytes ≡ gives (begins (record { sender = sender; dgn = dgn; sequence = sequence; size = size }))
     → placeFor (pairOf sender dgn) (state .places) ≡ At i → ItsOwn i 0 (neededFirst size) k → ⊥)
     → ((sender dgn sequence number i : ℕ)
-    → meaningOf (namesOf state) id bytes ≡ gives (continues sender dgn sequence number)
+    → meaningOf (namesOf state) id bytes ≡ gives (continues (record { sender = sender; dgn = dgn; sequence = sequence; number = number }))
     → first (isOpenBy (pairOf sender dgn)) (state .places) ≡ At i
     → ItsOwn i (offsetOf number) (needed (getD (state .places) i freePlace .length) number) k → ⊥)
     → getD exit k 0 ≡ getD storage k 0

@@ -92,12 +92,12 @@ waits ms m =
 abbrev pub asksBy : Told Meaning → List ℕ → Asks Open Part (Told Tells)
 asksBy (refused n) bytes = fixed (refused n)
 asksBy (gives other) bytes = fixed (gives nothingToDo)
-asksBy (gives (begins sender dgn sequence size)) bytes =
-    if size ≤? firstBytes
-    then finishes (gives (finished (record { sender = sender; dgn = dgn; bytes = take size (drop 2 bytes) })))
-    else opens (begunBy sender dgn sequence size (take firstBytes (drop 2 bytes))) (gives opened)
-asksBy (gives (continues sender dgn sequence number)) bytes =
-    feeds (record { sequence = sequence; number = number; seven = drop 1 bytes }) (refused 9)
+asksBy (gives (begins m)) bytes =
+    if m .size ≤? firstBytes
+    then finishes (gives (finished (record { sender = m .sender; dgn = m .dgn; bytes = take (m .size) (drop 2 bytes) })))
+    else opens (begunBy (m .sender) (m .dgn) (m .sequence) (m .size) (take firstBytes (drop 2 bytes))) (gives opened)
+asksBy (gives (continues f)) bytes =
+    feeds (record { sequence = f .sequence; number = f .number; seven = drop 1 bytes }) (refused 9)
 
 -- Fast packets as a format, for the DGNs that are named: the key is the pair, and a frame is checked first,
 -- which is refusals 3 to 6.

@@ -195,10 +195,10 @@ hearsLater pair sequence number bytes r storage =
 abbrev pub byMeaning : Told Meaning → List ℕ → Receiver → List ℕ → After
 byMeaning (refused n) bytes r storage = leaves r storage (refused n)
 byMeaning (gives other) bytes r storage = leaves r storage (gives nothingToDo)
-byMeaning (gives (begins sender dgn sequence size)) bytes r storage =
-    hearsFirst (newPlace sender dgn sequence size) bytes r storage
-byMeaning (gives (continues sender dgn sequence number)) bytes r storage =
-    hearsLater (pairOf sender dgn) sequence number bytes r storage
+byMeaning (gives (begins m)) bytes r storage =
+    hearsFirst (newPlace (m .sender) (m .dgn) (m .sequence) (m .size)) bytes r storage
+byMeaning (gives (continues f)) bytes r storage =
+    hearsLater (pairOf (f .sender) (f .dgn)) (f .sequence) (f .number) bytes r storage
 
 unfoldable pub heard : ℕ → List ℕ → Receiver → List ℕ → After
 heard id bytes r storage =

@@ -26,8 +26,8 @@ sent priority dgn sender bytes = record { id = identifierOf priority dgn sender;
 abbrev pub isApart : Told Meaning → Bool
 isApart (refused n) = true
 isApart (gives other) = true
-isApart (gives (begins sender dgn sequence size)) = false
-isApart (gives (continues sender dgn sequence number)) = false
+isApart (gives (begins m)) = false
+isApart (gives (continues f)) = false
 
 -- a message, a DGN that is named, a sender and a sequence number within the limits
 pub record Sendable (names message : List ℕ) (dgn sender sequence : ℕ) : Type 0 where

@@ -51,9 +51,10 @@ sender-low source dgn h e f =
 abbrev pub Known : ℕ → List ℕ → Told Meaning → Type 0
 Known id bytes (refused n) = (2 < n) × (n < 8)
 Known id bytes (gives other) = Unit {0}
-Known id bytes (gives (announcement sender size dgn)) =
-    (sender ≡ sourceOf id) × (sender ≤ greatestSender) × (shortest ≤ size) × (size ≤ longest) × (dgn ≤ greatestDgn)
-Known id bytes (gives (packet sender number)) = (sender ≡ sourceOf id) × (length bytes ≡ frameBytes)
+Known id bytes (gives (announcement m)) =
+    (m .sender ≡ sourceOf id) × (m .sender ≤ greatestSender) × (shortest ≤ m .size) × (m .size ≤ longest)
+    × (m .dgn ≤ greatestDgn)
+Known id bytes (gives (packet p)) = (p .sender ≡ sourceOf id) × (length bytes ≡ frameBytes)
 
 announced-known : (id size count dgn : ℕ) (bytes : List ℕ) → sourceOf id ≤ greatestSender → Known id bytes (announced (sourceOf id) size count dgn)
 unfolding announced

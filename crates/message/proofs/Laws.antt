@@ -178,9 +178,9 @@ data Left (id : ℕ) (bytes : List ℕ) (ps : List Place) (s : List ℕ) : After
   refuses : {n : ℕ} → n ≢ 10 → Left id bytes ps s (leaves ps s (refused n))
   passes : Left id bytes ps s (leaves ps s (gives nothingToDo))
   opens : (i : ℕ) (p : Place) → Left id bytes ps s (openedAt (At i) p ps s)
-  closes : {sender number i : ℕ} → meaningOf id bytes ≡ gives (packet sender number) → first (isOpenBy sender) ps ≡ At i
+  closes : {sender number i : ℕ} → meaningOf id bytes ≡ gives (packet (record { sender = sender; number = number })) → first (isOpenBy sender) ps ≡ At i
       → number ≢ getD ps i freePlace .expected → Left id bytes ps s (leaves (set ps i freePlace) s (refused 10))
-  stores : {sender number i : ℕ} {qs : List Place} {o : Outcome} → meaningOf id bytes ≡ gives (packet sender number) → first (isOpenBy sender) ps ≡ At i
+  stores : {sender number i : ℕ} {qs : List Place} {o : Outcome} → meaningOf id bytes ≡ gives (packet (record { sender = sender; number = number })) → first (isOpenBy sender) ps ≡ At i
       → OpenRules (getD ps i freePlace) → room ≤ length s → length bytes ≡ frameBytes
       → Left id bytes ps s (leaves qs (keptAt i (getD ps i freePlace) bytes s) (gives o))
 
@@ -192,7 +192,7 @@ module _ (id : ℕ) (bytes : List ℕ) (ps : List Place) (s : List ℕ) where
       go (At i) e = subst⁻¹ (Left id bytes ps s) (announcing-at sender size dgn ps s i e) (opens i _)
       go Nowhere e = subst⁻¹ (Left id bytes ps s) (announcing-nowhere sender size dgn ps s e) (refuses (λ x. omega arith))
 
-  carries-left : (sender number : ℕ) → meaningOf id bytes ≡ gives (packet sender number) → keepsRules ps ≡ true → room ≤ length s → length bytes ≡ frameBytes
+  carries-left : (sender number : ℕ) → meaningOf id bytes ≡ gives (packet (record { sender = sender; number = number })) → keepsRules ps ≡ true → room ≤ length s → length bytes ≡ frameBytes
       → Left id bytes ps s (carries sender number bytes ps s)
   carries-left sender number m v enough l = go (first (isOpenBy sender) ps) refl
     where
@@ -216,8 +216,8 @@ module _ (id : ℕ) (bytes : List ℕ) (ps : List Place) (s : List ℕ) where
   meaning-left : (m : Told Meaning) → meaningOf id bytes ≡ m → Known id bytes m → keepsRules ps ≡ true → room ≤ length s → Left id bytes ps s (byMeaning m bytes ps s)
   meaning-left (refused n) e k v enough = let h : n < 8 = k .1 in let x : n ≡ 10 → ⊥ = λ y. omega arith in refuses x
   meaning-left (gives other) e k v enough = passes
-  meaning-left (gives (announcement sender size dgn)) e k v enough = announcing-left sender size dgn
-  meaning-left (gives (packet sender number)) e k v enough = carries-left sender number e v enough (k .1)
+  meaning-left (gives (announcement m)) e k v enough = announcing-left (m .sender) (m .size) (m .dgn)
+  meaning-left (gives (packet p)) e k v enough = carries-left (p .sender) (p .number) e v enough (k .1)
 
   heard-left : Left id bytes ps s (heard id bytes ps s)
   heard-left =
@@ -252,7 +252,7 @@ ten-closes id bytes ps s r exit h e =
   where
     go : (a : After) → Left id bytes ps s a → a .answer ≡ refused 10
         → r .receiver .places ≡ a .places → exit ≡ a .storage
-        → (sender number i : ℕ) × (meaningOf id bytes ≡ gives (packet sender number))
+        → (sender number i : ℕ) × (meaningOf id bytes ≡ gives (packet (record { sender = sender; number = number })))
         × (number ≢ getD ps i freePlace .expected) × ClosedAt ps s (r .receiver .places) exit sender i
     go a (refuses x) y p q = absurd (x (refused-is y))
     go a passes y p q = given-refused y
@@ -329,7 +329,7 @@ packet-holds bytes p b = rw length-drop (omega arith)
 -- the expected packet is kept
 expected-kept : (id : ℕ) (bytes : List ℕ) (ps : List Place) (s : List ℕ) (sender i : ℕ)
     → room ≤ length s → keepsRules ps ≡ true
-    → meaningOf id bytes ≡ gives (packet sender (getD ps i freePlace .expected)) → first (isOpenBy sender) ps ≡ At i
+    → meaningOf id bytes ≡ gives (packet (record { sender = sender; number = getD ps i freePlace .expected })) → first (isOpenBy sender) ps ≡ At i
     → heard id bytes ps s .storage ≡ keptAt i (getD ps i freePlace) bytes s
 expected-kept id bytes ps s sender i enough v m f =
     let p = getD ps i freePlace in

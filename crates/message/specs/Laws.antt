@@ -102,7 +102,7 @@ abbrev pub TenCloses : Type 0
 TenCloses =
     (id : ℕ) (bytes : List ℕ) (places : List Place) (storage : List ℕ) (r : Heard) (exit : List ℕ)
     → Hear id bytes places storage r exit → r .answer ≡ UnexpectedPacket
-    → (sender number i : ℕ) × (meaningOf id bytes ≡ gives (packet sender number))
+    → (sender number i : ℕ) × (meaningOf id bytes ≡ gives (packet (record { sender = sender; number = number })))
     × (number ≢ getD places i freePlace .expected) × ClosedAt places storage (r .receiver .places) exit sender i
 
 abbrev pub PauseRefusedKeeps : Type 0
@@ -136,7 +136,7 @@ WritesThePacket =
     (id : ℕ) (bytes : List ℕ) (places : List Place) (storage : List ℕ) (r : Heard) (exit : List ℕ) (sender i k : ℕ)
     → length places ≡ placeCount → room ≤ length storage → keepsRules places ≡ true
     → Hear id bytes places storage r exit
-    → meaningOf id bytes ≡ gives (packet sender (getD places i freePlace .expected))
+    → meaningOf id bytes ≡ gives (packet (record { sender = sender; number = getD places i freePlace .expected }))
     → first (isOpenBy sender) places ≡ At i
     → ItsOwn (getD places i freePlace) i k
     → getD exit k 0
@@ -147,7 +147,7 @@ abbrev pub WritesItsOwn : Type 0
 WritesItsOwn =
     (id : ℕ) (bytes : List ℕ) (places : List Place) (storage : List ℕ) (r : Heard) (exit : List ℕ) (k : ℕ)
     → length places ≡ placeCount → Hear id bytes places storage r exit
-    → ((sender number i : ℕ) → meaningOf id bytes ≡ gives (packet sender number) → first (isOpenBy sender) places ≡ At i
+    → ((sender number i : ℕ) → meaningOf id bytes ≡ gives (packet (record { sender = sender; number = number })) → first (isOpenBy sender) places ≡ At i
     → ItsOwn (getD places i freePlace) i k → ⊥)
     → getD exit k 0 ≡ getD storage k 0
 

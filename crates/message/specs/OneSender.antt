@@ -70,8 +70,8 @@ waits ms m =
 abbrev pub asksBy : Told Meaning → List ℕ → Asks Open Part (Told Tells)
 asksBy (refused n) bytes = fixed (refused n)
 asksBy (gives other) bytes = fixed (gives nothingToDo)
-asksBy (gives (announcement sender size dgn)) bytes = opens (announcedBy sender size dgn) (gives opened)
-asksBy (gives (packet sender number)) bytes = feeds (record { number = number; seven = drop 1 bytes }) (refused 9)
+asksBy (gives (announcement m)) bytes = opens (announcedBy (m .sender) (m .size) (m .dgn)) (gives opened)
+asksBy (gives (packet p)) bytes = feeds (record { number = p .number; seven = drop 1 bytes }) (refused 9)
 
 -- Long messages as a format: the key is the sender, and a frame is checked first, which is refusals 3 to 6.
 abbrev pub longMessages : Format

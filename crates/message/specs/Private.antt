@@ -17,8 +17,8 @@ use Rattle.message.specs.declared.splitter.Splits.the-variants.{Into, Re
 abbrev pub toldMeant : Meant → Told Meaning
 toldMeant Malformed = refused 7
 toldMeant Other = gives other
-toldMeant (Announcement sender size dgn) = gives (announcement sender size dgn)
-toldMeant (Packet sender number) = gives (packet sender number)
+toldMeant (Announcement sender size dgn) = gives (announcement (record { sender = sender; size = size; dgn = dgn }))
+toldMeant (Packet sender number) = gives (packet (record { sender = sender; number = number }))
 
 abbrev pub toldSplits : Splits → Told ℕ
 toldSplits (Into packets) = gives packets

@@ -146,8 +146,9 @@ carries sender number bytes places storage = packetFor (first (isOpenBy sender) 
 abbrev pub byMeaning : Told Meaning → List ℕ → List Place → List ℕ → After
 byMeaning (refused n) bytes places storage = leaves places storage (refused n)
 byMeaning (gives other) bytes places storage = leaves places storage (gives nothingToDo)
-byMeaning (gives (announcement sender size dgn)) bytes places storage = hearsAnnouncement sender size dgn places storage
-byMeaning (gives (packet sender number)) bytes places storage = carries sender number bytes places storage
+byMeaning (gives (announcement m)) bytes places storage =
+    hearsAnnouncement (m .sender) (m .size) (m .dgn) places storage
+byMeaning (gives (packet p)) bytes places storage = carries (p .sender) (p .number) bytes places storage
 
 unfoldable pub heard : ℕ → List ℕ → List Place → List ℕ → After
 heard id bytes places storage =
