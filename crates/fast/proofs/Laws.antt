@@ -25,7 +25,7 @@ use Rattle.places.specs.Places.{placeCount}
 use Rattle.words.specs.declared.Found.{Found}
 use Rattle.words.specs.declared.Found.the-variants.{At, Nowhere}
 use Rattle.words.proofs.Lists.{every-at, every-replicate, distinct-cons, distinct-head, distinct-tail}
-use Rattle.fast.specs.FastPacket.{greatestSequence, firstBytes, longest, offsetOf, lastFrame, neededFirst, needed, pairOf, frameNumberOf, byteAt, Meaning, other, begins, continues, begun, carried, meaningOf}
+use Rattle.fast.specs.FastPacket.{greatestSequence, firstBytes, longest, offsetOf, lastFrame, neededFirst, needed, pairOf, frameNumberOf, byteAt, Meaning, other, NewMessage, LaterFrame, begins, continues, begun, carried, meaningOf}
 use Rattle.fast.specs.Names.{mostNamed, mayBeNamed, isNamed, isWellFormed}
 use Rattle.fast.specs.Receiver.{room, freePlace, isOpenBy, namesOf, isZero, placeKeepsRules, keepsRules, Outcome, nothingToDo, opened, stored, finished, After, leaves, placing, placeFor, newPlace, firstKept, keptAt, frameAt, byMeaning, heard, pausedState, pausedAnswer}
 use Rattle.fast.specs.Receiver as Receiver
@@ -321,23 +321,26 @@ start-refused-keeps names r p k =
 data Left (id : ℕ) (bytes : List ℕ) (r : Receiver) (s : List ℕ) : After → Type 0 where
   refuses : {n : ℕ} → n ≢ 10 → Left id bytes r s (leaves r s (refused n))
   passes : Left id bytes r s (leaves r s (gives nothingToDo))
-  enters : {sender dgn sequence size i : ℕ} {q : Receiver} {o : Outcome}
-      → meaningOf (namesOf r) id bytes ≡ gives (begins (record { sender = sender; dgn = dgn; sequence = sequence; size = size }))
-      → placeFor (pairOf sender dgn) (r .places) ≡ At i → room ≤ length s → length bytes ≡ frameBytes
-      → Left id bytes r s (leaves q (firstKept i (newPlace sender dgn sequence size) bytes s) (gives o))
-  closes : {sender dgn sequence number i : ℕ}
-      → meaningOf (namesOf r) id bytes ≡ gives (continues (record { sender = sender; dgn = dgn; sequence = sequence; number = number }))
-      → first (isOpenBy (pairOf sender dgn)) (r .places) ≡ At i → OutOfTurn r i sequence number
+  enters : {n : NewMessage} {i : ℕ} {q : Receiver} {o : Outcome}
+      → meaningOf (namesOf r) id bytes ≡ gives (begins n)
+      → placeFor (pairOf (n .sender) (n .dgn)) (r .places) ≡ At i → room ≤ length s → length bytes ≡ frameBytes
+      → Left id bytes r s
+      (leaves q (firstKept i (newPlace (n .sender) (n .dgn) (n .sequence) (n .size)) bytes s) (gives o))
+  closes : {l : LaterFrame} {i : ℕ}
+      → meaningOf (namesOf r) id bytes ≡ gives (continues l)
+      → first (isOpenBy (pairOf (l .sender) (l .dgn))) (r .places) ≡ At i → OutOfTurn r i (l .sequence) (l .number)
       → Left id bytes r s (leaves (placing r i freePlace) s (refused 10))
-  stores : {sender dgn sequence number i : ℕ} {q : Receiver} {o : Outcome}
-      → meaningOf (namesOf r) id bytes ≡ gives (continues (record { sender = sender; dgn = dgn; sequence = sequence; number = number }))
-      → first (isOpenBy (pairOf sender dgn)) (r .places) ≡ At i → number ≡ getD (r .places) i freePlace .expected
+  stores : {l : LaterFrame} {i : ℕ} {q : Receiver} {o : Outcome}
+      → meaningOf (namesOf r) id bytes ≡ gives (continues l)
+      → first (isOpenBy (pairOf (l .sender) (l .dgn))) (r .places) ≡ At i
+      → l .number ≡ getD (r .places) i freePlace .expected
       → OpenRules (namesOf r) (getD (r .places) i freePlace) → room ≤ length s → length bytes ≡ frameBytes
       → Left id bytes r s (leaves q (keptAt i (getD (r .places) i freePlace) bytes s) (gives o))
 
 module _ (id : ℕ) (bytes : List ℕ) (r : Receiver) (s : List ℕ) where
   begins-left : (sender dgn sequence size : ℕ)
-      → meaningOf (namesOf r) id bytes ≡ gives (begins (record { sender = sender; dgn = dgn; sequence = sequence; size = size }))
+      → meaningOf (namesOf r) id bytes
+      ≡ gives (begins (record { sender = sender; dgn = dgn; sequence = sequence; size = size }))
       → room ≤ length s → length bytes ≡ frameBytes
       → Left id bytes r s (Receiver.hearsFirst (newPlace sender dgn sequence size) bytes r s)
   begins-left sender dgn sequence size m enough l = go (placeFor (pairOf sender dgn) (r .places)) refl
@@ -357,7 +360,8 @@ module _ (id : ℕ) (bytes : List ℕ) (r : Receiver) (s : List ℕ) where
       go Nowhere e = subst⁻¹ (Left id bytes r s) (begins-nowhere p bytes r s e) (refuses (λ x. omega arith))
 
   continues-left : (sender dgn sequence number : ℕ)
-      → meaningOf (namesOf r) id bytes ≡ gives (continues (record { sender = sender; dgn = dgn; sequence = sequence; number = number }))
+      → meaningOf (namesOf r) id bytes
+      ≡ gives (continues (record { sender = sender; dgn = dgn; sequence = sequence; number = number }))
       → keepsRules r ≡ true → room ≤ length s → length bytes ≡ frameBytes
       → Left id bytes r s (Receiver.hearsLater (pairOf sender dgn) sequence number bytes r s)
   continues-left sender dgn sequence number m v enough l = go (first (isOpenBy (pairOf sender dgn)) (r .places)) refl
@@ -450,14 +454,13 @@ ten-closes id bytes state s r exit h e =
   where
     go : (a : After) → Left id bytes state s a → a .answer ≡ refused 10
         → r .receiver ≡ a .receiver → exit ≡ a .storage
-        → (sender dgn sequence number i : ℕ)
-        × (meaningOf (namesOf state) id bytes ≡ gives (continues (record { sender = sender; dgn = dgn; sequence = sequence; number = number })))
-        × OutOfTurn state i sequence number × ClosedAt state s (r .receiver) exit (pairOf sender dgn) i
+        → (l : LaterFrame) × (i : ℕ) × (meaningOf (namesOf state) id bytes ≡ gives (continues l))
+        × OutOfTurn state i (l .sequence) (l .number)
+        × ClosedAt state s (r .receiver) exit (pairOf (l .sender) (l .dgn)) i
     go a (refuses x) y p q = absurd (x (refused-is y))
     go a passes y p q = given-refused y
     go a (enters m f enough b) y p q = given-refused y
-    go a (closes {sender = sender} {dgn = dgn} {sequence = sequence} {number = number} {i = i} m f o) y p q =
-        (sender, dgn, sequence, number, i, m, o, record { held = f; closed = p; kept = q })
+    go a (closes {l = l} {i = i} m f o) y p q = (l, i, m, o, record { held = f; closed = p; kept = q })
     go a (stores m f d o enough b) y p q = given-refused y
 
 pub pause-refused-keeps : PauseRefusedKeeps
@@ -562,11 +565,12 @@ frame-holds : (bytes : List ℕ) (p : Place) → length bytes ≡ frameBytes
 frame-holds bytes p b = rw length-drop (omega arith)
 
 pub writes-frame-zero : WritesFrameZero
-writes-frame-zero id bytes state s r exit sender dgn sequence size i k eight enough v h m f own =
-    let p = newPlace sender dgn sequence size in
+writes-frame-zero id bytes state s r exit n i k eight enough v h m f own =
+    let size = n .size in
+    let p = newPlace (n .sender) (n .dgn) (n .sequence) size in
     let kept = firstKept i p bytes s in
     let known = subst (Known (namesOf state) id bytes) m (known-of id bytes state s v) in
-    let below = place-for-below (pairOf sender dgn) (state .places) i eight f in
+    let below = place-for-below (pairOf (n .sender) (n .dgn)) (state .places) i eight f in
     let e = ap (λ (a : After). a .storage)
     (heard-kept id bytes state s enough v
     ∙ ap (λ (t : Told Meaning). byMeaning t bytes state s) m
@@ -602,18 +606,18 @@ writes-its-own id bytes state s r exit k eight h beside-first beside-later =
     go : (a : After) → Left id bytes state s a → getD (a .storage) k 0 ≡ getD s k 0
     go a (refuses x) = refl
     go a passes = refl
-    go a (enters {sender = sender} {dgn = dgn} {sequence = sequence} {size = size} {i = i} m f enough b) =
-        let below = place-for-below (pairOf sender dgn) (state .places) i eight f in
-        copy-keeps s (longest * i + 0) (drop 2 bytes) (neededFirst size) k
-        (first-stretch s i size below enough) (first-holds bytes size b)
-        (λ x y. beside-first sender dgn sequence size i m f (record { above = x; below = y }))
+    go a (enters {n = n} {i = i} m f enough b) =
+        let below = place-for-below (pairOf (n .sender) (n .dgn)) (state .places) i eight f in
+        copy-keeps s (longest * i + 0) (drop 2 bytes) (neededFirst (n .size)) k
+        (first-stretch s i (n .size) below enough) (first-holds bytes (n .size) b)
+        (λ x y. beside-first n i m f (record { above = x; below = y }))
     go a (closes m f o) = refl
-    go a (stores {sender = sender} {dgn = dgn} {sequence = sequence} {number = number} {i = i} m f d o enough b) =
+    go a (stores {l = l} {i = i} m f d o enough b) =
         let p = getD (state .places) i freePlace in
-        let below = found-below (isOpenBy (pairOf sender dgn)) (state .places) i eight f in
+        let below = found-below (isOpenBy (pairOf (l .sender) (l .dgn))) (state .places) i eight f in
         copy-keeps s (longest * i + offsetOf (p .expected)) (drop 1 bytes) (needed (p .length) (p .expected)) k
         (stretch-holds s i p below enough o) (frame-holds bytes p b)
-        (λ x y. beside-later sender dgn sequence number i m f
+        (λ x y. beside-later l i m f
         (subst⁻¹ (λ (n : ℕ). ItsOwn i (offsetOf n) (needed (p .length) n) k) d (record { above = x; below = y })))
 
 pub not-beyond : NotBeyond

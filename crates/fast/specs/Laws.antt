@@ -15,7 +15,7 @@ use Rattle.frame.specs.Standard.{announcementDgn, packetDgn}
 use Rattle.frame.specs.declared.Parts.{Parts}
 use Rattle.places.specs.Places.{placeCount}
 use Rattle.words.specs.declared.Found.the-variants.{At}
-use Rattle.fast.specs.FastPacket.{frameNumberOf, sequenceOf, firstByteOf, greatestSequence, firstBytes, laterBytes, longest, offsetOf, lastFrame, neededFirst, needed, pairOf, byteAt, begins, continues, meaningOf}
+use Rattle.fast.specs.FastPacket.{frameNumberOf, sequenceOf, firstByteOf, greatestSequence, firstBytes, laterBytes, longest, offsetOf, lastFrame, neededFirst, needed, pairOf, byteAt, NewMessage, LaterFrame, begins, continues, meaningOf}
 use Rattle.fast.specs.Names.{mostNamed, mayBeNamed, isNamed}
 use Rattle.fast.specs.Receiver.{room, freePlace, isOpenBy, namesOf, keepsRules, placing, placeFor, nothingToDo}
 use Rattle.fast.specs.Splitter.{frameBytesOf}
@@ -156,9 +156,9 @@ abbrev pub TenCloses : Type 0
 TenCloses =
     (id : ℕ) (bytes : List ℕ) (state : Receiver) (storage : List ℕ) (r : Heard) (exit : List ℕ)
     → Hear id bytes state storage r exit → r .answer ≡ UnexpectedFrame
-    → (sender dgn sequence number i : ℕ)
-    × (meaningOf (namesOf state) id bytes ≡ gives (continues (record { sender = sender; dgn = dgn; sequence = sequence; number = number })))
-    × OutOfTurn state i sequence number × ClosedAt state storage (r .receiver) exit (pairOf sender dgn) i
+    → (f : LaterFrame) × (i : ℕ) × (meaningOf (namesOf state) id bytes ≡ gives (continues f))
+    × OutOfTurn state i (f .sequence) (f .number)
+    × ClosedAt state storage (r .receiver) exit (pairOf (f .sender) (f .dgn)) i
 
 abbrev pub PauseRefusedKeeps : Type 0
 PauseRefusedKeeps =
@@ -196,12 +196,12 @@ pub record ItsOwn (i from count k : ℕ) : Type 0 where
 abbrev pub WritesFrameZero : Type 0
 WritesFrameZero =
     (id : ℕ) (bytes : List ℕ) (state : Receiver) (storage : List ℕ) (r : Heard) (exit : List ℕ)
-    (sender dgn sequence size i k : ℕ)
+    (m : NewMessage) (i k : ℕ)
     → length (state .places) ≡ placeCount → room ≤ length storage → keepsRules state ≡ true
     → Hear id bytes state storage r exit
-    → meaningOf (namesOf state) id bytes ≡ gives (begins (record { sender = sender; dgn = dgn; sequence = sequence; size = size }))
-    → placeFor (pairOf sender dgn) (state .places) ≡ At i
-    → ItsOwn i 0 (neededFirst size) k
+    → meaningOf (namesOf state) id bytes ≡ gives (begins m)
+    → placeFor (pairOf (m .sender) (m .dgn)) (state .places) ≡ At i
+    → ItsOwn i 0 (neededFirst (m .size)) k
     → getD exit k 0 ≡ getD bytes (2 + (k - (longest * i + 0))) 0
 
 -- a later frame that is expected, its bytes after the first;
@@ -212,7 +212,8 @@ WritesTheFrame =
     → length (state .places) ≡ placeCount → room ≤ length storage → keepsRules state ≡ true
     → Hear id bytes state storage r exit
     → p ≡ getD (state .places) i freePlace
-    → meaningOf (namesOf state) id bytes ≡ gives (continues (record { sender = sender; dgn = dgn; sequence = p .sequence; number = p .expected }))
+    → meaningOf (namesOf state) id bytes
+    ≡ gives (continues (record { sender = sender; dgn = dgn; sequence = p .sequence; number = p .expected }))
     → first (isOpenBy (pairOf sender dgn)) (state .places) ≡ At i
     → ItsOwn i (offsetOf (p .expected)) (needed (p .length) (p .expected)) k
     → getD exit k 0 ≡ getD bytes (1 + (k - (longest * i + offsetOf (p .expected)))) 0
@@ -222,13 +223,11 @@ abbrev pub WritesItsOwn : Type 0
 WritesItsOwn =
     (id : ℕ) (bytes : List ℕ) (state : Receiver) (storage : List ℕ) (r : Heard) (exit : List ℕ) (k : ℕ)
     → length (state .places) ≡ placeCount → Hear id bytes state storage r exit
-    → ((sender dgn sequence size i : ℕ)
-    → meaningOf (namesOf state) id bytes ≡ gives (begins (record { sender = sender; dgn = dgn; sequence = sequence; size = size }))
-    → placeFor (pairOf sender dgn) (state .places) ≡ At i → ItsOwn i 0 (neededFirst size) k → ⊥)
-    → ((sender dgn sequence number i : ℕ)
-    → meaningOf (namesOf state) id bytes ≡ gives (continues (record { sender = sender; dgn = dgn; sequence = sequence; number = number }))
-    → first (isOpenBy (pairOf sender dgn)) (state .places) ≡ At i
-    → ItsOwn i (offsetOf number) (needed (getD (state .places) i freePlace .length) number) k → ⊥)
+    → ((m : NewMessage) (i : ℕ) → meaningOf (namesOf state) id bytes ≡ gives (begins m)
+    → placeFor (pairOf (m .sender) (m .dgn)) (state .places) ≡ At i → ItsOwn i 0 (neededFirst (m .size)) k → ⊥)
+    → ((f : LaterFrame) (i : ℕ) → meaningOf (namesOf state) id bytes ≡ gives (continues f)
+    → first (isOpenBy (pairOf (f .sender) (f .dgn))) (state .places) ≡ At i
+    → ItsOwn i (offsetOf (f .number)) (needed (getD (state .places) i freePlace .length) (f .number)) k → ⊥)
     → getD exit k 0 ≡ getD storage k 0
 
 -- Its own bytes lie within the message's length: none beyond it is ever written.

@@ -21,7 +21,7 @@ use Rattle.words.proofs.Tests.{tests}
 use Rattle.frame.proofs.Laws.{badBack, bad-back}
 use Rattle.words.specs.declared.Found.{Found}
 use Rattle.words.specs.declared.Found.the-variants.{At, Nowhere}
-use Rattle.message.specs.LongMessage.{shortest, longest, packetBytes, packetsOf, needed, Meaning, other, announcement, packet, meaningOf}
+use Rattle.message.specs.LongMessage.{shortest, longest, packetBytes, packetsOf, needed, Meaning, other, announcement, PacketFrom, packet, meaningOf}
 use Rattle.message.specs.Receiver.{placeCount, room, freePlace, isOpenBy, keepsRules, Outcome, nothingToDo, opened, stored, finished, After, leaves, placeFor, openedAt, hearsAnnouncement, keptAt, packetAt, carries, byMeaning, heard, pausedPlaces, pausedAnswer}
 use Rattle.message.specs.Receiver as Receiver
 use Rattle.message.specs.Splitter.{mostPackets, splits, numbered}
@@ -178,9 +178,10 @@ data Left (id : ℕ) (bytes : List ℕ) (ps : List Place) (s : List ℕ) : After
   refuses : {n : ℕ} → n ≢ 10 → Left id bytes ps s (leaves ps s (refused n))
   passes : Left id bytes ps s (leaves ps s (gives nothingToDo))
   opens : (i : ℕ) (p : Place) → Left id bytes ps s (openedAt (At i) p ps s)
-  closes : {sender number i : ℕ} → meaningOf id bytes ≡ gives (packet (record { sender = sender; number = number })) → first (isOpenBy sender) ps ≡ At i
-      → number ≢ getD ps i freePlace .expected → Left id bytes ps s (leaves (set ps i freePlace) s (refused 10))
-  stores : {sender number i : ℕ} {qs : List Place} {o : Outcome} → meaningOf id bytes ≡ gives (packet (record { sender = sender; number = number })) → first (isOpenBy sender) ps ≡ At i
+  closes : {p : PacketFrom} {i : ℕ} → meaningOf id bytes ≡ gives (packet p) → first (isOpenBy (p .sender)) ps ≡ At i
+      → p .number ≢ getD ps i freePlace .expected → Left id bytes ps s (leaves (set ps i freePlace) s (refused 10))
+  stores : {p : PacketFrom} {i : ℕ} {qs : List Place} {o : Outcome}
+      → meaningOf id bytes ≡ gives (packet p) → first (isOpenBy (p .sender)) ps ≡ At i
       → OpenRules (getD ps i freePlace) → room ≤ length s → length bytes ≡ frameBytes
       → Left id bytes ps s (leaves qs (keptAt i (getD ps i freePlace) bytes s) (gives o))
 
@@ -192,7 +193,9 @@ module _ (id : ℕ) (bytes : List ℕ) (ps : List Place) (s : List ℕ) where
       go (At i) e = subst⁻¹ (Left id bytes ps s) (announcing-at sender size dgn ps s i e) (opens i _)
       go Nowhere e = subst⁻¹ (Left id bytes ps s) (announcing-nowhere sender size dgn ps s e) (refuses (λ x. omega arith))
 
-  carries-left : (sender number : ℕ) → meaningOf id bytes ≡ gives (packet (record { sender = sender; number = number })) → keepsRules ps ≡ true → room ≤ length s → length bytes ≡ frameBytes
+  carries-left : (sender number : ℕ)
+      → meaningOf id bytes ≡ gives (packet (record { sender = sender; number = number }))
+      → keepsRules ps ≡ true → room ≤ length s → length bytes ≡ frameBytes
       → Left id bytes ps s (carries sender number bytes ps s)
   carries-left sender number m v enough l = go (first (isOpenBy sender) ps) refl
     where
@@ -252,13 +255,12 @@ ten-closes id bytes ps s r exit h e =
   where
     go : (a : After) → Left id bytes ps s a → a .answer ≡ refused 10
         → r .receiver .places ≡ a .places → exit ≡ a .storage
-        → (sender number i : ℕ) × (meaningOf id bytes ≡ gives (packet (record { sender = sender; number = number })))
-        × (number ≢ getD ps i freePlace .expected) × ClosedAt ps s (r .receiver .places) exit sender i
+        → (p : PacketFrom) × (i : ℕ) × (meaningOf id bytes ≡ gives (packet p))
+        × (p .number ≢ getD ps i freePlace .expected) × ClosedAt ps s (r .receiver .places) exit (p .sender) i
     go a (refuses x) y p q = absurd (x (refused-is y))
     go a passes y p q = given-refused y
     go a (opens i q₀) y p q = given-refused y
-    go a (closes {sender = sender} {number = number} {i = i} m f o) y p q =
-        (sender, number, i, m, o, record { held = f; closed = p; kept = q })
+    go a (closes {p = l} {i = i} m f o) y p q = (l, i, m, o, record { held = f; closed = p; kept = q })
     go a (stores m f o l b) y p q = given-refused y
 
 pub lowest-wins : (id : ℕ) (bytes : List ℕ) (ps : List Place) (s : List ℕ) → LowestWins id bytes ps s
@@ -329,7 +331,8 @@ packet-holds bytes p b = rw length-drop (omega arith)
 -- the expected packet is kept
 expected-kept : (id : ℕ) (bytes : List ℕ) (ps : List Place) (s : List ℕ) (sender i : ℕ)
     → room ≤ length s → keepsRules ps ≡ true
-    → meaningOf id bytes ≡ gives (packet (record { sender = sender; number = getD ps i freePlace .expected })) → first (isOpenBy sender) ps ≡ At i
+    → meaningOf id bytes ≡ gives (packet (record { sender = sender; number = getD ps i freePlace .expected }))
+    → first (isOpenBy sender) ps ≡ At i
     → heard id bytes ps s .storage ≡ keptAt i (getD ps i freePlace) bytes s
 expected-kept id bytes ps s sender i enough v m f =
     let p = getD ps i freePlace in
@@ -361,12 +364,12 @@ writes-its-own id bytes ps s r exit k eight h beside =
     go a passes = refl
     go a (opens i p) = refl
     go a (closes m f o) = refl
-    go a (stores {sender = sender} {number = number} {i = i} m f o enough b) =
+    go a (stores {p = l} {i = i} m f o enough b) =
         let p = getD ps i freePlace in
-        let below = found-below (isOpenBy sender) ps i eight f in
+        let below = found-below (isOpenBy (l .sender)) ps i eight f in
         copy-keeps s (longest * i + packetBytes * (p .expected - 1)) (drop 1 bytes) (needed (p .length) (p .expected)) k
         (stretch-holds s i p below enough o) (packet-holds bytes p b)
-        (λ x y. beside sender number i m f (record { from = x; below = y }))
+        (λ x y. beside l i m f (record { from = x; below = y }))
 
 pub not-beyond : NotBeyond
 not-beyond p i k one most own = omega (arith, own .below)

@@ -12,7 +12,7 @@ use Rattle.words.specs.Lists.{first}
 use Rattle.frame.specs.Identifier.{greatestDgn}
 use Rattle.frame.specs.Frame.{checkedOf}
 use Rattle.words.specs.declared.Found.the-variants.{At}
-use Rattle.message.specs.LongMessage.{shortest, longest, packetBytes, packetsOf, needed, packet, meaningOf}
+use Rattle.message.specs.LongMessage.{shortest, longest, packetBytes, packetsOf, needed, PacketFrom, packet, meaningOf}
 use Rattle.message.specs.Receiver.{placeCount, room, freePlace, isOpenBy, keepsRules, heard}
 use Rattle.message.specs.Splitter.{announcementBytes, packetBytesOf}
 use Rattle.message.specs.Promises.{toldAnswer, toldPausing, announcingNumber, splittingNumber, New, Hear, Pause, Message, Announcement, Packet, AnswerRefusal, PausingRefusal, UnsplittableRefusal, AnnouncingRefusal, SplittingRefusal}
@@ -102,8 +102,9 @@ abbrev pub TenCloses : Type 0
 TenCloses =
     (id : ℕ) (bytes : List ℕ) (places : List Place) (storage : List ℕ) (r : Heard) (exit : List ℕ)
     → Hear id bytes places storage r exit → r .answer ≡ UnexpectedPacket
-    → (sender number i : ℕ) × (meaningOf id bytes ≡ gives (packet (record { sender = sender; number = number })))
-    × (number ≢ getD places i freePlace .expected) × ClosedAt places storage (r .receiver .places) exit sender i
+    → (p : PacketFrom) × (i : ℕ) × (meaningOf id bytes ≡ gives (packet p))
+    × (p .number ≢ getD places i freePlace .expected)
+    × ClosedAt places storage (r .receiver .places) exit (p .sender) i
 
 abbrev pub PauseRefusedKeeps : Type 0
 PauseRefusedKeeps =
@@ -147,7 +148,7 @@ abbrev pub WritesItsOwn : Type 0
 WritesItsOwn =
     (id : ℕ) (bytes : List ℕ) (places : List Place) (storage : List ℕ) (r : Heard) (exit : List ℕ) (k : ℕ)
     → length places ≡ placeCount → Hear id bytes places storage r exit
-    → ((sender number i : ℕ) → meaningOf id bytes ≡ gives (packet (record { sender = sender; number = number })) → first (isOpenBy sender) places ≡ At i
+    → ((p : PacketFrom) (i : ℕ) → meaningOf id bytes ≡ gives (packet p) → first (isOpenBy (p .sender)) places ≡ At i
     → ItsOwn (getD places i freePlace) i k → ⊥)
     → getD exit k 0 ≡ getD storage k 0
 
