@@ -16,7 +16,8 @@ use Rattle.message.specs.LongMessage.{idleLimit, packetsOf, Meaning, other, ann
 use Rattle.message.specs.OneSender.{Open, Part, Tells, longMessages, announcedBy, waits, fedBy, asksBy}
 use Rattle.message.specs.OneSender as OneSender
 use Rattle.message.specs.Calls.{receiverCalls}
-use Rattle.demands.specs.BusyBus.{BusyBus, OpenOnBus, ToldOnBus, NoPlaceFree, PauseCount, PausesOfMessages, SumsOfPauses, StartKept, RulesKept, EveryRunRuns, NoPlaceFreeAt, PauseCountAt}
+use Rattle.demands.specs.BusyBus.{BusyBus, OpenOnBus, ToldOnBus, NoPlaceFree, PauseCount, PausesOfMessages}
+use Rattle.demands.specs.BusyBus.{SumsOfPauses, StartKept, RulesKept, EveryRunRuns, NoPlaceFreeAt, PauseCountAt}
 use Rattle.demands.proofs.LongReceiver.{receiver-keeps}
 
 pub busy-bus : BusyBus

@@ -16,7 +16,8 @@ use Rattle.words.specs.Lists.{every, count, first}
 use Rattle.frame.specs.Identifier.{sourceOf, greatestDgn}
 use Rattle.frame.specs.Frame.{frameBytes}
 use Rattle.frame.specs.Standard.{Frame}
-use Rattle.frame.specs.declared.BadFrame.the-variants.{IdentifierTooLarge, NotEightBytes, ReservedBitSet, SourceNotAllowed}
+use Rattle.frame.specs.declared.BadFrame.the-variants.{IdentifierTooLarge, NotEightBytes, ReservedBitSet}
+use Rattle.frame.specs.declared.BadFrame.the-variants.{SourceNotAllowed}
 use Rattle.words.proofs.Words.{by-test, both-true}
 use Rattle.places.specs.Format.{fixed, opens, feeds, goes, ends}
 use Rattle.places.specs.Places.{Out, full, said, rest, closes}
@@ -27,19 +28,28 @@ use Rattle.words.specs.declared.Found.the-variants.{At, Nowhere}
 use Rattle.words.proofs.Lists.{found-at, every-at, every-set, every-map, every-replicate}
 use Rattle.places.proofs.Stretch.{stretch-same, stretch-other}
 use Rattle.places.proofs.View.{one-each-view, length-view, blank-view, view-pass, view-closes}
-use Rattle.places.proofs.Receiver.{Shows, shows-fixed, shows-opens-held, shows-opens-free, shows-full, shows-feeds-nowhere, shows-feeds-goes, shows-feeds-ends, shows-keeps, pass-keeps}
-use Rattle.message.specs.LongMessage.{shortest, longest, packetBytes, packetsOf, idleLimit, needed, Meaning, other, announcement, packet, meaningOf}
-use Rattle.message.specs.OneSender.{Open, Part, Tells, announcedBy, joined, expectingNext, fedBy, waits, asksBy, longMessages}
+use Rattle.places.proofs.Receiver.{Shows, shows-fixed, shows-opens-held, shows-opens-free, shows-full}
+use Rattle.places.proofs.Receiver.{shows-feeds-nowhere, shows-feeds-goes, shows-feeds-ends, shows-keeps, pass-keeps}
+use Rattle.message.specs.LongMessage.{shortest, longest, packetBytes, packetsOf, idleLimit, needed, Meaning, other}
+use Rattle.message.specs.LongMessage.{announcement, packet, meaningOf}
+use Rattle.message.specs.OneSender.{Open, Part, Tells, announcedBy, joined, expectingNext, fedBy, waits, asksBy}
+use Rattle.message.specs.OneSender.{longMessages}
 use Rattle.message.specs.OneSender as OneSender
-use Rattle.message.specs.Receiver.{greatestSender, placeCount, room, freePlace, isFree, openMessage, layout, isOpenBy, isZero, placeKeepsRules, keepsRules, Outcome, After, leaves, placeFor, hearsAnnouncement, keptAt, expecting, advanced, packetAt, carries, byMeaning, heard, idled, pausedPlaces, pausedAnswer}
+use Rattle.message.specs.Receiver.{greatestSender, placeCount, room, freePlace, isFree, openMessage, layout, isOpenBy}
+use Rattle.message.specs.Receiver.{isZero, placeKeepsRules, keepsRules, Outcome, After, leaves, placeFor}
+use Rattle.message.specs.Receiver.{hearsAnnouncement, keptAt, expecting, advanced, packetAt, carries, byMeaning, heard}
+use Rattle.message.specs.Receiver.{idled, pausedPlaces, pausedAnswer}
 use Rattle.message.specs.Receiver as Eight
 use Rattle.message.specs.Promises.{toldAnswer, messageIn, partOf}
 use Rattle.message.specs.Calls.{Held, Starts, Keeps, tells, Hears, Pauses, openIn, receiverCalls}
 use Rattle.message.specs.declared.Place.{Place}
 use Rattle.message.specs.declared.Answer.{Answer}
-use Rattle.message.specs.declared.Answer.the-variants.{BadFrame, MalformedAnnouncement, NoPlaceFree, NoOpenMessage, UnexpectedPacket, NothingToDo, Opened, Stored, Finished}
+use Rattle.message.specs.declared.Answer.the-variants.{BadFrame, MalformedAnnouncement, NoPlaceFree, NoOpenMessage}
+use Rattle.message.specs.declared.Answer.the-variants.{UnexpectedPacket, NothingToDo, Opened, Stored, Finished}
 use Rattle.message.specs.declared.Pausing.the-variants as Pausing
-use Rattle.message.proofs.Steps.{found-below, OpenRules, open-rules, rules-at, announcing-at, announcing-nowhere, advanced-last, advanced-next, packet-expected, packet-other, carries-at, carries-nowhere, heard-kept}
+use Rattle.message.proofs.Steps.{found-below, OpenRules, open-rules, rules-at, announcing-at, announcing-nowhere}
+use Rattle.message.proofs.Steps.{advanced-last, advanced-next, packet-expected, packet-other, carries-at}
+use Rattle.message.proofs.Steps.{carries-nowhere, heard-kept}
 use Rattle.message.proofs.Frames.{Known, meaning-known}
 
 -- an open place that keeps its rules

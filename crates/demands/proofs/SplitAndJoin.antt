@@ -19,7 +19,8 @@ use Rattle.frame.proofs.Bytes.{number-of-bytes}
 use Rattle.frame.proofs.Laws.{lowest-wins}
 use Rattle.places.specs.Format.{Event, frame, pause, step, fixed}
 use Rattle.places.specs.OneKey.{solo, hearAlone, pauseAlone, openAfter}
-use Rattle.message.specs.LongMessage.{shortest, longest, packetBytes, packetsOf, idleLimit, toAll, byteAt, bytesTo, needed, Meaning, other, announcement, packet, announced, meant, meaningOf}
+use Rattle.message.specs.LongMessage.{shortest, longest, packetBytes, packetsOf, idleLimit, toAll, byteAt, bytesTo}
+use Rattle.message.specs.LongMessage.{needed, Meaning, other, announcement, packet, announced, meant, meaningOf}
 use Rattle.message.specs.OneSender.{Open, Tells, joined, asksBy, longMessages, nothingToDo, finished, opened, stored}
 use Rattle.message.specs.Receiver.{greatestSender}
 use Rattle.message.specs.Splitter.{announcementBytes, packetBytesOf}
@@ -27,7 +28,8 @@ use Rattle.message.specs.Promises.{Announcement, Packet}
 use Rattle.message.specs.declared.Announced.{Announced}
 use Rattle.message.specs.declared.Split.{Split}
 use Rattle.message.proofs.Laws.{splitter-announces, splitter-splits}
-use Rattle.demands.specs.SplitAndJoin.{sent, isApart, Sending, pauses, sends, next, last, Sent, announces, Sendable, SplitAndJoin, JoinedByRules}
+use Rattle.demands.specs.SplitAndJoin.{sent, isApart, Sending, pauses, sends, next, last, Sent, announces}
+use Rattle.demands.specs.SplitAndJoin.{Sendable, SplitAndJoin, JoinedByRules}
 use Rattle.demands.proofs.BusyBus.{told-on-bus}
 
 -- a frame as sent passes refusals 3 to 6, and its parts are those that it was formed from

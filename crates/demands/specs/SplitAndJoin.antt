@@ -15,7 +15,8 @@ use Rattle.places.specs.Format.{Event, frame, pause}
 use Rattle.places.specs.OneKey.{solo}
 use Rattle.places.specs.Places.{History, toldTo, admitted, answered}
 use Rattle.places.specs.Calls.{FromStart}
-use Rattle.message.specs.LongMessage.{shortest, longest, packetsOf, idleLimit, Meaning, other, announcement, packet, meaningOf}
+use Rattle.message.specs.LongMessage.{shortest, longest, packetsOf, idleLimit, Meaning, other, announcement, packet}
+use Rattle.message.specs.LongMessage.{meaningOf}
 use Rattle.message.specs.OneSender.{Open, Tells, finished, longMessages}
 use Rattle.message.specs.Receiver.{greatestSender}
 use Rattle.message.specs.Promises.{Announcement, Packet}
@@ -71,7 +72,8 @@ SplitAndJoin =
     → Sendable message dgn sender → FromStart receiverCalls h s → admitted longMessages sender h ≡ earlier ++ own
     → Sent message dgn sender own
     → (answers : List (Told Tells))
-    × (answered (toldTo longMessages sender h) ≡ answers ++ (gives (finished (record { sender = sender; dgn = dgn; bytes = message })) ∷ []))
+    × (answered (toldTo longMessages sender h)
+    ≡ answers ++ (gives (finished (record { sender = sender; dgn = dgn; bytes = message })) ∷ []))
 
 -- By the single-sender rules: whatever was open, the last answer hands over the message.
 abbrev pub JoinedByRules : Type 0
@@ -80,4 +82,5 @@ JoinedByRules =
     → Sent message dgn sender events
     → (before : Option Open)
     → (answers : List (Told Tells))
-    × (solo longMessages before events ≡ answers ++ (gives (finished (record { sender = sender; dgn = dgn; bytes = message })) ∷ []))
+    × (solo longMessages before events
+    ≡ answers ++ (gives (finished (record { sender = sender; dgn = dgn; bytes = message })) ∷ []))

@@ -8,7 +8,8 @@ use mathlib.Core.Logic.{_≢_}
 use mathlib.Core.Option.{some, none}
 use Prim.Native.Nat.{ℕ, _+_, _*_, _≤_, _<_}
 use native.Mathlib.Omega.{arith}
-use borrow.Author.Tests.{eq-eqb, ne-eqb, eqb-true, eqb-false, lt-ltb, le-ltb, le-leb, lt-leb, ltb-true, ltb-false, leb-true, leb-false}
+use borrow.Author.Tests.{eq-eqb, ne-eqb, eqb-true, eqb-false, lt-ltb, le-ltb, le-leb, lt-leb, ltb-true, ltb-false}
+use borrow.Author.Tests.{leb-true, leb-false}
 use lib.ListN.{length, take, drop, getD, set, replicate, length-take, length-drop, length-map}
 use lib.Seq.{paste, length-paste, take-paste, take-take, set-getD}
 use Rattle.words.specs.Words.{_≤?_, _<?_, _=?_, _and_, Told, refused, gives}
@@ -16,7 +17,8 @@ use Rattle.words.specs.Lists.{every, count, first}
 use Rattle.frame.specs.Identifier.{sourceOf, dgnOf}
 use Rattle.frame.specs.Frame.{frameBytes}
 use Rattle.frame.specs.Standard.{Frame, greatestAddress}
-use Rattle.frame.specs.declared.BadFrame.the-variants.{IdentifierTooLarge, NotEightBytes, ReservedBitSet, SourceNotAllowed}
+use Rattle.frame.specs.declared.BadFrame.the-variants.{IdentifierTooLarge, NotEightBytes, ReservedBitSet}
+use Rattle.frame.specs.declared.BadFrame.the-variants.{SourceNotAllowed}
 use Rattle.words.proofs.Words.{by-test, both-true}
 use Rattle.places.specs.Format.{Format, fixed, opens, finishes, goes, ends}
 use Rattle.places.specs.OneKey.{pauseAlone}
@@ -28,21 +30,34 @@ use Rattle.words.specs.declared.Found.the-variants.{At, Nowhere}
 use Rattle.words.proofs.Lists.{found-at, every-at, every-set, every-map}
 use Rattle.places.proofs.Stretch.{stretch-same, stretch-other}
 use Rattle.places.proofs.View.{one-each-view, length-view, blank-view, view-pass, view-closes}
-use Rattle.places.proofs.Receiver.{Shows, shows-fixed, shows-opens-held, shows-opens-free, shows-finishes-held, shows-finishes-free, shows-full, shows-feeds-nowhere, shows-feeds-goes, shows-feeds-ends, shows-keeps, pass-keeps}
-use Rattle.fast.specs.FastPacket.{greatestSequence, firstBytes, longest, offsetOf, lastFrame, neededFirst, needed, idleLimit, pairOf, Meaning, other, begins, continues, meaningOf}
+use Rattle.places.proofs.Receiver.{Shows, shows-fixed, shows-opens-held, shows-opens-free, shows-finishes-held}
+use Rattle.places.proofs.Receiver.{shows-finishes-free, shows-full, shows-feeds-nowhere, shows-feeds-goes}
+use Rattle.places.proofs.Receiver.{shows-feeds-ends, shows-keeps, pass-keeps}
+use Rattle.fast.specs.FastPacket.{greatestSequence, firstBytes, longest, offsetOf, lastFrame, neededFirst, needed}
+use Rattle.fast.specs.FastPacket.{idleLimit, pairOf, Meaning, other, begins, continues, meaningOf}
 use Rattle.fast.specs.Names.{isNamed, isWellFormed}
 use Rattle.fast.specs.OnePair as OnePair
-use Rattle.fast.specs.OnePair.{Open, Part, Tells, begunBy, joined, expectingNext, fedBy, waits, asksBy, fastPackets}
+use Rattle.fast.specs.OnePair.{Open, Part, Tells, begunBy, joined, expectingNext, fedBy, waits, asksBy}
+use Rattle.fast.specs.OnePair.{fastPackets}
 use Rattle.fast.specs.Receiver as Eight
-use Rattle.fast.specs.Receiver.{room, freePlace, isFree, openMessage, layout, isOpenBy, namesOf, isZero, placeKeepsRules, keepsRules, Outcome, After, leaves, holding, placing, placeFor, newPlace, firstKept, entersAt, keptAt, expecting, advanced, frameAt, byMeaning, heard, idled, pausedState, pausedAnswer}
+use Rattle.fast.specs.Receiver.{room, freePlace, isFree, openMessage, layout, isOpenBy, namesOf, isZero}
+use Rattle.fast.specs.Receiver.{placeKeepsRules, keepsRules, Outcome, After, leaves, holding, placing, placeFor}
+use Rattle.fast.specs.Receiver.{newPlace, firstKept, entersAt, keptAt, expecting, advanced, frameAt, byMeaning}
+use Rattle.fast.specs.Receiver.{heard, idled, pausedState, pausedAnswer}
 use Rattle.fast.specs.Promises.{toldAnswer, naming, partOf, messageIn}
-use Rattle.fast.specs.Calls.{Held, Starts, Keeps, tells, Hears, Pauses, openIn, EveryListStarts, FastKeepsPlaces, FastPausesAdd}
+use Rattle.fast.specs.Calls.{Held, Starts, Keeps, tells, Hears, Pauses, openIn, EveryListStarts, FastKeepsPlaces}
+use Rattle.fast.specs.Calls.{FastPausesAdd}
 use Rattle.fast.specs.declared.Place.{Place}
 use Rattle.fast.specs.declared.Receiver.{Receiver}
 use Rattle.fast.specs.declared.Answer.{Answer}
-use Rattle.fast.specs.declared.Answer.the-variants.{BadFrame, MalformedLength, NoPlaceFree, NoOpenMessage, UnexpectedFrame, NothingToDo, Opened, Stored, Finished}
+use Rattle.fast.specs.declared.Answer.the-variants.{BadFrame, MalformedLength, NoPlaceFree, NoOpenMessage}
+use Rattle.fast.specs.declared.Answer.the-variants.{UnexpectedFrame, NothingToDo, Opened, Stored, Finished}
 use Rattle.fast.specs.declared.Pausing.the-variants as Pausing
-use Rattle.fast.proofs.Steps.{found-below, Takes, its-own, a-free-one, place-for-at, place-for-nowhere, begins-at, begins-nowhere, entered-short, entered-long, advanced-last, advanced-next, frame-expected, frame-other-sequence, frame-other-number, continues-at, continues-nowhere, rules-of, keeps-rules, all-allowed, OpenRules, open-rules, rules-open, rules-at, heard-kept}
+use Rattle.fast.proofs.Steps.{found-below, Takes, its-own, a-free-one, place-for-at, place-for-nowhere}
+use Rattle.fast.proofs.Steps.{begins-at, begins-nowhere, entered-short, entered-long, advanced-last}
+use Rattle.fast.proofs.Steps.{advanced-next, frame-expected, frame-other-sequence, frame-other-number}
+use Rattle.fast.proofs.Steps.{continues-at, continues-nowhere, rules-of, keeps-rules, all-allowed, OpenRules}
+use Rattle.fast.proofs.Steps.{open-rules, rules-open, rules-at, heard-kept}
 use Rattle.fast.proofs.Frames.{Known, meaning-known}
 use Rattle.fast.proofs.Laws.{named-so, free-keeps-rules, naming-keeps-rules}
 

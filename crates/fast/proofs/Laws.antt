@@ -7,7 +7,8 @@ use mathlib.Core.Logic.{_≢_, _⊎_, inl, inr}
 use Prim.Native.Nat.{ℕ, zero, suc, _+_, _-_, _*_, _≤_, _<_}
 use native.Mathlib.Nat.{le-of-suc-le-suc, not-suc-le-zero}
 use native.Mathlib.Omega.{arith}
-use borrow.Author.Tests.{eqb-true, eqb-false, leb-true, leb-false, ltb-true, ltb-false, not-true, eq-eqb, ne-eqb, le-leb, lt-leb}
+use borrow.Author.Tests.{eqb-true, eqb-false, leb-true, leb-false, ltb-true, ltb-false, not-true, eq-eqb, ne-eqb}
+use borrow.Author.Tests.{le-leb, lt-leb}
 use lib.ListN.{List·getD-append, length, take, drop, getD, length-drop, length-take}
 use lib.Seq.{paste, getD-take, getD-drop, getD-append-add, take-paste, drop-paste, take-append-seam}
 use Rattle.words.specs.Words.{if_then_else_, _=?_, _<?_, _≤?_, _and_, bits, Told, refused, gives, numberIn}
@@ -17,7 +18,8 @@ use Rattle.frame.specs.Standard.{announcementDgn, packetDgn}
 use Rattle.frame.specs.Frame.{frameBytes}
 use Rattle.frame.specs.Promises.{refusalOf}
 use Rattle.frame.specs.declared.BadFrame as Frames
-use Rattle.frame.specs.declared.BadFrame.the-variants.{IdentifierTooLarge, NotEightBytes, ReservedBitSet, SourceNotAllowed}
+use Rattle.frame.specs.declared.BadFrame.the-variants.{IdentifierTooLarge, NotEightBytes, ReservedBitSet}
+use Rattle.frame.specs.declared.BadFrame.the-variants.{SourceNotAllowed}
 use Rattle.words.proofs.Words.{by-test, both-true, true-false}
 use Rattle.words.proofs.Tests.{tests}
 use Rattle.frame.proofs.Laws.{badBack, bad-back}
@@ -25,26 +27,43 @@ use Rattle.places.specs.Places.{placeCount}
 use Rattle.words.specs.declared.Found.{Found}
 use Rattle.words.specs.declared.Found.the-variants.{At, Nowhere}
 use Rattle.words.proofs.Lists.{every-at, every-replicate, distinct-cons, distinct-head, distinct-tail}
-use Rattle.fast.specs.FastPacket.{greatestSequence, firstBytes, longest, offsetOf, lastFrame, neededFirst, needed, pairOf, frameNumberOf, byteAt, Meaning, other, NewMessage, LaterFrame, begins, continues, begun, carried, meaningOf}
+use Rattle.fast.specs.FastPacket.{greatestSequence, firstBytes, longest, offsetOf, lastFrame, neededFirst, needed}
+use Rattle.fast.specs.FastPacket.{pairOf, frameNumberOf, byteAt, Meaning, other, NewMessage, LaterFrame, begins}
+use Rattle.fast.specs.FastPacket.{continues, begun, carried, meaningOf}
 use Rattle.fast.specs.Names.{mostNamed, mayBeNamed, isNamed, isWellFormed}
-use Rattle.fast.specs.Receiver.{room, freePlace, isOpenBy, namesOf, isZero, placeKeepsRules, keepsRules, Outcome, nothingToDo, opened, stored, finished, After, leaves, placing, placeFor, newPlace, firstKept, keptAt, frameAt, byMeaning, heard, pausedState, pausedAnswer}
+use Rattle.fast.specs.Receiver.{room, freePlace, isOpenBy, namesOf, isZero, placeKeepsRules, keepsRules, Outcome}
+use Rattle.fast.specs.Receiver.{nothingToDo, opened, stored, finished, After, leaves, placing, placeFor, newPlace}
+use Rattle.fast.specs.Receiver.{firstKept, keptAt, frameAt, byMeaning, heard, pausedState, pausedAnswer}
 use Rattle.fast.specs.Receiver as Receiver
 use Rattle.fast.specs.Splitter.{refusalIn, frameBytesOf, frameOf}
-use Rattle.fast.specs.Promises.{startingNumber, toldAnswer, toldPausing, splittingNumber, naming, namingNone, bytesIn}
-use Rattle.fast.specs.Laws.{StartingNumberSame, ToldAnswerSame, ToldPausingSame, SplittingNumberSame, StartOnly, HearOnly, PauseOnly, MessageOnly, FrameOfOnly, StartingRefusalOnly, AnswerRefusalOnly, PausingRefusalOnly, SplittingRefusalOnly, PairSame, FirstByteRead, FramesNeeded, NamedWhen, StartNames, StartRefusedKeeps, RefusedKeeps, OutOfTurn, ClosedAt, TenCloses, PauseRefusedKeeps, LowestWins, ItsOwn, WritesFrameZero, WritesTheFrame, WritesItsOwn, NotBeyond, SplitterSplits}
+use Rattle.fast.specs.Promises.{startingNumber, toldAnswer, toldPausing, splittingNumber, naming, namingNone}
+use Rattle.fast.specs.Promises.{bytesIn}
+use Rattle.fast.specs.Laws.{StartingNumberSame, ToldAnswerSame, ToldPausingSame, SplittingNumberSame, StartOnly}
+use Rattle.fast.specs.Laws.{HearOnly, PauseOnly, MessageOnly, FrameOfOnly, StartingRefusalOnly, AnswerRefusalOnly}
+use Rattle.fast.specs.Laws.{PausingRefusalOnly, SplittingRefusalOnly, PairSame, FirstByteRead, FramesNeeded}
+use Rattle.fast.specs.Laws.{NamedWhen, StartNames, StartRefusedKeeps, RefusedKeeps, OutOfTurn, ClosedAt}
+use Rattle.fast.specs.Laws.{TenCloses, PauseRefusedKeeps, LowestWins, ItsOwn, WritesFrameZero, WritesTheFrame}
+use Rattle.fast.specs.Laws.{WritesItsOwn, NotBeyond, SplitterSplits}
 use Rattle.fast.specs.declared.Place.{Place}
 use Rattle.fast.specs.declared.Receiver.{Receiver}
 use Rattle.fast.specs.declared.Starting.{Starting}
 use Rattle.fast.specs.declared.Starting.the-variants as Starting
 use Rattle.fast.specs.declared.Answer.{Answer}
-use Rattle.fast.specs.declared.Answer.the-variants.{StorageTooShort, BrokenState, BadFrame, MalformedLength, NoPlaceFree, NoOpenMessage, UnexpectedFrame, NothingToDo, Opened, Stored, Finished}
+use Rattle.fast.specs.declared.Answer.the-variants.{StorageTooShort, BrokenState, BadFrame, MalformedLength}
+use Rattle.fast.specs.declared.Answer.the-variants.{NoPlaceFree, NoOpenMessage, UnexpectedFrame, NothingToDo}
+use Rattle.fast.specs.declared.Answer.the-variants.{Opened, Stored, Finished}
 use Rattle.fast.specs.declared.Pausing.{Pausing}
 use Rattle.fast.specs.declared.Pausing.the-variants as Pausing
 use Rattle.fast.specs.declared.Splitting.{Splitting}
 use Rattle.fast.specs.declared.Splitting.the-variants as Splitting
 use Rattle.fast.proofs.Splits.{frame-given}
 use Rattle.fast.proofs.Frames.{Known, meaning-known}
-use Rattle.fast.proofs.Steps.{found-below, place-for-below, begins-at, begins-nowhere, entered-short, entered-long, entered-storage, advanced-last, advanced-next, advanced-storage, frame-expected, frame-other-sequence, frame-other-number, continues-at, continues-nowhere, rules-of, keeps-rules, all-allowed, OpenRules, rules-at, heard-short, heard-broken, heard-kept, meaning-refused, meaning-given, meant-other, meant-carried}
+use Rattle.fast.proofs.Steps.{found-below, place-for-below, begins-at, begins-nowhere, entered-short}
+use Rattle.fast.proofs.Steps.{entered-long, entered-storage, advanced-last, advanced-next, advanced-storage}
+use Rattle.fast.proofs.Steps.{frame-expected, frame-other-sequence, frame-other-number, continues-at}
+use Rattle.fast.proofs.Steps.{continues-nowhere, rules-of, keeps-rules, all-allowed, OpenRules, rules-at}
+use Rattle.fast.proofs.Steps.{heard-short, heard-broken, heard-kept, meaning-refused, meaning-given, meant-other}
+use Rattle.fast.proofs.Steps.{meant-carried}
 
 -- an answer is read back from what it tells
 

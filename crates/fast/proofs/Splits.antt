@@ -15,7 +15,8 @@ use Rattle.words.specs.Words.{if_then_else_, _≤?_, _<?_, gives}
 use Rattle.frame.specs.Frame.{frameBytes}
 use Rattle.frame.specs.Standard.{unused}
 use Rattle.words.proofs.Words.{by-test}
-use Rattle.fast.specs.FastPacket.{firstByteOf, greatestSequence, firstBytes, laterBytes, longest, offsetOf, lastFrame, neededFirst, needed}
+use Rattle.fast.specs.FastPacket.{firstByteOf, greatestSequence, firstBytes, laterBytes, longest, offsetOf}
+use Rattle.fast.specs.FastPacket.{lastFrame, neededFirst, needed}
 use Rattle.fast.specs.Splitter.{refusalIn, firstBytesOf, laterBytesOf, frameBytesOf, frameOf}
 use Rattle.fast.specs.Promises.{splittingNumber, FrameOf}
 use Rattle.fast.specs.declared.Splitting.{Splitting}

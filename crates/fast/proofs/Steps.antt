@@ -6,7 +6,8 @@ use mathlib.Core.Bool.{Bool, true, false, not}
 use mathlib.Core.List.{List}
 use Prim.Native.Nat.{ℕ, _+_, _<_, _≤_}
 use native.Mathlib.Omega.{arith}
-use borrow.Author.Tests.{leb-true, ltb-true, eqb-true, eqb-false, not-true, eq-eqb, ne-eqb, lt-ltb, le-ltb, le-leb, lt-leb, leb-false}
+use borrow.Author.Tests.{leb-true, ltb-true, eqb-true, eqb-false, not-true, eq-eqb, ne-eqb, lt-ltb, le-ltb, le-leb}
+use borrow.Author.Tests.{lt-leb, leb-false}
 use lib.ListN.{length, getD}
 use Rattle.words.specs.Words.{_≤?_, _=?_, _<?_, _and_, Told, refused, gives}
 use Rattle.words.specs.Lists.{every, first}
@@ -18,9 +19,13 @@ use Rattle.places.specs.Layout.{oneEach}
 use Rattle.words.proofs.Lists.{found-at, every-at}
 use Rattle.words.specs.declared.Found.{Found}
 use Rattle.words.specs.declared.Found.the-variants.{At, Nowhere}
-use Rattle.fast.specs.FastPacket.{greatestSequence, firstBytes, longest, lastFrame, idleLimit, pairOf, other, carried, meant, meaningOf}
+use Rattle.fast.specs.FastPacket.{greatestSequence, firstBytes, longest, lastFrame, idleLimit, pairOf, other}
+use Rattle.fast.specs.FastPacket.{carried, meant, meaningOf}
 use Rattle.fast.specs.Names.{mostNamed, mayBeNamed, isNamed, isWellFormed}
-use Rattle.fast.specs.Receiver.{room, freePlace, isFree, isOpenBy, layout, namesOf, holdsNames, keepsLimits, placeKeepsRules, keepsRules, Outcome, opened, stored, finished, wholeAt, After, leaves, placing, placeFor, entered, entersAt, hearsFirst, keptAt, expecting, advanced, frameAt, hearsLater, byMeaning, heard}
+use Rattle.fast.specs.Receiver.{room, freePlace, isFree, isOpenBy, layout, namesOf, holdsNames, keepsLimits}
+use Rattle.fast.specs.Receiver.{placeKeepsRules, keepsRules, Outcome, opened, stored, finished, wholeAt, After}
+use Rattle.fast.specs.Receiver.{leaves, placing, placeFor, entered, entersAt, hearsFirst, keptAt, expecting}
+use Rattle.fast.specs.Receiver.{advanced, frameAt, hearsLater, byMeaning, heard}
 use Rattle.fast.specs.Promises.{toldAnswer, LeftBy}
 use Rattle.fast.specs.Private.{Live}
 use Rattle.fast.specs.declared.Place.{Place}

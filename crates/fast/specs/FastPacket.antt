@@ -81,13 +81,22 @@ pub data Meaning : Type 0 where
 
 unfoldable pub begun : ℕ → ℕ → ℕ → ℕ → Told Meaning
 begun sender dgn sequence size =
-    if (1 ≤? size) and (size ≤? longest) then gives (begins (record { sender = sender; dgn = dgn; sequence = sequence; size = size })) else refused 7
+    if (1 ≤? size) and (size ≤? longest)
+    then gives (begins (record { sender = sender; dgn = dgn; sequence = sequence; size = size }))
+    else refused 7
 
 -- a frame of a DGN that is named
 unfoldable pub carried : ℕ → ℕ → List ℕ → Told Meaning
 carried sender dgn bytes =
     if frameNumberOf (byteAt 0 bytes) =? 0 then begun sender dgn (sequenceOf (byteAt 0 bytes)) (byteAt 1 bytes) else
-    gives (continues (record { sender = sender; dgn = dgn; sequence = sequenceOf (byteAt 0 bytes); number = frameNumberOf (byteAt 0 bytes) }))
+    gives
+    (continues
+    (record {
+      sender = sender;
+      dgn = dgn;
+      sequence = sequenceOf (byteAt 0 bytes);
+      number = frameNumberOf (byteAt 0 bytes);
+    }))
 
 -- a frame that has passed refusals 3 to 6
 unfoldable pub meant : List ℕ → ℕ → ℕ → List ℕ → Told Meaning

@@ -15,11 +15,15 @@ use Rattle.frame.specs.Standard.{announcementDgn, packetDgn}
 use Rattle.frame.specs.declared.Parts.{Parts}
 use Rattle.places.specs.Places.{placeCount}
 use Rattle.words.specs.declared.Found.the-variants.{At}
-use Rattle.fast.specs.FastPacket.{frameNumberOf, sequenceOf, firstByteOf, greatestSequence, firstBytes, laterBytes, longest, offsetOf, lastFrame, neededFirst, needed, pairOf, byteAt, NewMessage, LaterFrame, begins, continues, meaningOf}
+use Rattle.fast.specs.FastPacket.{frameNumberOf, sequenceOf, firstByteOf, greatestSequence, firstBytes}
+use Rattle.fast.specs.FastPacket.{laterBytes, longest, offsetOf, lastFrame, neededFirst, needed, pairOf, byteAt}
+use Rattle.fast.specs.FastPacket.{NewMessage, LaterFrame, begins, continues, meaningOf}
 use Rattle.fast.specs.Names.{mostNamed, mayBeNamed, isNamed}
 use Rattle.fast.specs.Receiver.{room, freePlace, isOpenBy, namesOf, keepsRules, placing, placeFor, nothingToDo}
 use Rattle.fast.specs.Splitter.{frameBytesOf}
-use Rattle.fast.specs.Promises.{startingNumber, namingNone, toldAnswer, toldPausing, splittingNumber, Start, Hear, Pause, Message, FrameOf, StartingRefusal, AnswerRefusal, PausingRefusal, SplittingRefusal}
+use Rattle.fast.specs.Promises.{startingNumber, namingNone, toldAnswer, toldPausing, splittingNumber, Start, Hear}
+use Rattle.fast.specs.Promises.{Pause, Message, FrameOf, StartingRefusal, AnswerRefusal, PausingRefusal}
+use Rattle.fast.specs.Promises.{SplittingRefusal}
 use Rattle.fast.specs.declared.Place.{Place}
 use Rattle.fast.specs.declared.Receiver.{Receiver}
 use Rattle.fast.specs.declared.Starting.{Starting}

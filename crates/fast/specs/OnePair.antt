@@ -8,7 +8,8 @@ use Rattle.words.specs.Words.{if_then_else_, _<?_, _≤?_, _=?_, _and_, Told, r
 use Rattle.frame.specs.Identifier.{sourceOf, dgnOf}
 use Rattle.frame.specs.Standard.{Frame}
 use Rattle.places.specs.Format.{Asks, fixed, opens, finishes, feeds, Fed, goes, ends, Format}
-use Rattle.fast.specs.FastPacket.{firstBytes, lastFrame, needed, idleLimit, pairOf, Meaning, other, begins, continues, meaningOf}
+use Rattle.fast.specs.FastPacket.{firstBytes, lastFrame, needed, idleLimit, pairOf, Meaning, other, begins}
+use Rattle.fast.specs.FastPacket.{continues, meaningOf}
 
 -- An open message.
 pub record Open : Type 0 where
@@ -94,7 +95,8 @@ asksBy (refused n) bytes = fixed (refused n)
 asksBy (gives other) bytes = fixed (gives nothingToDo)
 asksBy (gives (begins m)) bytes =
     if m .size ≤? firstBytes
-    then finishes (gives (finished (record { sender = m .sender; dgn = m .dgn; bytes = take (m .size) (drop 2 bytes) })))
+    then
+    finishes (gives (finished (record { sender = m .sender; dgn = m .dgn; bytes = take (m .size) (drop 2 bytes) })))
     else opens (begunBy (m .sender) (m .dgn) (m .sequence) (m .size) (take firstBytes (drop 2 bytes))) (gives opened)
 asksBy (gives (continues f)) bytes =
     feeds (record { sequence = f .sequence; number = f .number; seven = drop 1 bytes }) (refused 9)

@@ -11,14 +11,17 @@ use Rattle.frame.specs.Promises.{refusalOf}
 use Rattle.places.specs.Places.{placeCount}
 use Rattle.fast.specs.FastPacket.{longest}
 use Rattle.fast.specs.Names.{mostNamed, isWellFormed}
-use Rattle.fast.specs.Receiver.{room, freePlace, Outcome, nothingToDo, opened, stored, finished, After, heard, pausedState, pausedAnswer}
+use Rattle.fast.specs.Receiver.{room, freePlace, Outcome, nothingToDo, opened, stored, finished, After, heard}
+use Rattle.fast.specs.Receiver.{pausedState, pausedAnswer}
 use Rattle.fast.specs.Splitter.{frameOf}
 use Rattle.fast.specs.declared.Receiver.{Receiver}
 use Rattle.fast.specs.declared.Starting.{Starting}
 use Rattle.fast.specs.declared.Starting.the-variants as Starting
 use Rattle.fast.specs.declared.Started.{Started}
 use Rattle.fast.specs.declared.Answer.{Answer}
-use Rattle.fast.specs.declared.Answer.the-variants.{StorageTooShort, BrokenState, BadFrame, MalformedLength, NoPlaceFree, NoOpenMessage, UnexpectedFrame, NothingToDo, Opened, Stored, Finished}
+use Rattle.fast.specs.declared.Answer.the-variants.{StorageTooShort, BrokenState, BadFrame, MalformedLength}
+use Rattle.fast.specs.declared.Answer.the-variants.{NoPlaceFree, NoOpenMessage, UnexpectedFrame, NothingToDo}
+use Rattle.fast.specs.declared.Answer.the-variants.{Opened, Stored, Finished}
 use Rattle.fast.specs.declared.Heard.{Heard}
 use Rattle.fast.specs.declared.Pausing.{Pausing}
 use Rattle.fast.specs.declared.Pausing.the-variants as Pausing

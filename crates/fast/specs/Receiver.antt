@@ -12,7 +12,8 @@ use Rattle.words.specs.declared.Found.{Found}
 use Rattle.words.specs.declared.Found.the-variants.{At, Nowhere}
 use Rattle.places.specs.Places.{placeCount}
 use Rattle.places.specs.Layout.{Layout, openBy, oneEach}
-use Rattle.fast.specs.FastPacket.{greatestSequence, firstBytes, longest, offsetOf, lastFrame, neededFirst, needed, idleLimit, pairOf, Meaning, other, begins, continues, meaningOf}
+use Rattle.fast.specs.FastPacket.{greatestSequence, firstBytes, longest, offsetOf, lastFrame, neededFirst, needed}
+use Rattle.fast.specs.FastPacket.{idleLimit, pairOf, Meaning, other, begins, continues, meaningOf}
 use Rattle.fast.specs.Names.{mostNamed, isNamed, isWellFormed}
 use Rattle.fast.specs.OnePair.{Open}
 use Rattle.fast.specs.declared.Place.{Place}

@@ -12,7 +12,8 @@ use Rattle.frame.specs.Identifier.{identifierOf, lowestPriority}
 use Rattle.frame.specs.Standard.{Frame, greatestAddress}
 use Rattle.places.specs.Format.{Event, frame, pause}
 use Rattle.places.specs.OneKey.{solo}
-use Rattle.fast.specs.FastPacket.{greatestSequence, firstBytes, longest, lastFrame, idleLimit, Meaning, other, begins, continues, meaningOf}
+use Rattle.fast.specs.FastPacket.{greatestSequence, firstBytes, longest, lastFrame, idleLimit, Meaning, other}
+use Rattle.fast.specs.FastPacket.{begins, continues, meaningOf}
 use Rattle.fast.specs.Names.{isNamed, isWellFormed}
 use Rattle.fast.specs.OnePair.{Open, Tells, finished, fastPackets}
 use Rattle.fast.specs.Promises.{FrameOf}
@@ -73,4 +74,5 @@ JoinedByRules =
     → Sendable names message dgn sender sequence → Sent names message dgn sender sequence events
     → (before : Option Open)
     → (answers : List (Told Tells))
-    × (solo (fastPackets names) before events ≡ answers ++ (gives (finished (record { sender = sender; dgn = dgn; bytes = message })) ∷ []))
+    × (solo (fastPackets names) before events
+    ≡ answers ++ (gives (finished (record { sender = sender; dgn = dgn; bytes = message })) ∷ []))

@@ -6,7 +6,8 @@ ghost use Prim.Native.Nat.{ℕ, _<_, _≤_};
 ghost use lib.ListN.{length, getD};
 ghost use Rattle.words.specs.Lists.{first};
 ghost use Rattle.fast.specs.FastPacket.{meant, meaningOf};
-ghost use Rattle.fast.specs.Receiver.{room, freePlace, isFree, isOpenBy, namesOf, keepsRules, placing, placeFor, hearsFirst, entersAt, entered, frameAt, hearsLater, byMeaning, advanced};
+ghost use Rattle.fast.specs.Receiver.{room, freePlace, isFree, isOpenBy, namesOf, keepsRules, placing, placeFor};
+ghost use Rattle.fast.specs.Receiver.{hearsFirst, entersAt, entered, frameAt, hearsLater, byMeaning, advanced};
 ghost use Rattle.fast.specs.Promises.{LeftBy};
 ghost use Rattle.fast.specs.Private.{PausedBy, Live};
 use crate::Answer;
@@ -39,7 +40,9 @@ pub fn keeps(r: Receiver, answer: Answer) -> Heard
 // A frame.
 pub fn hear(r: Receiver, storage: &mut [u8], id: u32, bytes: &[u8]) -> Heard
     requires { ⌜ (keepsRules r ≡ true) × (room ≤ length (now storage)) ⌝ }
-    ensures { λ h. ⌜ LeftBy (byMeaning (meaningOf (namesOf r) id (now (bytes .entry))) (now (bytes .entry)) r (now (storage .entry))) h (now (storage .exit)) ⌝ }
+    ensures { λ h. ⌜ LeftBy
+        (byMeaning (meaningOf (namesOf r) id (now (bytes .entry))) (now (bytes .entry)) r (now (storage .entry)))
+        h (now (storage .exit)) ⌝ }
 {
     let checked = frame::check(id, bytes);
     let eight = checked.bytes;
@@ -53,7 +56,9 @@ pub fn hear(r: Receiver, storage: &mut [u8], id: u32, bytes: &[u8]) -> Heard
 // A frame that passed refusals 3 to 6.
 fn heed(r: Receiver, storage: &mut [u8], sender: u8, dgn: u32, bytes: [u8; 8]) -> Heard
     requires { ⌜ (keepsRules r ≡ true) × (room ≤ length (now storage)) ⌝ }
-    ensures { λ h. ⌜ LeftBy (byMeaning (meant (namesOf r) sender dgn bytes) bytes r (now (storage .entry))) h (now (storage .exit)) ⌝ }
+    ensures { λ h. ⌜ LeftBy
+        (byMeaning (meant (namesOf r) sender dgn bytes) bytes r (now (storage .entry)))
+        h (now (storage .exit)) ⌝ }
 {
     if !names::named_by(r, dgn) {
         return keeps(r, Answer::NothingToDo);
@@ -217,7 +222,9 @@ fn frame_at(
     bytes: [u8; 8],
 ) -> Heard
     requires { ⌜ (at < 8) × (room ≤ length (now storage)) × Live (getD (r .places) at freePlace) ⌝ }
-    ensures { λ h. ⌜ LeftBy (frameAt at (getD (r .places) at freePlace) sequence number bytes r (now (storage .entry))) h (now (storage .exit)) ⌝ }
+    ensures { λ h. ⌜ LeftBy
+        (frameAt at (getD (r .places) at freePlace) sequence number bytes r (now (storage .entry)))
+        h (now (storage .exit)) ⌝ }
 {
     let p = r.places[at];
     if sequence != p.sequence {

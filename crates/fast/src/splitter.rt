@@ -34,7 +34,8 @@ pub fn splittable(size: usize, sequence: u8, number: u32) -> Splitting
 
 // A frame's eight bytes.
 pub fn frame_bytes(message: &[u8], sequence: u8, number: u8) -> [u8; 8]
-    requires { ⌜ (length (now message) ≤ longest) × (sequence ≤ greatestSequence) × (number ≤ lastFrame (length (now message))) ⌝ }
+    requires { ⌜ (length (now message) ≤ longest) × (sequence ≤ greatestSequence)
+        × (number ≤ lastFrame (length (now message))) ⌝ }
     ensures { λ r. ⌜ r ≡ frameBytesOf (now (message .entry)) sequence number ⌝ }
 {
     if number == 0 {
@@ -58,7 +59,8 @@ fn first_bytes(message: &[u8], sequence: u8) -> [u8; 8]
 
 // Any other frame: the sequence number and its own, its part of the message, and FFh for what is left.
 fn later_bytes(message: &[u8], sequence: u8, number: u8) -> [u8; 8]
-    requires { ⌜ (length (now message) ≤ longest) × (sequence ≤ greatestSequence) × (1 ≤ number) × (number ≤ lastFrame (length (now message))) ⌝ }
+    requires { ⌜ (length (now message) ≤ longest) × (sequence ≤ greatestSequence) × (1 ≤ number)
+        × (number ≤ lastFrame (length (now message))) ⌝ }
     ensures { λ r. ⌜ r ≡ laterBytesOf (now (message .entry)) sequence number ⌝ }
 {
     let from = FIRST_BYTES + LATER_BYTES * (number as usize - 1);

@@ -15,7 +15,8 @@ use Rattle.frame.specs.Frame.{sourceAllowed, checkedOf, frameBytes}
 use Rattle.frame.specs.Standard.{announcementDgn, packetDgn}
 use Rattle.frame.specs.declared.Parts.{Parts}
 use Rattle.words.proofs.Words.{both-true, by-test, not-flips, true-false}
-use Rattle.message.specs.LongMessage.{shortest, longest, packetsOf, toAll, byteAt, bytesTo, Meaning, other, announcement, packet, announced, meant, meaningOf}
+use Rattle.message.specs.LongMessage.{shortest, longest, packetsOf, toAll, byteAt, bytesTo, Meaning, other}
+use Rattle.message.specs.LongMessage.{announcement, packet, announced, meant, meaningOf}
 use Rattle.message.specs.Receiver.{greatestSender}
 
 by-if : {A : Type 0} (P : A → Type 0) (b : Bool) (x y : A) → (b ≡ true → P x) → (b ≡ false → P y) → P (if b then x else y)

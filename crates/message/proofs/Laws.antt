@@ -15,22 +15,33 @@ use Rattle.frame.specs.Identifier.{greatestDgn}
 use Rattle.frame.specs.Frame.{frameBytes}
 use Rattle.frame.specs.Promises.{refusalOf}
 use Rattle.frame.specs.declared.BadFrame as Frames
-use Rattle.frame.specs.declared.BadFrame.the-variants.{IdentifierTooLarge, NotEightBytes, ReservedBitSet, SourceNotAllowed}
+use Rattle.frame.specs.declared.BadFrame.the-variants.{IdentifierTooLarge, NotEightBytes, ReservedBitSet}
+use Rattle.frame.specs.declared.BadFrame.the-variants.{SourceNotAllowed}
 use Rattle.words.proofs.Words.{by-test}
 use Rattle.words.proofs.Tests.{tests}
 use Rattle.frame.proofs.Laws.{badBack, bad-back}
 use Rattle.words.specs.declared.Found.{Found}
 use Rattle.words.specs.declared.Found.the-variants.{At, Nowhere}
-use Rattle.message.specs.LongMessage.{shortest, longest, packetBytes, packetsOf, needed, Meaning, other, announcement, PacketFrom, packet, meaningOf}
-use Rattle.message.specs.Receiver.{placeCount, room, freePlace, isOpenBy, keepsRules, Outcome, nothingToDo, opened, stored, finished, After, leaves, placeFor, openedAt, hearsAnnouncement, keptAt, packetAt, carries, byMeaning, heard, pausedPlaces, pausedAnswer}
+use Rattle.message.specs.LongMessage.{shortest, longest, packetBytes, packetsOf, needed, Meaning, other}
+use Rattle.message.specs.LongMessage.{announcement, PacketFrom, packet, meaningOf}
+use Rattle.message.specs.Receiver.{placeCount, room, freePlace, isOpenBy, keepsRules, Outcome, nothingToDo}
+use Rattle.message.specs.Receiver.{opened, stored, finished, After, leaves, placeFor, openedAt, hearsAnnouncement}
+use Rattle.message.specs.Receiver.{keptAt, packetAt, carries, byMeaning, heard, pausedPlaces, pausedAnswer}
 use Rattle.message.specs.Receiver as Receiver
 use Rattle.message.specs.Splitter.{mostPackets, splits, numbered}
 use Rattle.message.specs.Promises.{toldAnswer, toldPausing, announcingNumber, splittingNumber, bytesIn}
-use Rattle.message.specs.Laws.{ToldAnswerSame, ToldPausingSame, AnnouncingNumberSame, SplittingNumberSame, NewOnly, HearOnly, PauseOnly, MessageOnly, AnnouncementOnly, PacketOnly, AnswerRefusalOnly, PausingRefusalOnly, UnsplittableRefusalOnly, AnnouncingRefusalOnly, SplittingRefusalOnly, RefusedKeeps, ClosedAt, TenCloses, LowestWins, PauseRefusedKeeps, WritesThePacket, WritesItsOwn, NotBeyond, SplitterAnnounces, SplitterSplits}
+use Rattle.message.specs.Laws.{ToldAnswerSame, ToldPausingSame, AnnouncingNumberSame, SplittingNumberSame}
+use Rattle.message.specs.Laws.{NewOnly, HearOnly, PauseOnly, MessageOnly, AnnouncementOnly, PacketOnly}
+use Rattle.message.specs.Laws.{AnswerRefusalOnly, PausingRefusalOnly, UnsplittableRefusalOnly}
+use Rattle.message.specs.Laws.{AnnouncingRefusalOnly, SplittingRefusalOnly, RefusedKeeps, ClosedAt, TenCloses}
+use Rattle.message.specs.Laws.{LowestWins, PauseRefusedKeeps, WritesThePacket, WritesItsOwn, NotBeyond}
+use Rattle.message.specs.Laws.{SplitterAnnounces, SplitterSplits}
 use Rattle.message.specs.declared.Place.{Place}
 use Rattle.message.specs.declared.Receiver.{Receiver}
 use Rattle.message.specs.declared.Answer.{Answer}
-use Rattle.message.specs.declared.Answer.the-variants.{StorageTooShort, BrokenState, BadFrame, MalformedAnnouncement, NoPlaceFree, NoOpenMessage, UnexpectedPacket, NothingToDo, Opened, Stored, Finished}
+use Rattle.message.specs.declared.Answer.the-variants.{StorageTooShort, BrokenState, BadFrame}
+use Rattle.message.specs.declared.Answer.the-variants.{MalformedAnnouncement, NoPlaceFree, NoOpenMessage}
+use Rattle.message.specs.declared.Answer.the-variants.{UnexpectedPacket, NothingToDo, Opened, Stored, Finished}
 use Rattle.message.specs.declared.Pausing.{Pausing}
 use Rattle.message.specs.declared.Pausing.the-variants as Pausing
 use Rattle.message.specs.declared.Unsplittable.{Unsplittable}
@@ -40,8 +51,11 @@ use Rattle.message.specs.declared.Announcing.the-variants as Announcing
 use Rattle.message.specs.declared.Splitting.{Splitting}
 use Rattle.message.specs.declared.Splitting.the-variants as Splitting
 use Rattle.message.proofs.Frames.{Known, meaning-known}
-use Rattle.message.proofs.Steps.{found-below, OpenRules, rules-at, announcing-at, announcing-nowhere, advanced-last, advanced-next, advanced-storage, packet-expected, packet-other, carries-at, carries-nowhere, heard-short, heard-broken, heard-kept}
-use Rattle.message.proofs.Packets.{announcement-refused, announcement-given, packet-refused, packet-numbered, numbered-zero, numbered-above, numbered-given}
+use Rattle.message.proofs.Steps.{found-below, OpenRules, rules-at, announcing-at, announcing-nowhere}
+use Rattle.message.proofs.Steps.{advanced-last, advanced-next, advanced-storage, packet-expected, packet-other}
+use Rattle.message.proofs.Steps.{carries-at, carries-nowhere, heard-short, heard-broken, heard-kept}
+use Rattle.message.proofs.Packets.{announcement-refused, announcement-given, packet-refused, packet-numbered}
+use Rattle.message.proofs.Packets.{numbered-zero, numbered-above, numbered-given}
 
 -- an answer is read back from what it tells
 

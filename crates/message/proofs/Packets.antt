@@ -15,7 +15,8 @@ use Rattle.frame.specs.Identifier.{greatestDgn}
 use Rattle.frame.specs.Standard.{unused}
 use Rattle.words.proofs.Words.{by-test, past-refusal, gives-same}
 use Rattle.message.specs.LongMessage.{shortest, longest, packetBytes, packetsOf}
-use Rattle.message.specs.Splitter.{mostPackets, splits, numbered, announcementBytes, packetBytesOf, announcementOf, packetOf}
+use Rattle.message.specs.Splitter.{mostPackets, splits, numbered, announcementBytes, packetBytesOf}
+use Rattle.message.specs.Splitter.{announcementOf, packetOf}
 use Rattle.message.specs.Promises.{SplitBy, splittingNumber}
 use Rattle.message.specs.declared.Splitting.{Splitting}
 use Rattle.message.specs.declared.Split.{Split}

@@ -19,7 +19,10 @@ use Rattle.words.proofs.Lists.{found-at, every-at}
 use Rattle.words.specs.declared.Found.{Found}
 use Rattle.words.specs.declared.Found.the-variants.{At, Nowhere}
 use Rattle.message.specs.LongMessage.{shortest, longest, packetsOf, idleLimit, Meaning, meant, meaningOf}
-use Rattle.message.specs.Receiver.{greatestSender, room, freePlace, isFree, isOpenBy, layout, placeKeepsRules, keepsRules, Outcome, stored, finished, wholeAt, After, leaves, orElse, placeFor, openedAt, hearsAnnouncement, keptAt, expecting, advanced, packetAt, carries, byMeaning, heard}
+use Rattle.message.specs.Receiver.{greatestSender, room, freePlace, isFree, isOpenBy, layout, placeKeepsRules}
+use Rattle.message.specs.Receiver.{keepsRules, Outcome, stored, finished, wholeAt, After, leaves, orElse}
+use Rattle.message.specs.Receiver.{placeFor, openedAt, hearsAnnouncement, keptAt, expecting, advanced, packetAt}
+use Rattle.message.specs.Receiver.{carries, byMeaning, heard}
 use Rattle.message.specs.Promises.{toldAnswer, LeftBy}
 use Rattle.message.specs.Private.{Live}
 use Rattle.message.specs.declared.Place.{Place}

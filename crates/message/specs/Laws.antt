@@ -12,10 +12,13 @@ use Rattle.words.specs.Lists.{first}
 use Rattle.frame.specs.Identifier.{greatestDgn}
 use Rattle.frame.specs.Frame.{checkedOf}
 use Rattle.words.specs.declared.Found.the-variants.{At}
-use Rattle.message.specs.LongMessage.{shortest, longest, packetBytes, packetsOf, needed, PacketFrom, packet, meaningOf}
+use Rattle.message.specs.LongMessage.{shortest, longest, packetBytes, packetsOf, needed, PacketFrom, packet}
+use Rattle.message.specs.LongMessage.{meaningOf}
 use Rattle.message.specs.Receiver.{placeCount, room, freePlace, isOpenBy, keepsRules, heard}
 use Rattle.message.specs.Splitter.{announcementBytes, packetBytesOf}
-use Rattle.message.specs.Promises.{toldAnswer, toldPausing, announcingNumber, splittingNumber, New, Hear, Pause, Message, Announcement, Packet, AnswerRefusal, PausingRefusal, UnsplittableRefusal, AnnouncingRefusal, SplittingRefusal}
+use Rattle.message.specs.Promises.{toldAnswer, toldPausing, announcingNumber, splittingNumber, New, Hear, Pause}
+use Rattle.message.specs.Promises.{Message, Announcement, Packet, AnswerRefusal, PausingRefusal}
+use Rattle.message.specs.Promises.{UnsplittableRefusal, AnnouncingRefusal, SplittingRefusal}
 use Rattle.message.specs.declared.Place.{Place}
 use Rattle.message.specs.declared.Receiver.{Receiver}
 use Rattle.message.specs.declared.Answer.{Answer}
@@ -68,7 +71,8 @@ AnnouncementOnly =
 
 abbrev pub PacketOnly : Type 0
 PacketOnly =
-    (message : List ℕ) (dgn number : ℕ) (r s : Split) → Packet message dgn number r → Packet message dgn number s → r ≡ s
+    (message : List ℕ) (dgn number : ℕ) (r s : Split)
+    → Packet message dgn number r → Packet message dgn number s → r ≡ s
 
 abbrev pub AnswerRefusalOnly : Type 0
 AnswerRefusalOnly = (answer : Answer) (r s : ℕ) → AnswerRefusal answer r → AnswerRefusal answer s → r ≡ s
@@ -80,7 +84,8 @@ abbrev pub UnsplittableRefusalOnly : Type 0
 UnsplittableRefusalOnly = (why : Unsplittable) (r s : ℕ) → UnsplittableRefusal why r → UnsplittableRefusal why s → r ≡ s
 
 abbrev pub AnnouncingRefusalOnly : Type 0
-AnnouncingRefusalOnly = (answer : Announcing) (r s : ℕ) → AnnouncingRefusal answer r → AnnouncingRefusal answer s → r ≡ s
+AnnouncingRefusalOnly =
+    (answer : Announcing) (r s : ℕ) → AnnouncingRefusal answer r → AnnouncingRefusal answer s → r ≡ s
 
 abbrev pub SplittingRefusalOnly : Type 0
 SplittingRefusalOnly = (answer : Splitting) (r s : ℕ) → SplittingRefusal answer r → SplittingRefusal answer s → r ≡ s
@@ -93,7 +98,8 @@ RefusedKeeps =
     → Hear id bytes places storage r exit → toldAnswer (r .answer) ≡ refused n → n ≢ 10
     → (r .receiver .places ≡ places) × (exit ≡ storage)
 
-pub record ClosedAt (places : List Place) (storage : List ℕ) (after : List Place) (exit : List ℕ) (sender i : ℕ) : Type 0 where
+pub record ClosedAt (places : List Place) (storage : List ℕ) (after : List Place) (exit : List ℕ) (sender i : ℕ)
+    : Type 0 where
   pub held : first (isOpenBy sender) places ≡ At i
   pub closed : after ≡ set places i freePlace
   pub kept : exit ≡ storage

@@ -8,7 +8,8 @@ use Rattle.words.specs.Words.{if_then_else_, _<?_, _=?_, Told, refused, gives}
 use Rattle.frame.specs.Identifier.{sourceOf}
 use Rattle.frame.specs.Standard.{Frame}
 use Rattle.places.specs.Format.{Asks, fixed, opens, feeds, Fed, goes, ends, Format}
-use Rattle.message.specs.LongMessage.{packetsOf, idleLimit, needed, Meaning, other, announcement, packet, meaningOf}
+use Rattle.message.specs.LongMessage.{packetsOf, idleLimit, needed, Meaning, other, announcement, packet}
+use Rattle.message.specs.LongMessage.{meaningOf}
 
 -- An open message.
 pub record Open : Type 0 where
@@ -49,7 +50,14 @@ wholeOf m bytes = record { sender = m .sender; dgn = m .dgn; bytes = bytes }
 
 abbrev pub expectingNext : Open → List ℕ → Open
 expectingNext m collected =
-    record { sender = m .sender; size = m .size; dgn = m .dgn; expected = m .expected + 1; idle = 0; collected = collected }
+    record {
+      sender = m .sender;
+      size = m .size;
+      dgn = m .dgn;
+      expected = m .expected + 1;
+      idle = 0;
+      collected = collected;
+    }
 
 -- The expected packet is stored, and the last one hands the message over; any other number closes it.
 abbrev pub fedBy : Open → Part → Fed Open (Told Tells)
@@ -64,7 +72,15 @@ fedBy m part =
 abbrev pub waits : ℕ → Open → Option Open
 waits ms m =
     if idleLimit <? m .idle + ms then none else
-    some (record { sender = m .sender; size = m .size; dgn = m .dgn; expected = m .expected; idle = m .idle + ms; collected = m .collected })
+    some
+    (record {
+      sender = m .sender;
+      size = m .size;
+      dgn = m .dgn;
+      expected = m .expected;
+      idle = m .idle + ms;
+      collected = m .collected;
+    })
 
 -- What a frame asks for; a packet where no message is open is 9.
 abbrev pub asksBy : Told Meaning → List ℕ → Asks Open Part (Told Tells)

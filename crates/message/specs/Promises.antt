@@ -9,12 +9,15 @@ use Rattle.words.specs.Words.{if_then_else_, _<?_, _≤?_, _or_, Told, refused,
 use Rattle.frame.specs.Frame.{frameBytes}
 use Rattle.frame.specs.Promises.{refusalOf}
 use Rattle.message.specs.LongMessage.{longest, packetsOf, Meaning, other, announcement, packet}
-use Rattle.message.specs.Receiver.{placeCount, room, freePlace, Outcome, nothingToDo, opened, stored, finished, After, heard, pausedPlaces, pausedAnswer}
+use Rattle.message.specs.Receiver.{placeCount, room, freePlace, Outcome, nothingToDo, opened, stored, finished}
+use Rattle.message.specs.Receiver.{After, heard, pausedPlaces, pausedAnswer}
 use Rattle.message.specs.Splitter.{announcementOf, packetOf}
 use Rattle.message.specs.declared.Place.{Place}
 use Rattle.message.specs.declared.Receiver.{Receiver}
 use Rattle.message.specs.declared.Answer.{Answer}
-use Rattle.message.specs.declared.Answer.the-variants.{StorageTooShort, BrokenState, BadFrame, MalformedAnnouncement, NoPlaceFree, NoOpenMessage, UnexpectedPacket, NothingToDo, Opened, Stored, Finished}
+use Rattle.message.specs.declared.Answer.the-variants.{StorageTooShort, BrokenState, BadFrame}
+use Rattle.message.specs.declared.Answer.the-variants.{MalformedAnnouncement, NoPlaceFree, NoOpenMessage}
+use Rattle.message.specs.declared.Answer.the-variants.{UnexpectedPacket, NothingToDo, Opened, Stored, Finished}
 use Rattle.message.specs.declared.Heard.{Heard}
 use Rattle.message.specs.declared.Pausing.{Pausing}
 use Rattle.message.specs.declared.Pausing.the-variants as Pausing
@@ -78,7 +81,8 @@ pub record PausingRefusal (answer : Pausing) (r : ℕ) : Type 0 where
 -- is ever given
 
 abbrev pub partOf : List ℕ → ℕ → ℕ → List ℕ
-partOf storage place size = if (placeCount ≤? place) or (longest <? size) then [] else take size (drop (longest * place) storage)
+partOf storage place size =
+    if (placeCount ≤? place) or (longest <? size) then [] else take size (drop (longest * place) storage)
 
 abbrev pub messageIn : List ℕ → Told Outcome → List ℕ
 messageIn storage (refused n) = []

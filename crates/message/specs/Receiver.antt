@@ -12,7 +12,8 @@ use Rattle.words.specs.declared.Found.{Found}
 use Rattle.words.specs.declared.Found.the-variants.{At, Nowhere}
 use Rattle.places.specs.Layout.{Layout, openBy, oneEach}
 use Rattle.message.specs.OneSender.{Open}
-use Rattle.message.specs.LongMessage.{shortest, longest, packetBytes, packetsOf, idleLimit, needed, Meaning, other, announcement, packet, meaningOf}
+use Rattle.message.specs.LongMessage.{shortest, longest, packetBytes, packetsOf, idleLimit, needed, Meaning}
+use Rattle.message.specs.LongMessage.{other, announcement, packet, meaningOf}
 use Rattle.message.specs.declared.Place.{Place}
 
 -- eight places own the storage's first bytes, each as many as the longest message has
@@ -48,7 +49,15 @@ openMessage p stretch =
     }
 
 abbrev pub layout : Layout Place Open
-layout = record { isFree = isFree; keyOf = λ p. p .sender; stride = longest; session = openMessage; blank = freePlace; blank-free = refl }
+layout =
+    record {
+      isFree = isFree;
+      keyOf = λ p. p .sender;
+      stride = longest;
+      session = openMessage;
+      blank = freePlace;
+      blank-free = refl;
+    }
 
 abbrev pub isOpenBy : ℕ → Place → Bool
 isOpenBy sender p = openBy layout sender p
@@ -61,8 +70,9 @@ isZero p = (p .sender =? 0) and (p .dgn =? 0) and (p .expected =? 0) and (p .idl
 unfoldable pub placeKeepsRules : Place → Bool
 placeKeepsRules p =
     if isFree p then isZero p
-    else (p .sender ≤? greatestSender) and (shortest ≤? p .length) and (p .length ≤? longest) and (p .dgn ≤? greatestDgn)
-    and (p .idle ≤? idleLimit) and (1 ≤? p .expected) and (p .expected ≤? packetsOf (p .length))
+    else (p .sender ≤? greatestSender) and (shortest ≤? p .length) and (p .length ≤? longest)
+    and (p .dgn ≤? greatestDgn) and (p .idle ≤? idleLimit)
+    and (1 ≤? p .expected) and (p .expected ≤? packetsOf (p .length))
 
 -- each place keeps its own, and no sender is open in two
 unfoldable pub keepsRules : List Place → Bool
@@ -109,7 +119,8 @@ openedAt Nowhere p places storage = leaves places storage (refused 8)
 
 unfoldable pub hearsAnnouncement : ℕ → ℕ → ℕ → List Place → List ℕ → After
 hearsAnnouncement sender size dgn places storage =
-    openedAt (placeFor sender places) (record { sender = sender; length = size; dgn = dgn; expected = 1; idle = 0 }) places storage
+    openedAt (placeFor sender places) (record { sender = sender; length = size; dgn = dgn; expected = 1; idle = 0 })
+    places storage
 
 -- A data packet: the expected one is stored in its place's own stretch, from 7 (number - 1) on, and only what the
 -- length still needs.

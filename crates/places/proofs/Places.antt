@@ -13,7 +13,8 @@ use lib.ListN.{length}
 use Rattle.words.proofs.Words.{true-false}
 use Rattle.words.specs.Lists.{Absent}
 use Rattle.words.proofs.Lists.{absent-cons, absent-head, absent-tail, distinct-cons, distinct-head, distinct-tail}
-use Rattle.places.specs.Places.{Place, free, held, lookup, keyed, update, anyFree, takeLowest, keysOf, OnePlaceEach}
+use Rattle.places.specs.Places.{Place, free, held, lookup, keyed, update, anyFree, takeLowest, keysOf}
+use Rattle.places.specs.Places.{OnePlaceEach}
 
 -- the two cases of two numbers
 pub by-equal : {P : Type 0} (i k : ℕ) → (i ≡ k → P) → (i ≢ k → P) → P

@@ -13,7 +13,8 @@ use Rattle.places.specs.Places.{Out, full, said, hear, rest}
 use Rattle.places.specs.Statements.{isOpening}
 use Rattle.places.specs.Layout.{stretch, AgreeBut, Layout, openBy, seat, view, oneEach}
 use Rattle.places.proofs.Steps.{no-place, one-step, pass-each}
-use Rattle.places.proofs.View.{lookup-nowhere, lookup-at, free-nowhere, free-at, update-at, close-at, take-at, free-write, one-each-view, length-view, view-pass}
+use Rattle.places.proofs.View.{lookup-nowhere, lookup-at, free-nowhere, free-at, update-at, close-at, take-at}
+use Rattle.places.proofs.View.{free-write, one-each-view, length-view, view-pass}
 
 -- structs ps and storage s become qs and t with the answer o, and the places that they are seen as do the same
 pub record Shows {P : Type 0} (𝓕 : Format) (L : Layout P (𝓕 .Session)) (f : 𝓕 .Frame) (ps : List P) (s : List ℕ) (qs : List P) (t : List ℕ)

@@ -14,11 +14,20 @@ use Rattle.words.specs.Words.{if_then_else_, _=?_}
 use Rattle.words.specs.Lists.{count, Absent, Distinct}
 use Rattle.words.proofs.Words.{by-test}
 use Rattle.words.proofs.Lists.{absent-cons, absent-head, absent-tail, distinct-cons, distinct-head, distinct-tail}
-use Rattle.places.specs.Format.{Asks, fixed, opens, finishes, feeds, Fed, goes, ends, Format, isNone, Event, frame, pause, step}
-use Rattle.places.specs.OneKey.{fedAlone, packetAlone, askedAlone, hearAlone, pauseAlone, closesAlone, solo, openAfter}
-use Rattle.places.specs.Places.{free, held, Out, full, said, heard, paused, lookup, keyed, update, anyFree, keysOf, OnePlaceEach, placeCount, Places, hearsOpening, hearsWhole, afterPacket, hearsPacket, asked, hear, rest, pass, closes, closedBy, eightFree, after, History, run, eventsOf, toldTo, only, admitted, NeverFull, answered}
-use Rattle.places.specs.Statements.{StepAgrees, PauseCloses, RunKeeps, onBusyBus, AsRulesFrom, AsRulesFromAny, OpenAsRules, ToldAsRules, BusyAsQuiet, EightOthersOpen, EightOthers, isOpening, FullExactlyWhen, FullExactlyWhenAt, ClosesAsRules, Pausing, spaced, spacing, SumsOfPauses, AllKept, PausesAdd}
-use Rattle.places.proofs.Places.{by-equal, some-none, absent-lookup, lookup-absent, update-other, update-each, freed-holders, holders-below, holders-full, full-holders}
+use Rattle.places.specs.Format.{Asks, fixed, opens, finishes, feeds, Fed, goes, ends, Format, isNone, Event}
+use Rattle.places.specs.Format.{frame, pause, step}
+use Rattle.places.specs.OneKey.{fedAlone, packetAlone, askedAlone, hearAlone, pauseAlone, closesAlone, solo}
+use Rattle.places.specs.OneKey.{openAfter}
+use Rattle.places.specs.Places.{free, held, Out, full, said, heard, paused, lookup, keyed, update, anyFree}
+use Rattle.places.specs.Places.{keysOf, OnePlaceEach, placeCount, Places, hearsOpening, hearsWhole, afterPacket}
+use Rattle.places.specs.Places.{hearsPacket, asked, hear, rest, pass, closes, closedBy, eightFree, after, History}
+use Rattle.places.specs.Places.{run, eventsOf, toldTo, only, admitted, NeverFull, answered}
+use Rattle.places.specs.Statements.{StepAgrees, PauseCloses, RunKeeps, onBusyBus, AsRulesFrom, AsRulesFromAny}
+use Rattle.places.specs.Statements.{OpenAsRules, ToldAsRules, BusyAsQuiet, EightOthersOpen, EightOthers}
+use Rattle.places.specs.Statements.{isOpening, FullExactlyWhen, FullExactlyWhenAt, ClosesAsRules, Pausing, spaced}
+use Rattle.places.specs.Statements.{spacing, SumsOfPauses, AllKept, PausesAdd}
+use Rattle.places.proofs.Places.{by-equal, some-none, absent-lookup, lookup-absent, update-other, update-each}
+use Rattle.places.proofs.Places.{freed-holders, holders-below, holders-full, full-holders}
 use Rattle.places.proofs.Steps.{said-full, no-place, one-step, pass-lookup, pass-each, closed-count}
 
 said-same : {A : Type 0} {a b : A} → said a ≡ said b → a ≡ b

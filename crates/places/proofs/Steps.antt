@@ -14,9 +14,12 @@ use Rattle.words.proofs.Words.{by-test, true-false}
 use Rattle.words.proofs.Lists.{absent-head, absent-tail, distinct-head, distinct-tail}
 use Rattle.places.specs.Format.{Asks, fixed, opens, finishes, feeds, Fed, goes, ends, Format, isNone, Step, step}
 use Rattle.places.specs.OneKey.{fedAlone, packetAlone, askedAlone, pauseAlone, closesAlone}
-use Rattle.places.specs.Places.{free, held, full, said, lookup, update, anyFree, keysOf, OnePlaceEach, Places, hearsOpening, hearsWhole, afterPacket, hearsPacket, asked, pass, closedBy}
+use Rattle.places.specs.Places.{free, held, full, said, lookup, update, anyFree, keysOf, OnePlaceEach, Places}
+use Rattle.places.specs.Places.{hearsOpening, hearsWhole, afterPacket, hearsPacket, asked, pass, closedBy}
 use Rattle.places.specs.Statements.{StepAgrees, OneStep, closedAlone, isOpening}
-use Rattle.places.proofs.Places.{by-equal, some-none, absent-lookup, keyed-other, keyed-same, keyed-each, update-other, update-same, update-each, length-update, take-other, take-same, take-each, length-lowest}
+use Rattle.places.proofs.Places.{by-equal, some-none, absent-lookup, keyed-other, keyed-same, keyed-each}
+use Rattle.places.proofs.Places.{update-other, update-same, update-each, length-update, take-other, take-same}
+use Rattle.places.proofs.Places.{take-each, length-lowest}
 
 pub said-full : {A B : Type 0} {a : A} → said a ≡ full → B
 said-full p = let z : _≡_ {A = ℕ} 0 1 = cc in absurd (omega arith)

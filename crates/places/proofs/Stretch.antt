@@ -9,7 +9,8 @@ use native.Mathlib.Numerals.{add-one}
 use native.Mathlib.Omega.{arith}
 use borrow.Rule.Slice.PartMut.{putMid}
 use lib.ListN.{length, take, drop, getD, set, take-append-drop, length-drop, drop-of-length-le}
-use lib.Seq.{paste, paste-suc, getD-drop, drop-append-le, take-append-le, take-take, drop-drop, drop-paste, take-add, take-all, length-take-le, drop-at, length-paste-head, take-append-add}
+use lib.Seq.{paste, paste-suc, getD-drop, drop-append-le, take-append-le, take-take, drop-drop, drop-paste, take-add}
+use lib.Seq.{take-all, length-take-le, drop-at, length-paste-head, take-append-add}
 use Rattle.places.specs.Layout.{stretch, AgreeBut}
 
 -- a copy into the part from a on that was lent, put back, is a copy into the whole

@@ -18,7 +18,8 @@ use Rattle.words.specs.declared.Found.the-variants.{At, Nowhere}
 use Rattle.words.proofs.Words.{by-test, both-true, true-false}
 use Rattle.words.proofs.Lists.{absent-cons, absent-head, absent-tail, distinct-cons, distinct-head, distinct-tail}
 use Rattle.places.specs.Format.{Format}
-use Rattle.places.specs.Places.{Place, free, held, lookup, keyed, update, anyFree, takeLowest, keysOf, OnePlaceEach, rest, pass, closes, closedBy}
+use Rattle.places.specs.Places.{Place, free, held, lookup, keyed, update, anyFree, takeLowest, keysOf}
+use Rattle.places.specs.Places.{OnePlaceEach, rest, pass, closes, closedBy}
 use Rattle.places.specs.Layout.{stretch, AgreeBut, Layout, openBy, seat, viewFrom, view, sameHolder, oneEach}
 use Rattle.words.proofs.Lists.{Hit, here, there, Miss, end, on, hit-at, miss-at, miss-nowhere}
 
