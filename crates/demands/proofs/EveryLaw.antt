@@ -41,7 +41,8 @@ use Rattle.faults.proofs.Longest as FaultsLongest
 use Rattle.faults.proofs.Played as FaultsPlayed
 use Rattle.capture.proofs.Feeding as CaptureFeeding
 use Rattle.capture.proofs.Laws as Capture
-use Rattle.demands.specs.EveryLaw.{EveryLaw, FrameLaws, FormatLaws, CallLaws, PlacesLaws, MessageLaws, FastLaws, CatalogueLaws, ClaimLaws, NodesLaws, CommandLaws, FaultsLaws, CaptureLaws}
+use Rattle.demands.specs.EveryLaw.{EveryLaw, FrameLaws, FormatLaws, CallLaws, PlacesLaws, MessageLaws, FastLaws}
+use Rattle.demands.specs.EveryLaw.{CatalogueLaws, ClaimLaws, NodesLaws, CommandLaws, FaultsLaws, CaptureLaws}
 
 frame-laws : FrameLaws
 frame-laws =

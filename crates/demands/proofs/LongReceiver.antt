@@ -32,8 +32,8 @@ use Rattle.places.proofs.Receiver.{Shows, shows-fixed, shows-opens-held, shows-
 use Rattle.places.proofs.Receiver.{shows-feeds-nowhere, shows-feeds-goes, shows-feeds-ends, shows-keeps, pass-keeps}
 use Rattle.message.specs.LongMessage.{shortest, longest, packetBytes, packetsOf, idleLimit, needed, Meaning, other}
 use Rattle.message.specs.LongMessage.{announcement, packet, meaningOf}
-use Rattle.message.specs.OneSender.{Open, Part, Tells, announcedBy, joined, expectingNext, fedBy, waits, asksBy}
-use Rattle.message.specs.OneSender.{longMessages}
+use Rattle.message.specs.OneSender.{Open, Part, Tells, announcedBy, joined, wholeOf, expectingNext, fedBy}
+use Rattle.message.specs.OneSender.{waits, asksBy, longMessages}
 use Rattle.message.specs.OneSender as OneSender
 use Rattle.message.specs.Receiver.{greatestSender, placeCount, room, freePlace, isFree, openMessage, layout, isOpenBy}
 use Rattle.message.specs.Receiver.{isZero, placeKeepsRules, keepsRules, Outcome, After, leaves, placeFor}
@@ -176,7 +176,8 @@ module _ (f : Frame) (ps : List Place) (s : List ℕ) (eight : length ps ≡ pla
     unfolding hearsAnnouncement placeFor
     announced = held (first (isOpenBy sender) ps) refl
       where
-        free : (g : Found) → first (isOpenBy sender) ps ≡ Nowhere → first isFree ps ≡ g → Agrees (hearsAnnouncement sender size dgn ps s)
+        free : (g : Found) → first (isOpenBy sender) ps ≡ Nowhere → first isFree ps ≡ g
+            → Agrees (hearsAnnouncement sender size dgn ps s)
         free (At j) n e =
             rw (n, e)
             (record {
@@ -225,7 +226,9 @@ module _ (f : Frame) (ps : List Place) (s : List ℕ) (eight : length ps ≡ pla
       freed = every-set placeKeepsRules ps j freePlace each-rules free-rules
 
       last : number ≡ p .expected → p .expected ≡ packetsOf (p .length)
-          → fedBy (openMessage p (stretch longest j s)) part ≡ ends (gives (OneSender.finished (record { sender = p .sender; dgn = p .dgn; bytes = joined (openMessage p (stretch longest j s)) (drop 1 (f .bytes)) })))
+          → fedBy (openMessage p (stretch longest j s)) part
+          ≡ ends (gives (OneSender.finished (wholeOf (openMessage p (stretch longest j s))
+          (joined (openMessage p (stretch longest j s)) (drop 1 (f .bytes))))))
       last n u = rw (eq-eqb _ _ n, eq-eqb _ _ u)
 
       next : number ≡ p .expected → p .expected ≢ packetsOf (p .length)
@@ -245,9 +248,12 @@ module _ (f : Frame) (ps : List Place) (s : List ℕ) (eight : length ps ≡ pla
           (record {
             shows =
                 subst⁻¹
-                (λ (m : List ℕ). Shows longMessages layout f ps s (set ps j freePlace) (keptAt j p (f .bytes) s) (said (gives (OneSender.finished (record { sender = p .sender; dgn = p .dgn; bytes = m })))))
+                (λ (m : List ℕ). Shows longMessages layout f ps s (set ps j freePlace) (keptAt j p (f .bytes) s)
+                (said (gives (OneSender.finished (record { sender = p .sender; dgn = p .dgn; bytes = m })))))
                 (whole-message s (f .bytes) j p enough below rules-here size u)
-                (shows-feeds-ends longMessages layout f ps s part (refused 9) (gives (OneSender.finished (record { sender = p .sender; dgn = p .dgn; bytes = joined (openMessage p (stretch longest j s)) (drop 1 (f .bytes)) })))
+                (shows-feeds-ends longMessages layout f ps s part (refused 9)
+                (gives (OneSender.finished (wholeOf (openMessage p (stretch longest j s))
+                (joined (openMessage p (stretch longest j s)) (drop 1 (f .bytes))))))
                 j freePlace freePlace (keptAt j p (f .bytes) s) asks (sought (At j) e) (last n u) refl (others s (f .bytes) j p enough below rules-here size));
             rules = freed;
             long = length-written s (f .bytes) j p enough below rules-here size;

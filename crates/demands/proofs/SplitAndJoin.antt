@@ -92,7 +92,8 @@ module _ (size dgn sender : ℕ) (long : shortest ≤ size) (short : size ≤ lo
   unfolding announcementBytes bytesOf
   count-read = refl
 
-  announced-well : announced sender size (packetsOf size) dgn ≡ gives (announcement (record { sender = sender; size = size; dgn = dgn }))
+  announced-well : announced sender size (packetsOf size) dgn
+      ≡ gives (announcement (record { sender = sender; size = size; dgn = dgn }))
   unfolding announced
   announced-well = rw (le-leb _ _ long, le-leb _ _ short, eq-eqb (packetsOf size) (packetsOf size) refl, le-leb _ _ about)
 
@@ -100,11 +101,13 @@ module _ (size dgn sender : ℕ) (long : shortest ≤ size) (short : size ≤ lo
   unfolding announcementBytes
   to-all = refl
 
-  announcement-meant : meant sender announcementDgn (announcementBytes size dgn) ≡ gives (announcement (record { sender = sender; size = size; dgn = dgn }))
+  announcement-meant : meant sender announcementDgn (announcementBytes size dgn)
+      ≡ gives (announcement (record { sender = sender; size = size; dgn = dgn }))
   unfolding meant
   announcement-meant = rw (eq-eqb _ _ to-all, size-read, dgn-read, count-read) announced-well
 
-packet-meant : (message : List ℕ) (number sender : ℕ) → meant sender packetDgn (packetBytesOf message number) ≡ gives (packet (record { sender = sender; number = number }))
+packet-meant : (message : List ℕ) (number sender : ℕ) → meant sender packetDgn (packetBytesOf message number)
+    ≡ gives (packet (record { sender = sender; number = number }))
 unfolding meant packetBytesOf
 packet-meant message number sender = refl
 
@@ -129,10 +132,12 @@ joins message dgn sender number sum one most =
 
 module _ (message : List ℕ) (dgn sender : ℕ) (w : Sendable message dgn sender) where
   abbrev ToldLast : List (Event Frame) → Option Open → Type 0
-  ToldLast events m = (answers : List (Told Tells)) × (solo longMessages m events ≡ answers ++ (gives (finished (record { sender = sender; dgn = dgn; bytes = message })) ∷ []))
+  ToldLast events m = (answers : List (Told Tells)) × (solo longMessages m events
+      ≡ answers ++ (gives (finished (record { sender = sender; dgn = dgn; bytes = message })) ∷ []))
 
   -- one packet, heard alone
-  module _ (number sum priority : ℕ) (r : Split) (high : priority ≤ lowestPriority) (one : 1 ≤ number) (most : number ≤ packetsOf (length message))
+  module _ (number sum priority : ℕ) (r : Split) (high : priority ≤ lowestPriority) (one : 1 ≤ number)
+      (most : number ≤ packetsOf (length message))
       (cut : Packet message dgn number r) where
     abbrev f : Frame
     f = sent priority packetDgn sender (r .bytes)
@@ -157,7 +162,8 @@ module _ (message : List ℕ) (dgn sender : ℕ) (w : Sendable message dgn sende
         let c : joined m (drop 1 (r .bytes)) ≡ take (packetBytes * (number + 1 - 1)) message = packet-joins ∙ ap (λ (n : ℕ). take n message) y in
         rw (packet-asks, eq-eqb number number refl, ne-eqb number (packetsOf (length message)) (λ e. omega arith), c)
 
-    hears-last : number ≡ packetsOf (length message) → hearAlone longMessages f (some m) ≡ step none (gives (finished (record { sender = sender; dgn = dgn; bytes = message })))
+    hears-last : number ≡ packetsOf (length message) → hearAlone longMessages f (some m)
+        ≡ step none (gives (finished (record { sender = sender; dgn = dgn; bytes = message })))
     hears-last h =
         let y : length message ≤ packetBytes * (number - 1) + needed (length message) number = omega (arith, w .long) in
         let c : joined m (drop 1 (r .bytes)) ≡ message = packet-joins ∙ take-all _ message y in
@@ -192,7 +198,8 @@ module _ (message : List ℕ) (dgn sender : ℕ) (w : Sendable message dgn sende
   announced-alone before priority r high given =
       let a = splitter-announces message dgn r given .given (w .about) (w .long) (w .short) .1 in
       let l : length (r .bytes) ≡ frameBytes = rw a (announcement-length (length message) dgn) in
-      let e : meaningOf (identifierOf priority announcementDgn sender) (r .bytes) ≡ gives (announcement (record { sender = sender; size = length message; dgn = dgn })) =
+      let e : meaningOf (identifierOf priority announcementDgn sender) (r .bytes)
+      ≡ gives (announcement (record { sender = sender; size = length message; dgn = dgn })) =
       sent-meaning priority announcementDgn sender high (omega arith) (w .named) (r .bytes) l
       ∙ rw a (announcement-meant (length message) dgn sender (w .long) (w .short) (w .about))
       in

@@ -63,7 +63,9 @@ told sender events =
     ap answers (told-run sender begin (starts-keep begin begins) events
     ∙ ap (λ (ps : List (Seat Open)). toldTo longMessages sender (run longMessages ps events)) (blank-view layout placeCount storageOfZeros))
 
-ninth : answers (toldTo longMessages 9 (onBusyBus longMessages (eightSenders ++ (Examples.announcementBy 9 nineBytes ∷ [])))) ≡ 8 ∷ []
+ninth :
+    answers (toldTo longMessages 9 (onBusyBus longMessages (eightSenders ++ (Examples.announcementBy 9 nineBytes ∷ []))))
+    ≡ 8 ∷ []
 unfolding priorityOf reservedOf dgnOf sourceOf identifierOf numberOf sourceAllowed checkedOf bytesTo announced meant meaningOf
 ninth = refl
 

@@ -120,8 +120,9 @@ announced low high packets = meaningOf 0x1CECFF54 (0x20 ∷ low ∷ high ∷ pac
 
 abbrev pub eightSenders : List (Event Frame)
 eightSenders =
-    announcementBy 1 nineBytes ∷ announcementBy 2 nineBytes ∷ announcementBy 3 nineBytes ∷ announcementBy 4 nineBytes ∷ announcementBy 5 nineBytes
-    ∷ announcementBy 6 nineBytes ∷ announcementBy 7 nineBytes ∷ announcementBy 8 nineBytes ∷ []
+    announcementBy 1 nineBytes ∷ announcementBy 2 nineBytes ∷ announcementBy 3 nineBytes
+    ∷ announcementBy 4 nineBytes ∷ announcementBy 5 nineBytes ∷ announcementBy 6 nineBytes
+    ∷ announcementBy 7 nineBytes ∷ announcementBy 8 nineBytes ∷ []
 
 -- a node that holds 9Ch
 abbrev pub holding9C : Claim

@@ -104,14 +104,16 @@ module _ (message : List ℕ) (sequence : ℕ) (numbered : sequence ≤ greatest
   -- they mean what they are to mean
 
   first-carried : (sender dgn : ℕ)
-      → carried sender dgn (firstBytesOf message sequence) ≡ gives (begins (record { sender = sender; dgn = dgn; sequence = sequence; size = length message }))
+      → carried sender dgn (firstBytesOf message sequence)
+      ≡ gives (begins (record { sender = sender; dgn = dgn; sequence = sequence; size = length message }))
   unfolding carried begun firstBytesOf
   first-carried sender dgn =
       let b = first-byte-read sequence 0 numbered (omega arith) in
       rw (b .1, b .0, le-leb _ _ long, le-leb _ _ short)
 
   later-carried : (sender dgn number : ℕ) → 1 ≤ number → number ≤ lastFrame (length message)
-      → carried sender dgn (laterBytesOf message sequence number) ≡ gives (continues (record { sender = sender; dgn = dgn; sequence = sequence; number = number }))
+      → carried sender dgn (laterBytesOf message sequence number)
+      ≡ gives (continues (record { sender = sender; dgn = dgn; sequence = sequence; number = number }))
   unfolding carried laterBytesOf
   later-carried sender dgn number one most =
       let b = first-byte-read sequence number numbered (omega arith) in
@@ -160,7 +162,8 @@ module _ (names message : List ℕ) (dgn sender sequence : ℕ) (well-formed : i
   abbrev ToldLast : List (Event Frame) → Option Open → Type 0
   ToldLast events m =
       (answers : List (Told Tells))
-      × (solo (fastPackets names) m events ≡ answers ++ (gives (finished (record { sender = sender; dgn = dgn; bytes = message })) ∷ []))
+      × (solo (fastPackets names) m events
+      ≡ answers ++ (gives (finished (record { sender = sender; dgn = dgn; bytes = message })) ∷ []))
 
   small : dgn ≤ greatestDgn
   small = may-be-small dgn (named-allowed names dgn (all-allowed names well-formed) (w .about))
@@ -180,14 +183,16 @@ module _ (names message : List ℕ) (dgn sender sequence : ℕ) (well-formed : i
     first-bytes : r .bytes ≡ firstBytesOf message sequence
     first-bytes = first-is message sequence (w .numbered) (w .long) (w .short) r cut
 
-    first-means : meaningOf names (f₀ .id) (f₀ .bytes) ≡ gives (begins (record { sender = sender; dgn = dgn; sequence = sequence; size = length message }))
+    first-means : meaningOf names (f₀ .id) (f₀ .bytes)
+        ≡ gives (begins (record { sender = sender; dgn = dgn; sequence = sequence; size = length message }))
     first-means =
         let l : length (r .bytes) ≡ frameBytes = rw first-bytes (first-length message sequence) in
         means priority (r .bytes) high l
         ∙ rw first-bytes (first-carried message sequence (w .numbered) (w .long) (w .short) sender dgn)
 
     hears-whole : length message ≤ firstBytes
-        → hearAlone (fastPackets names) f₀ before ≡ step none (gives (finished (record { sender = sender; dgn = dgn; bytes = message })))
+        → hearAlone (fastPackets names) f₀ before
+        ≡ step none (gives (finished (record { sender = sender; dgn = dgn; bytes = message })))
     hears-whole h =
         let c : take (length message) (drop 2 (r .bytes)) ≡ message = rw first-bytes (all-bytes message sequence h) in
         rw (first-means, le-leb _ _ h, c)
@@ -211,7 +216,8 @@ module _ (names message : List ℕ) (dgn sender sequence : ℕ) (well-formed : i
     later-bytes : r .bytes ≡ laterBytesOf message sequence number
     later-bytes = later-is message sequence (w .numbered) (w .long) (w .short) number r one most cut
 
-    later-means : meaningOf names (f .id) (f .bytes) ≡ gives (continues (record { sender = sender; dgn = dgn; sequence = sequence; number = number }))
+    later-means : meaningOf names (f .id) (f .bytes)
+        ≡ gives (continues (record { sender = sender; dgn = dgn; sequence = sequence; number = number }))
     later-means =
         let l : length (r .bytes) ≡ frameBytes = rw later-bytes (later-length message sequence number) in
         means priority (r .bytes) high l
@@ -231,7 +237,8 @@ module _ (names message : List ℕ) (dgn sender sequence : ℕ) (well-formed : i
         rw (later-means, eq-eqb sequence sequence refl, eq-eqb number number refl, u, c)
 
     hears-last : number ≡ lastFrame (length message)
-        → hearAlone (fastPackets names) f (some m) ≡ step none (gives (finished (record { sender = sender; dgn = dgn; bytes = message })))
+        → hearAlone (fastPackets names) f (some m)
+        ≡ step none (gives (finished (record { sender = sender; dgn = dgn; bytes = message })))
     hears-last h =
         let y : length message ≤ offsetOf number + needed (length message) number = omega arith in
         let c : joined m (drop 1 (r .bytes)) ≡ message = later-joins ∙ take-all _ message y in

@@ -192,7 +192,9 @@ module _ (f : Frame) (r : Receiver) (s : List ℕ) (eight : length (r .places) �
   module _ (sender dgn sequence size : ℕ) (by : key ≡ pairOf sender dgn) (eightBytes : length (f .bytes) ≡ frameBytes)
       (about : isNamed dgn names ≡ true) (from : sender ≤ greatestAddress) (numbered : sequence ≤ greatestSequence)
       (some-bytes : 1 ≤ size) (short : size ≤ longest)
-      (asked : format .asks f ≡ asksBy (gives (begins (record { sender = sender; dgn = dgn; sequence = sequence; size = size }))) (f .bytes)) where
+      (asked : format .asks f
+      ≡ asksBy (gives (begins (record { sender = sender; dgn = dgn; sequence = sequence; size = size })))
+      (f .bytes)) where
     abbrev new : Place
     new = newPlace sender dgn sequence size
 
@@ -358,7 +360,9 @@ module _ (f : Frame) (r : Receiver) (s : List ℕ) (eight : length (r .places) �
 
   -- a later frame
   module _ (sender dgn sequence number : ℕ) (by : key ≡ pairOf sender dgn) (eightBytes : length (f .bytes) ≡ frameBytes)
-      (asks : format .asks f ≡ asksBy (gives (continues (record { sender = sender; dgn = dgn; sequence = sequence; number = number }))) (f .bytes)) where
+      (asks : format .asks f
+      ≡ asksBy (gives (continues (record { sender = sender; dgn = dgn; sequence = sequence; number = number })))
+      (f .bytes)) where
     abbrev seven : List ℕ
     seven = drop 1 (f .bytes)
 
@@ -443,7 +447,8 @@ module _ (f : Frame) (r : Receiver) (s : List ℕ) (eight : length (r .places) �
           rw (not-free p (omega (arith, here .long)), eq-eqb (pairOf (p .sender) (p .dgn)) key (of-the-pair ∙ sym by))
 
       last : sequence ≡ p .sequence → number ≡ p .expected → p .expected ≡ lastFrame (p .length)
-          → fedBy m part ≡ ends (gives (OnePair.finished (record { sender = p .sender; dgn = p .dgn; bytes = joined m seven })))
+          → fedBy m part
+          ≡ ends (gives (OnePair.finished (record { sender = p .sender; dgn = p .dgn; bytes = joined m seven })))
       last q n u = rw (eq-eqb _ _ q, eq-eqb _ _ n, eq-eqb _ _ u)
 
       next : sequence ≡ p .sequence → number ≡ p .expected → p .expected ≢ lastFrame (p .length)

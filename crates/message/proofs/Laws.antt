@@ -126,7 +126,10 @@ pub announcing-number-same : AnnouncingNumberSame
 announcing-number-same r s e = sym (announcing-back r) ∙ ap announcingBack e ∙ announcing-back s
 
 splittingBack : ℕ → Splitting
-splittingBack n = if n =? 0 then Splitting.Bytes else if n =? 15 then Splitting.NoSuchPacket else Splitting.Refused (whyBack n)
+splittingBack n =
+    if n =? 0 then Splitting.Bytes else
+    if n =? 15 then Splitting.NoSuchPacket else
+    Splitting.Refused (whyBack n)
 
 splitting-back : (r : Splitting) → splittingBack (splittingNumber r) ≡ r
 unfolding splittingBack whyBack
@@ -205,7 +208,8 @@ module _ (id : ℕ) (bytes : List ℕ) (ps : List Place) (s : List ℕ) where
     where
       go : (g : Found) → placeFor sender ps ≡ g → Left id bytes ps s (hearsAnnouncement sender size dgn ps s)
       go (At i) e = subst⁻¹ (Left id bytes ps s) (announcing-at sender size dgn ps s i e) (opens i _)
-      go Nowhere e = subst⁻¹ (Left id bytes ps s) (announcing-nowhere sender size dgn ps s e) (refuses (λ x. omega arith))
+      go Nowhere e = subst⁻¹ (Left id bytes ps s) (announcing-nowhere sender size dgn ps s e)
+          (refuses (λ x. omega arith))
 
   carries-left : (sender number : ℕ)
       → meaningOf id bytes ≡ gives (packet (record { sender = sender; number = number }))

@@ -60,7 +60,8 @@ module _ (message : List ℕ) (dgn : ℕ) where
   packet-numbered number e = rw e
 
 -- a refusal with zeros beside it
-pub split-refused : {t : Told (List ℕ)} {a : Splitting} {r : Split} → t ≡ refused (splittingNumber a) → (r .answer ≡ a) × (r .bytes ≡ replicate frameBytes 0) → SplitBy t r
+pub split-refused : {t : Told (List ℕ)} {a : Splitting} {r : Split} → t ≡ refused (splittingNumber a)
+    → (r .answer ≡ a) × (r .bytes ≡ replicate frameBytes 0) → SplitBy t r
 split-refused {r = r} e k = rw e (record { number = ap splittingNumber (k .0); bytes = k .1 })
 
 module _ (message : List ℕ) (number count : ℕ) where

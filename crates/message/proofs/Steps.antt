@@ -63,14 +63,16 @@ module _ (sender size dgn : ℕ) (ps : List Place) (s : List ℕ) where
   unfolding hearsAnnouncement
   announcing-at i e = rw e
 
-  pub announcing-nowhere : placeFor sender ps ≡ Nowhere → hearsAnnouncement sender size dgn ps s ≡ leaves ps s (refused 8)
+  pub announcing-nowhere : placeFor sender ps ≡ Nowhere
+      → hearsAnnouncement sender size dgn ps s ≡ leaves ps s (refused 8)
   unfolding hearsAnnouncement
   announcing-nowhere e = rw e
 
 -- a packet
 
 module _ (i : ℕ) (p : Place) (ps : List Place) (s : List ℕ) where
-  pub advanced-last : p .expected ≡ packetsOf (p .length) → advanced i p ps s ≡ leaves (set ps i freePlace) s (gives (finished (wholeAt i p)))
+  pub advanced-last : p .expected ≡ packetsOf (p .length)
+      → advanced i p ps s ≡ leaves (set ps i freePlace) s (gives (finished (wholeAt i p)))
   unfolding advanced
   advanced-last e = rw (eq-eqb _ _ e)
 

@@ -75,7 +75,9 @@ module _ {S : Type 0} where
   update-same k m t (held i s ∷ ps) u h =
       by-equal i k
       (λ e. rw (eq-eqb i k e) (keyed-same k m ps (rw e at (absent-lookup i ps (distinct-head i (keysOf ps) u)))))
-      (λ n. rw (ne-eqb i k n) (rw (ne-eqb i k n) (update-same k m t ps (distinct-tail i (keysOf ps) u) (rw (ne-eqb i k n) at h))))
+      (λ n.
+      let others = distinct-tail i (keysOf ps) u in
+      rw (ne-eqb i k n) (rw (ne-eqb i k n) (update-same k m t ps others (rw (ne-eqb i k n) at h))))
 
   pub update-each : (k : ℕ) (m : Option S) (ps : List (Place S)) → OnePlaceEach ps → OnePlaceEach (update k m ps)
   update-each k m [] u = u

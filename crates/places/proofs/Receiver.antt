@@ -17,7 +17,8 @@ use Rattle.places.proofs.View.{lookup-nowhere, lookup-at, free-nowhere,
 use Rattle.places.proofs.View.{free-write, one-each-view, length-view, view-pass}
 
 -- structs ps and storage s become qs and t with the answer o, and the places that they are seen as do the same
-pub record Shows {P : Type 0} (𝓕 : Format) (L : Layout P (𝓕 .Session)) (f : 𝓕 .Frame) (ps : List P) (s : List ℕ) (qs : List P) (t : List ℕ)
+pub record Shows {P : Type 0} (𝓕 : Format) (L : Layout P (𝓕 .Session)) (f : 𝓕 .Frame) (ps : List P) (s : List ℕ)
+    (qs : List P) (t : List ℕ)
     (o : Out (𝓕 .Answer)) : Type 0 where
   pub places : view L qs t ≡ hear 𝓕 f (view L ps s) .next
   pub answer : o ≡ hear 𝓕 f (view L ps s) .answer

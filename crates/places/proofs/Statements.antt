@@ -142,9 +142,13 @@ module _ (𝓕 : Format) where
       record { places = h; holders = full-holders ps f ∙ h; different = apart }
 
   others-full : (k : ℕ) (ps : Places 𝓕) → EightOthers k ps → (lookup k ps ≡ none) × (anyFree ps ≡ false)
-  others-full k ps o = (absent-lookup k ps (distinct-head k (keysOf ps) (o .different)), holders-full ps (o .holders ∙ sym (o .places)))
+  others-full k ps o = (
+    absent-lookup k ps (distinct-head k (keysOf ps) (o .different)),
+    holders-full ps (o .holders ∙ sym (o .places)),
+  )
 
-  full-opening : (k : ℕ) (s : 𝓕 .Session) (a : 𝓕 .Answer) (ps : Places 𝓕) (m : Option (𝓕 .Session)) → hearsOpening 𝓕 k s a ps m .answer ≡ full
+  full-opening : (k : ℕ) (s : 𝓕 .Session) (a : 𝓕 .Answer) (ps : Places 𝓕) (m : Option (𝓕 .Session))
+      → hearsOpening 𝓕 k s a ps m .answer ≡ full
       → (m ≡ none) × (anyFree ps ≡ false)
   full-opening k s a ps none h = by-test (anyFree ps) (λ f. said-full (rw f at h)) (λ f. (refl, f))
   full-opening k s a ps (some t) h = said-full h
@@ -158,7 +162,8 @@ module _ (𝓕 : Format) where
   not-after-packet k ps (goes s a) h = said-full h
   not-after-packet k ps (ends a) h = said-full h
 
-  not-packet : (k : ℕ) (d : 𝓕 .Data) (a : 𝓕 .Answer) (ps : Places 𝓕) (m : Option (𝓕 .Session)) → hearsPacket 𝓕 k d a ps m .answer ≢ full
+  not-packet : (k : ℕ) (d : 𝓕 .Data) (a : 𝓕 .Answer) (ps : Places 𝓕) (m : Option (𝓕 .Session))
+      → hearsPacket 𝓕 k d a ps m .answer ≢ full
   not-packet k d a ps none h = said-full h
   not-packet k d a ps (some s) h = not-after-packet k ps (𝓕 .feed s d) h
 

@@ -70,7 +70,8 @@ module _ (𝓕 : Format) where
         as-many = refl;
       }
 
-  opening-agrees : (k : ℕ) (s : 𝓕 .Session) (a : 𝓕 .Answer) (ps : Places 𝓕) (m : Option (𝓕 .Session)) → OnePlaceEach ps → lookup k ps ≡ m
+  opening-agrees : (k : ℕ) (s : 𝓕 .Session) (a : 𝓕 .Answer) (ps : Places 𝓕) (m : Option (𝓕 .Session))
+      → OnePlaceEach ps → lookup k ps ≡ m
       → StepAgrees k ps (hearsOpening 𝓕 k s a ps m) (step (some s) a)
   opening-agrees k s a ps none u e =
       by-test (anyFree ps)
@@ -87,10 +88,14 @@ module _ (𝓕 : Format) where
 
   whole-agrees : (k : ℕ) (a : 𝓕 .Answer) (ps : Places 𝓕) (m : Option (𝓕 .Session)) → OnePlaceEach ps → lookup k ps ≡ m
       → StepAgrees k ps (hearsWhole 𝓕 k a ps m) (step none a)
-  whole-agrees k a ps none u e = by-test (anyFree ps) (λ f. rw f (idle k a none ps u e)) (λ f. rw f (refused k (step none a) ps u))
+  whole-agrees k a ps none u e =
+      by-test (anyFree ps)
+      (λ f. rw f (idle k a none ps u e))
+      (λ f. rw f (refused k (step none a) ps u))
   whole-agrees k a ps (some t) u e = updated k none a t ps u e
 
-  after-packet-agrees : (k : ℕ) (ps : Places 𝓕) (t : 𝓕 .Session) (r : Fed (𝓕 .Session) (𝓕 .Answer)) → OnePlaceEach ps → lookup k ps ≡ some t
+  after-packet-agrees : (k : ℕ) (ps : Places 𝓕) (t : 𝓕 .Session) (r : Fed (𝓕 .Session) (𝓕 .Answer))
+      → OnePlaceEach ps → lookup k ps ≡ some t
       → StepAgrees k ps (afterPacket 𝓕 k ps r) (fedAlone 𝓕 r)
   after-packet-agrees k ps t (goes s a) u e = updated k (some s) a t ps u e
   after-packet-agrees k ps t (ends a) u e = updated k none a t ps u e
@@ -145,7 +150,8 @@ module _ (𝓕 : Format) where
   count-apart : (ms j : ℕ) (s : 𝓕 .Session) (ps : Places 𝓕) (ks : List ℕ) → Absent j ks
       → count (λ k. closesAlone 𝓕 ms (lookup k (held j s ∷ ps))) ks ≡ count (λ k. closesAlone 𝓕 ms (lookup k ps)) ks
   count-apart ms j s ps [] h = refl
-  count-apart ms j s ps (k ∷ ks) h = rw (ne-eqb j k (absent-head j k ks h), count-apart ms j s ps ks (absent-tail j k ks h))
+  count-apart ms j s ps (k ∷ ks) h =
+      rw (ne-eqb j k (absent-head j k ks h), count-apart ms j s ps ks (absent-tail j k ks h))
 
   pub closed-count : (ms : ℕ) (ps : Places 𝓕) → OnePlaceEach ps → closedBy 𝓕 ms ps ≡ closedAlone 𝓕 ms ps
   closed-count ms [] u = refl

@@ -181,8 +181,10 @@ module _ {P S : Type 0} (L : Layout P S) where
       (λ f. rw f (none-open k (suc i) ps s (rw f at h)))
       (λ f. by-test (eqb (L .keyOf p) k)
       (λ g. true-false (rw (f, g) at h))
-      (λ g. rw f (absent-cons k (L .keyOf p) (keysOf (viewFrom L (suc i) ps s)) (λ e. eqb-false (L .keyOf p) k g (sym e))
-      (none-open k (suc i) ps s (rw (f, g) at h)))))
+      (λ g.
+      let ks = keysOf (viewFrom L (suc i) ps s) in
+      let n : k ≢ L .keyOf p = λ e. eqb-false (L .keyOf p) k g (sym e) in
+      rw f (absent-cons k (L .keyOf p) ks n (none-open k (suc i) ps s (rw (f, g) at h)))))
 
   open-none : (k i : ℕ) (ps : List P) (s : List ℕ) → Absent k (keysOf (viewFrom L i ps s)) → any (openBy L k) ps ≡ false
   open-none k i [] s h = refl
@@ -213,7 +215,8 @@ module _ {P S : Type 0} (L : Layout P S) where
       (λ f. rw f (each-view (suc i) ps s (t .1)))
       (λ f.
       let ks = keysOf (viewFrom L (suc i) ps s) in
-      let a = none-open (L .keyOf p) (suc i) ps s (sym (open-same p ps f) ∙ not-true (any (sameHolder L p) ps) (t .0)) in
+      let alone = not-true (any (sameHolder L p) ps) (t .0) in
+      let a = none-open (L .keyOf p) (suc i) ps s (sym (open-same p ps f) ∙ alone) in
       rw f (distinct-cons (L .keyOf p) ks a (each-view (suc i) ps s (t .1))))
 
   view-each : (i : ℕ) (ps : List P) (s : List ℕ) → OnePlaceEach (viewFrom L i ps s) → oneEach L ps ≡ true

@@ -31,13 +31,16 @@ returns : tie.Need-returns
 returns c =
     let b = c .before .before .before .before in
     let a = b .before .before .args in
-    split-refused {a = Refused (c .before .before .why .given .0 .0)} (packet-refused (a .message .now) (a .dgn) (a .number) (sym (b .splittable .ensures) ∙ ap toldSplits (c .before .before .why .given .1))) (c .refused .ensures)
+    let e = sym (b .splittable .ensures) ∙ ap toldSplits (c .before .before .why .given .1) in
+    split-refused {a = Refused (c .before .before .why .given .0 .0)}
+    (packet-refused (a .message .now) (a .dgn) (a .number) e) (c .refused .ensures)
 
 returns-2 : tie.Need-returns-2
 returns-2 c =
     let b = c .before .before .before .before in
     let a = b .before .before .args in
-    rw (packet-numbered (a .message .now) (a .dgn) (a .number) (sym (b .splittable .ensures) ∙ ap toldSplits (c .before .before .count .given .1))) (c .numbered .ensures)
+    let e = sym (b .splittable .ensures) ∙ ap toldSplits (c .before .before .count .given .1) in
+    rw (packet-numbered (a .message .now) (a .dgn) (a .number) e) (c .numbered .ensures)
 
 pub packet-spec : {M : Type 1} → statement M
 packet-spec =

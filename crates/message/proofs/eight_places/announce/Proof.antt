@@ -42,7 +42,9 @@ returns-2 : tie.Need-returns-2
 returns-2 c =
     let b = c .before .before .before in
     let a = b .before .args in
-    λ s. left _ s _ (announcing-nowhere (a .sender) (a .size) (a .dgn) (a .r .places) s (sym (b .place-for .ensures) ∙ c .before .enum-told .given .1)) (c .keeps2 .result) (a .r) NoPlaceFree (c .keeps2 .ensures) refl refl
+    let e = sym (b .place-for .ensures) ∙ c .before .enum-told .given .1 in
+    λ s. left _ s _ (announcing-nowhere (a .sender) (a .size) (a .dgn) (a .r .places) s e)
+    (c .keeps2 .result) (a .r) NoPlaceFree (c .keeps2 .ensures) refl refl
 
 pub announce-spec : {M : Type 1} → statement M
 announce-spec =

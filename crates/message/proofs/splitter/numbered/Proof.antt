@@ -12,7 +12,8 @@ refused-requires c κs = search needs
 returns : tie.Need-returns
 returns c =
     let a = c .before .before .before .args in
-    split-refused {a = NoSuchPacket} (numbered-zero (a .message .now) (a .number) (a .count) (c .before .if1 .taken)) (c .refused .ensures)
+    split-refused {a = NoSuchPacket} (numbered-zero (a .message .now) (a .number) (a .count) (c .before .if1 .taken))
+    (c .refused .ensures)
 
 refused-requires-2 : tie.Need-refused-requires-2
 refused-requires-2 c κs = search needs
@@ -20,7 +21,9 @@ refused-requires-2 c κs = search needs
 returns-2 : tie.Need-returns-2
 returns-2 c =
     let a = c .before .before .before .before .args in
-    split-refused {a = NoSuchPacket} (numbered-above (a .message .now) (a .number) (a .count) (c .before .before .if1 .left) (c .before .if2 .taken)) (c .refused2 .ensures)
+    split-refused {a = NoSuchPacket}
+    (numbered-above (a .message .now) (a .number) (a .count) (c .before .before .if1 .left) (c .before .if2 .taken))
+    (c .refused2 .ensures)
 
 cast-packet-bytes : tie.Need-cast-packet-bytes
 cast-packet-bytes c = search needs
