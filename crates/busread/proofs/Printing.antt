@@ -47,10 +47,11 @@ message-most storage (refused n) = omega arith
 message-most storage (gives nothingToDo) = omega arith
 message-most storage (gives opened) = omega arith
 message-most storage (gives stored) = omega arith
-message-most storage (gives (finished place sender dgn size)) =
-    part-most ((placeCount ≤? place) or (longest <? size)) size (drop (longest * place) storage) (λ e. short (placeCount ≤? place) e)
+message-most storage (gives (finished m)) =
+    part-most ((placeCount ≤? m .place) or (longest <? m .size)) (m .size) (drop (longest * m .place) storage)
+    (λ e. short (placeCount ≤? m .place) e)
   where
-    short : (b : Bool) → b or (longest <? size) ≡ false → size ≤ 1785
+    short : (b : Bool) → b or (longest <? m .size) ≡ false → m .size ≤ 1785
     short true e = let z : _≡_ {A = ℕ} 0 1 = cc in absurd (omega arith)
     short false e = omega (arith, ltb-false)
 

@@ -82,7 +82,7 @@ printOf (refused n) = Refused n
 printOf (gives nothingToDo) = Fields
 printOf (gives opened) = Nothing
 printOf (gives stored) = Nothing
-printOf (gives (finished place sender dgn size)) = Message sender dgn
+printOf (gives (finished m)) = Message (m .sender) (m .dgn)
 
 -- the rows of a frame's DGN, rising
 abbrev pub rowsOf : ℕ → List Row

@@ -56,8 +56,8 @@ pub fn refusals(notes: &[u64]) {
         notes,
         b"frame::Apart::refusal frame::Formed::refusal frame::BadFrame::refusal frame::Verdict::refusal \
           message::Answer::refusal message::Pausing::refusal message::Unsplittable::refusal \
-          message::Announcing::refusal message::Cutting::refusal \
-          fast::Starting::refusal fast::Answer::refusal fast::Pausing::refusal fast::Cutting::refusal \
+          message::Announcing::refusal message::Splitting::refusal \
+          fast::Starting::refusal fast::Answer::refusal fast::Pausing::refusal fast::Splitting::refusal \
           catalogue::Looked::refusal catalogue::Reading::refusal catalogue::ScaledReading::refusal \
           catalogue::Writing::refusal \
           claim::Starting::refusal claim::Hearing::refusal claim::Pausing::refusal claim::Standing::refusal \

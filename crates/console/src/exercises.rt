@@ -64,8 +64,8 @@ fn long_message(whole: &[u8], storage: &mut [u8]) {
             break;
         }
         number += 1;
-        let cut = message::packet(whole, 0x1FECA, number);
-        let packet = cut.bytes;
+        let split = message::packet(whole, 0x1FECA, number);
+        let packet = split.bytes;
         let receiver = heard.receiver;
         heard = hear(receiver, storage, 0x1CEBFF54, packet, whole);
     }
@@ -120,9 +120,9 @@ fn hear(
 fn fast_packet(whole: &[u8], sequence: u8, storage: &mut [u8]) {
     let dgns = [0x1F001u32];
     let started = fast::Receiver::start(&dgns);
-    let cut = fast::frame_of(whole, sequence, 0);
-    let first = cut.bytes;
-    let answer = cut.answer;
+    let split = fast::frame_of(whole, sequence, 0);
+    let first = split.bytes;
+    let answer = split.answer;
     if answer.refusal() != 0 {
         return not_split(answer.refusal());
     }
@@ -134,8 +134,8 @@ fn fast_packet(whole: &[u8], sequence: u8, storage: &mut [u8]) {
             break;
         }
         number += 1;
-        let cut = fast::frame_of(whole, sequence, number);
-        let later = cut.bytes;
+        let split = fast::frame_of(whole, sequence, number);
+        let later = split.bytes;
         let receiver = heard.receiver;
         heard = hear_fast(receiver, storage, later, whole);
     }

@@ -16,10 +16,10 @@ use crate::notes::record;
 use crate::say;
 use crate::state;
 use fast::Answer;
-use fast::Cutting;
 use fast::Pausing;
 use fast::Place;
 use fast::Receiver;
+use fast::Splitting;
 use fast::Started;
 use fast::Starting;
 use fast::limits::DGNS;
@@ -156,23 +156,23 @@ fn pause(notes: &mut [u64], storage: &[u8]) {
 
 fn frame_of(notes: &mut [u64], bytes: &[u8]) {
     let sequence = get_u8(notes, notes::SECOND);
-    let cut = fast::frame_of(bytes, sequence, get_u32(notes, notes::THIRD));
-    let answer = cut.answer;
+    let split = fast::frame_of(bytes, sequence, get_u32(notes, notes::THIRD));
+    let answer = split.answer;
     say::word(
         b"Bytes SequenceTooLarge LengthNotSplit NoSuchFrame",
-        number_of_cutting(answer),
+        number_of_splitting(answer),
     );
-    let eight = cut.bytes;
+    let eight = split.bytes;
     say::eight(notes, b" ", eight);
-    say::end(notes, notes::FAST_CUTTING, answer.refusal());
+    say::end(notes, notes::FAST_SPLITTING, answer.refusal());
 }
 
-fn number_of_cutting(answer: Cutting) -> usize {
+fn number_of_splitting(answer: Splitting) -> usize {
     match answer {
-        Cutting::Bytes => 0,
-        Cutting::SequenceTooLarge => 1,
-        Cutting::LengthNotSplit => 2,
-        Cutting::NoSuchFrame => 3,
+        Splitting::Bytes => 0,
+        Splitting::NoCode => 1,
+        Splitting::LengthNotSplit => 2,
+        Splitting::NoSuchFrame => 3,
     }
 }
 

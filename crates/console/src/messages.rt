@@ -17,10 +17,10 @@ use crate::say;
 use crate::state;
 use message::Announcing;
 use message::Answer;
-use message::Cutting;
 use message::Pausing;
 use message::Place;
 use message::Receiver;
+use message::Splitting;
 use message::Unsplittable;
 use message::limits::PLACES;
 use message::limits::STRETCH;
@@ -136,25 +136,25 @@ fn tell_announcing(notes: &mut [u64], answer: Announcing) {
 
 fn packet(notes: &mut [u64], bytes: &[u8]) {
     let dgn = get_u32(notes, notes::SECOND);
-    let cut = message::packet(bytes, dgn, get_u32(notes, notes::THIRD));
-    let answer = cut.answer;
-    tell_cutting(notes, answer);
-    let eight = cut.bytes;
+    let split = message::packet(bytes, dgn, get_u32(notes, notes::THIRD));
+    let answer = split.answer;
+    tell_splitting(notes, answer);
+    let eight = split.bytes;
     say::eight(notes, b"", eight);
-    say::end(notes, notes::MESSAGE_CUTTING, answer.refusal());
+    say::end(notes, notes::MESSAGE_SPLITTING, answer.refusal());
 }
 
-fn tell_cutting(notes: &mut [u64], answer: Cutting) {
+fn tell_splitting(notes: &mut [u64], answer: Splitting) {
     match answer {
-        Cutting::Bytes => say::text(b"Bytes "),
-        Cutting::Refused(why) => unsplittable(notes, why),
-        Cutting::NoSuchPacket => say::text(b"NoSuchPacket "),
+        Splitting::Bytes => say::text(b"Bytes "),
+        Splitting::Refused(why) => unsplittable(notes, why),
+        Splitting::NoSuchPacket => say::text(b"NoSuchPacket "),
     }
 }
 
 fn unsplittable(notes: &mut [u64], why: Unsplittable) {
     match why {
-        Unsplittable::DgnTooLarge => say::text(b"Refused DgnTooLarge "),
+        Unsplittable::NoCode => say::text(b"Refused DgnTooLarge "),
         Unsplittable::LengthNotSplit => say::text(b"Refused LengthNotSplit "),
         Unsplittable::TooManyPackets => say::text(b"Refused TooManyPackets "),
     }

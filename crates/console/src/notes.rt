@@ -66,7 +66,7 @@ pub const MESSAGE_UNSPLITTABLE: usize = 38;
 
 pub const MESSAGE_ANNOUNCING: usize = 39;
 
-pub const MESSAGE_CUTTING: usize = 40;
+pub const MESSAGE_SPLITTING: usize = 40;
 
 pub const FAST_STARTING: usize = 41;
 
@@ -74,7 +74,7 @@ pub const FAST_ANSWER: usize = 42;
 
 pub const FAST_PAUSING: usize = 43;
 
-pub const FAST_CUTTING: usize = 44;
+pub const FAST_SPLITTING: usize = 44;
 
 pub const CATALOGUE_LOOKED: usize = 45;
 

@@ -16,7 +16,8 @@ use Rattle.message.specs.LongMessage.{idleLimit, packetsOf, Meaning, other, ann
 use Rattle.message.specs.OneSender.{Open, Part, Tells, longMessages, announcedBy, waits, fedBy, asksBy}
 use Rattle.message.specs.OneSender as OneSender
 use Rattle.message.specs.Calls.{receiverCalls}
-use Rattle.demands.specs.BusyBus.{BusyBus, OpenOnBus, ToldOnBus, NoPlaceFree, PauseCount, PausesOfMessages, SumsOfPauses, StartKept, RulesKept, EveryRunRuns, NoPlaceFreeAt, PauseCountAt}
+use Rattle.demands.specs.BusyBus.{BusyBus, OpenOnBus, ToldOnBus, NoPlaceFree, PauseCount, PausesOfMessages}
+use Rattle.demands.specs.BusyBus.{SumsOfPauses, StartKept, RulesKept, EveryRunRuns, NoPlaceFreeAt, PauseCountAt}
 use Rattle.demands.proofs.LongReceiver.{receiver-keeps}
 
 pub busy-bus : BusyBus
@@ -60,11 +61,11 @@ never e = let y : _≡_ {A = ℕ} 0 1 = cc in absurd (omega arith)
 opens-within : (t : Told Meaning) (bytes : List ℕ) (m : Open) (a : Told Tells) → asksBy t bytes ≡ opens m a → Within m
 opens-within (refused n) bytes m a e = let y : _≡_ {A = ℕ} 0 1 = cc in absurd (omega arith)
 opens-within (gives other) bytes m a e = let y : _≡_ {A = ℕ} 0 1 = cc in absurd (omega arith)
-opens-within (gives (announcement sender size dgn)) bytes m a e =
-    let y : announcedBy sender size dgn ≡ m = cc in
+opens-within (gives (announcement n)) bytes m a e =
+    let y : announcedBy (n .sender) (n .size) (n .dgn) ≡ m = cc in
     let z : 0 ≡ m .idle = ap (λ (o : Open). o .idle) y in
     omega arith
-opens-within (gives (packet sender number)) bytes m a e = let y : _≡_ {A = ℕ} 0 1 = cc in absurd (omega arith)
+opens-within (gives (packet p)) bytes m a e = let y : _≡_ {A = ℕ} 0 1 = cc in absurd (omega arith)
 
 goes-to : {m n : Open} {a b : Told Tells} → goes m a ≡ goes n b → m ≡ n
 goes-to e = cc

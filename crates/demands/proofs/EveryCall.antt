@@ -30,7 +30,7 @@ use Rattle.message.proofs.packet.Met as message-packet
 use Rattle.message.proofs.Answer.refusal.Met as message-answer-refusal
 use Rattle.message.proofs.Pausing.refusal.Met as message-pausing-refusal
 use Rattle.message.proofs.Announcing.refusal.Met as message-announcing-refusal
-use Rattle.message.proofs.Cutting.refusal.Met as message-cutting-refusal
+use Rattle.message.proofs.Splitting.refusal.Met as message-splitting-refusal
 use Rattle.message.proofs.Unsplittable.refusal.Met as message-unsplittable-refusal
 use Rattle.fast.specs.Promises as fast-promises
 use Rattle.fast.proofs.Laws as Fast
@@ -42,7 +42,7 @@ use Rattle.fast.proofs.Receiver.pause.Met as fast-pause
 use Rattle.fast.proofs.Pausing.refusal.Met as fast-pausing-refusal
 use Rattle.fast.proofs.message.Met as fast-message
 use Rattle.fast.proofs.frame_of.Met as fast-frame-of
-use Rattle.fast.proofs.Cutting.refusal.Met as fast-cutting-refusal
+use Rattle.fast.proofs.Splitting.refusal.Met as fast-splitting-refusal
 use Rattle.catalogue.specs.Promises as catalogue-promises
 use Rattle.catalogue.proofs.Laws as Catalogue
 use Rattle.catalogue.proofs.rows.Met as catalogue-rows
@@ -324,13 +324,13 @@ every-call M =
         one-answer = λ κs a r s w v h k. (Message.packet-only (now (a .0)) (a .1 .0) (a .1 .1 .0) r s h k, refl);
         only = Message.packet-only;
       };
-      message-cutting-refusal = record {
-        meets = message-cutting-refusal.met;
+      message-splitting-refusal = record {
+        meets = message-splitting-refusal.met;
         asks-nothing = free;
-        Promise = λ κs a r e. message-promises.CuttingRefusal (a .0) r;
+        Promise = λ κs a r e. message-promises.SplittingRefusal (a .0) r;
         promises = λ 𝓤 H A mem run κs a ghost r. refl;
-        one-answer = λ κs a r s w v h k. (Message.cutting-refusal-only (a .0) r s h k, refl);
-        only = Message.cutting-refusal-only;
+        one-answer = λ κs a r s w v h k. (Message.splitting-refusal-only (a .0) r s h k, refl);
+        only = Message.splitting-refusal-only;
       };
       message-unsplittable-refusal = record {
         meets = message-unsplittable-refusal.met;
@@ -407,13 +407,13 @@ every-call M =
         one-answer = λ κs a r s w v h k. (Fast.frame-of-only (now (a .0)) (a .1 .0) (a .1 .1 .0) r s h k, refl);
         only = Fast.frame-of-only;
       };
-      fast-cutting-refusal = record {
-        meets = fast-cutting-refusal.met;
+      fast-splitting-refusal = record {
+        meets = fast-splitting-refusal.met;
         asks-nothing = free;
-        Promise = λ κs a r e. fast-promises.CuttingRefusal (a .0) r;
+        Promise = λ κs a r e. fast-promises.SplittingRefusal (a .0) r;
         promises = λ 𝓤 H A mem run κs a ghost r. refl;
-        one-answer = λ κs a r s w v h k. (Fast.cutting-refusal-only (a .0) r s h k, refl);
-        only = Fast.cutting-refusal-only;
+        one-answer = λ κs a r s w v h k. (Fast.splitting-refusal-only (a .0) r s h k, refl);
+        only = Fast.splitting-refusal-only;
       };
       catalogue-rows = record {
         meets = catalogue-rows.met;

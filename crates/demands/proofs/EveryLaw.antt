@@ -4,12 +4,7 @@ use mathlib.Core.List.{List}
 use Prim.Native.Nat.{ℕ}
 use Rattle.frame.proofs.Laws as Frame
 use Rattle.places.specs.Format.{Format}
-use Rattle.places.specs.Layout.{Layout}
 use Rattle.places.specs.Calls.{Calls, KeepsPlaces}
-use Rattle.words.proofs.Lists as PlacesSearch
-use Rattle.places.proofs.Stretch as PlacesStretch
-use Rattle.places.proofs.View as PlacesView
-use Rattle.places.proofs.Receiver as PlacesReceiver
 use Rattle.places.proofs.Steps as PlacesSteps
 use Rattle.places.proofs.Statements as PlacesStatements
 use Rattle.places.proofs.Calls as PlacesCalls
@@ -46,7 +41,8 @@ use Rattle.faults.proofs.Longest as FaultsLongest
 use Rattle.faults.proofs.Played as FaultsPlayed
 use Rattle.capture.proofs.Feeding as CaptureFeeding
 use Rattle.capture.proofs.Laws as Capture
-use Rattle.demands.specs.EveryLaw.{EveryLaw, FrameLaws, SearchLaws, LayoutLaws, StepLaws, FormatLaws, CallLaws, PlacesLaws, MessageLaws, FastLaws, CatalogueLaws, ClaimLaws, NodesLaws, CommandLaws, FaultsLaws, CaptureLaws}
+use Rattle.demands.specs.EveryLaw.{EveryLaw, FrameLaws, FormatLaws, CallLaws, PlacesLaws, MessageLaws, FastLaws}
+use Rattle.demands.specs.EveryLaw.{CatalogueLaws, ClaimLaws, NodesLaws, CommandLaws, FaultsLaws, CaptureLaws}
 
 frame-laws : FrameLaws
 frame-laws =
@@ -77,46 +73,6 @@ frame-laws =
       no-frame-refused = Frame.no-frame-refused;
       example-one = Frame.example-one;
       lowest-wins = Frame.lowest-wins;
-    }
-
-search-laws : (P : Type 0) → SearchLaws P
-search-laws P =
-    record {
-      found-at = PlacesSearch.found-at {P = P};
-      found-nowhere = PlacesSearch.found-nowhere {P = P};
-      set-keeps = PlacesSearch.set-keeps {P = P};
-      every-set = PlacesSearch.every-set {P = P};
-    }
-
-layout-laws : (P S : Type 0) (L : Layout P S) → LayoutLaws P S L
-layout-laws P S L =
-    record {
-      lookup-nowhere = PlacesView.lookup-nowhere L;
-      lookup-at = PlacesView.lookup-at L;
-      free-nowhere = PlacesView.free-nowhere L;
-      free-at = PlacesView.free-at L;
-      update-at = PlacesView.update-at L;
-      close-at = PlacesView.close-at L;
-      take-at = PlacesView.take-at L;
-      free-write = PlacesView.free-write L;
-      one-each-view = PlacesView.one-each-view L;
-      length-view = PlacesView.length-view L;
-      blank-view = PlacesView.blank-view L;
-    }
-
-step-laws : (P : Type 0) (𝓕 : Format) (L : Layout P (𝓕 .Session)) (f : 𝓕 .Frame) (ps : List P) (s : List ℕ) → StepLaws P 𝓕 L f ps s
-step-laws P 𝓕 L f ps s =
-    record {
-      shows-fixed = PlacesReceiver.shows-fixed 𝓕 L f ps s;
-      shows-opens-held = PlacesReceiver.shows-opens-held 𝓕 L f ps s;
-      shows-opens-free = PlacesReceiver.shows-opens-free 𝓕 L f ps s;
-      shows-finishes-held = PlacesReceiver.shows-finishes-held 𝓕 L f ps s;
-      shows-finishes-free = PlacesReceiver.shows-finishes-free 𝓕 L f ps s;
-      shows-full = PlacesReceiver.shows-full 𝓕 L f ps s;
-      shows-feeds-nowhere = PlacesReceiver.shows-feeds-nowhere 𝓕 L f ps s;
-      shows-feeds-goes = PlacesReceiver.shows-feeds-goes 𝓕 L f ps s;
-      shows-feeds-ends = PlacesReceiver.shows-feeds-ends 𝓕 L f ps s;
-      shows-keeps = PlacesReceiver.shows-keeps 𝓕 L f ps s;
     }
 
 format-laws : (𝓕 : Format) → FormatLaws 𝓕
@@ -155,12 +111,6 @@ call-laws 𝓕 𝓒 𝓚 =
 places-laws : PlacesLaws
 places-laws =
     record {
-      searches = search-laws;
-      stretch-same = PlacesStretch.stretch-same;
-      stretch-other = PlacesStretch.stretch-other;
-      layouts = layout-laws;
-      steps = step-laws;
-      pauses = λ P 𝓕 L. record { view-pass = PlacesView.view-pass 𝓕 L; view-closes = PlacesView.view-closes 𝓕 L; pass-keeps = PlacesReceiver.pass-keeps 𝓕 L };
       formats = format-laws;
       calls = call-laws;
       nine-keys-told = PlacesNineKeys.nine-keys-told;
@@ -182,7 +132,7 @@ message-laws =
       told-answer-same = Message.told-answer-same;
       told-pausing-same = Message.told-pausing-same;
       announcing-number-same = Message.announcing-number-same;
-      cutting-number-same = Message.cutting-number-same;
+      splitting-number-same = Message.splitting-number-same;
       new-only = Message.new-only;
       hear-only = Message.hear-only;
       pause-only = Message.pause-only;
@@ -192,7 +142,7 @@ message-laws =
       answer-refusal-only = Message.answer-refusal-only;
       pausing-refusal-only = Message.pausing-refusal-only;
       announcing-refusal-only = Message.announcing-refusal-only;
-      cutting-refusal-only = Message.cutting-refusal-only;
+      splitting-refusal-only = Message.splitting-refusal-only;
       unsplittable-refusal-only = Message.unsplittable-refusal-only;
       refused-keeps = Message.refused-keeps;
       ten-closes = Message.ten-closes;
@@ -201,7 +151,7 @@ message-laws =
       writes-its-own = Message.writes-its-own;
       not-beyond = Message.not-beyond;
       splitter-announces = Message.splitter-announces;
-      splitter-cuts = Message.splitter-cuts;
+      splitter-splits = Message.splitter-splits;
       lowest-wins = Message.lowest-wins;
     }
 
@@ -211,7 +161,7 @@ fast-laws =
       starting-number-same = Fast.starting-number-same;
       told-answer-same = Fast.told-answer-same;
       told-pausing-same = Fast.told-pausing-same;
-      cutting-number-same = Fast.cutting-number-same;
+      splitting-number-same = Fast.splitting-number-same;
       start-only = Fast.start-only;
       hear-only = Fast.hear-only;
       pause-only = Fast.pause-only;
@@ -220,7 +170,7 @@ fast-laws =
       starting-refusal-only = Fast.starting-refusal-only;
       answer-refusal-only = Fast.answer-refusal-only;
       pausing-refusal-only = Fast.pausing-refusal-only;
-      cutting-refusal-only = Fast.cutting-refusal-only;
+      splitting-refusal-only = Fast.splitting-refusal-only;
       pair-same = Fast.pair-same;
       first-byte-read = Fast.first-byte-read;
       frames-needed = Fast.frames-needed;
@@ -235,7 +185,7 @@ fast-laws =
       writes-the-frame = Fast.writes-the-frame;
       writes-its-own = Fast.writes-its-own;
       not-beyond = Fast.not-beyond;
-      splitter-cuts = Fast.splitter-cuts;
+      splitter-splits = Fast.splitter-splits;
       statistics-joined = FastExample.statistics-joined;
       statistics-split = FastExample.statistics-split;
       every-list-starts = FastKeepsPlaces.every-list-starts;

@@ -3,7 +3,8 @@
 use Rattle.places.proofs.Calls as Calls
 use Rattle.fast.specs.Calls.{fastCalls}
 use Rattle.fast.proofs.KeepsPlaces.{fast-keeps-places, fast-pauses-add}
-use Rattle.demands.specs.FastBus.{BusyBus, OpenOnBus, ToldOnBus, NoPlaceFree, PauseCount, SumsOfPauses, StartKept, RulesKept, EveryRunRuns, NoPlaceFreeAt, PauseCountAt}
+use Rattle.demands.specs.FastBus.{BusyBus, OpenOnBus, ToldOnBus, NoPlaceFree, PauseCount, SumsOfPauses, StartKept}
+use Rattle.demands.specs.FastBus.{RulesKept, EveryRunRuns, NoPlaceFreeAt, PauseCountAt}
 
 pub busy-bus : BusyBus
 busy-bus names = Calls.busy-bus (fastCalls names) (fast-keeps-places names)

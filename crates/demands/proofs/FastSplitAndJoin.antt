@@ -45,7 +45,7 @@ split-and-join names message dgn sender sequence h s earlier own w b e o =
     let before = openAfter (fastPackets names) none earlier in
     let r = joined-by-rules names message dgn sender sequence own well w o before in
     let first = solo (fastPackets names) none earlier in
-    let last = gives (finished sender dgn message) ∷ [] in (
+    let last = gives (finished (record { sender = sender; dgn = dgn; bytes = message })) ∷ [] in (
       first ++ r .0,
       told-on-bus names h s b (pairOf sender dgn)
           ∙ ap (λ (x : List (Event Frame)). solo (fastPackets names) none x) e

@@ -16,31 +16,40 @@ use Rattle.words.specs.Lists.{every, count, first}
 use Rattle.frame.specs.Identifier.{sourceOf, greatestDgn}
 use Rattle.frame.specs.Frame.{frameBytes}
 use Rattle.frame.specs.Standard.{Frame}
-use Rattle.frame.specs.declared.BadFrame.the-variants.{IdentifierTooLarge, NotEightBytes, ReservedBitSet, SourceNotAllowed}
+use Rattle.frame.specs.declared.BadFrame.the-variants.{IdentifierTooLarge, NotEightBytes, ReservedBitSet}
+use Rattle.frame.specs.declared.BadFrame.the-variants.{SourceNotAllowed}
 use Rattle.words.proofs.Words.{by-test, both-true}
 use Rattle.places.specs.Format.{fixed, opens, feeds, goes, ends}
 use Rattle.places.specs.Places.{Out, full, said, rest, closes}
 use Rattle.places.specs.Layout.{stretch, AgreeBut, openBy, seat, view, oneEach}
-use Rattle.places.specs.Receiver.{Shows}
 use Rattle.places.specs.Calls.{KeepsPlaces}
 use Rattle.words.specs.declared.Found.{Found}
 use Rattle.words.specs.declared.Found.the-variants.{At, Nowhere}
 use Rattle.words.proofs.Lists.{found-at, every-at, every-set, every-map, every-replicate}
 use Rattle.places.proofs.Stretch.{stretch-same, stretch-other}
 use Rattle.places.proofs.View.{one-each-view, length-view, blank-view, view-pass, view-closes}
-use Rattle.places.proofs.Receiver.{shows-fixed, shows-opens-held, shows-opens-free, shows-full, shows-feeds-nowhere, shows-feeds-goes, shows-feeds-ends, shows-keeps, pass-keeps}
-use Rattle.message.specs.LongMessage.{shortest, longest, packetBytes, packetsOf, idleLimit, needed, Meaning, other, announcement, packet, meaningOf}
-use Rattle.message.specs.OneSender.{Open, Part, Tells, announcedBy, joined, expectingNext, fedBy, waits, asksBy, longMessages}
+use Rattle.places.proofs.Receiver.{Shows, shows-fixed, shows-opens-held, shows-opens-free, shows-full}
+use Rattle.places.proofs.Receiver.{shows-feeds-nowhere, shows-feeds-goes, shows-feeds-ends, shows-keeps, pass-keeps}
+use Rattle.message.specs.LongMessage.{shortest, longest, packetBytes, packetsOf, idleLimit, needed, Meaning, other}
+use Rattle.message.specs.LongMessage.{announcement, packet, meaningOf}
+use Rattle.message.specs.OneSender.{Open, Part, Tells, announcedBy, joined, wholeOf, expectingNext, fedBy}
+use Rattle.message.specs.OneSender.{waits, asksBy, longMessages}
 use Rattle.message.specs.OneSender as OneSender
-use Rattle.message.specs.Receiver.{greatestSender, placeCount, room, freePlace, isFree, openMessage, layout, isOpenBy, isZero, placeKeepsRules, keepsRules, Outcome, After, leaves, placeFor, announces, keptAt, expecting, advanced, packetAt, carries, byMeaning, heard, idled, pausedPlaces, pausedAnswer}
+use Rattle.message.specs.Receiver.{greatestSender, placeCount, room, freePlace, isFree, openMessage, layout, isOpenBy}
+use Rattle.message.specs.Receiver.{isZero, placeKeepsRules, keepsRules, Outcome, After, leaves, placeFor}
+use Rattle.message.specs.Receiver.{hearsAnnouncement, keptAt, expecting, advanced, packetAt, carries, byMeaning, heard}
+use Rattle.message.specs.Receiver.{idled, pausedPlaces, pausedAnswer}
 use Rattle.message.specs.Receiver as Eight
 use Rattle.message.specs.Promises.{toldAnswer, messageIn, partOf}
 use Rattle.message.specs.Calls.{Held, Starts, Keeps, tells, Hears, Pauses, openIn, receiverCalls}
 use Rattle.message.specs.declared.Place.{Place}
 use Rattle.message.specs.declared.Answer.{Answer}
-use Rattle.message.specs.declared.Answer.the-variants.{BadFrame, MalformedAnnouncement, NoPlaceFree, NoOpenMessage, UnexpectedPacket, NothingToDo, Opened, Stored, Finished}
+use Rattle.message.specs.declared.Answer.the-variants.{BadFrame, MalformedAnnouncement, NoPlaceFree, NoOpenMessage}
+use Rattle.message.specs.declared.Answer.the-variants.{UnexpectedPacket, NothingToDo, Opened, Stored, Finished}
 use Rattle.message.specs.declared.Pausing.the-variants as Pausing
-use Rattle.message.proofs.Steps.{found-below, OpenRules, open-rules, rules-at, announces-at, announces-nowhere, advanced-last, advanced-next, packet-expected, packet-other, carries-at, carries-nowhere, heard-kept}
+use Rattle.message.proofs.Steps.{found-below, OpenRules, open-rules, rules-at, announcing-at, announcing-nowhere}
+use Rattle.message.proofs.Steps.{advanced-last, advanced-next, packet-expected, packet-other, carries-at}
+use Rattle.message.proofs.Steps.{carries-nowhere, heard-kept}
 use Rattle.message.proofs.Frames.{Known, meaning-known}
 
 -- an open place that keeps its rules
@@ -163,11 +172,12 @@ module _ (f : Frame) (ps : List Place) (s : List ℕ) (eight : length ps ≡ pla
     new-set : (j : ℕ) → every placeKeepsRules (set ps j new) ≡ true
     new-set j = every-set placeKeepsRules ps j new each-rules new-rules
 
-    announced : Agrees (announces sender size dgn ps s)
-    unfolding announces placeFor
+    announced : Agrees (hearsAnnouncement sender size dgn ps s)
+    unfolding hearsAnnouncement placeFor
     announced = held (first (isOpenBy sender) ps) refl
       where
-        free : (g : Found) → first (isOpenBy sender) ps ≡ Nowhere → first isFree ps ≡ g → Agrees (announces sender size dgn ps s)
+        free : (g : Found) → first (isOpenBy sender) ps ≡ Nowhere → first isFree ps ≡ g
+            → Agrees (hearsAnnouncement sender size dgn ps s)
         free (At j) n e =
             rw (n, e)
             (record {
@@ -179,7 +189,7 @@ module _ (f : Frame) (ps : List Place) (s : List ℕ) (eight : length ps ≡ pla
         free Nowhere n e =
             rw (n, e) (record { shows = shows-full longMessages layout f ps s (rw asks) (found Nowhere n) e; rules = each-rules; long = refl; answers = (NoPlaceFree, refl) })
 
-        held : (g : Found) → first (isOpenBy sender) ps ≡ g → Agrees (announces sender size dgn ps s)
+        held : (g : Found) → first (isOpenBy sender) ps ≡ g → Agrees (hearsAnnouncement sender size dgn ps s)
         held (At j) e =
             rw e
             (record {
@@ -216,7 +226,9 @@ module _ (f : Frame) (ps : List Place) (s : List ℕ) (eight : length ps ≡ pla
       freed = every-set placeKeepsRules ps j freePlace each-rules free-rules
 
       last : number ≡ p .expected → p .expected ≡ packetsOf (p .length)
-          → fedBy (openMessage p (stretch longest j s)) part ≡ ends (gives (OneSender.finished (p .sender) (p .dgn) (joined (openMessage p (stretch longest j s)) (drop 1 (f .bytes)))))
+          → fedBy (openMessage p (stretch longest j s)) part
+          ≡ ends (gives (OneSender.finished (wholeOf (openMessage p (stretch longest j s))
+          (joined (openMessage p (stretch longest j s)) (drop 1 (f .bytes))))))
       last n u = rw (eq-eqb _ _ n, eq-eqb _ _ u)
 
       next : number ≡ p .expected → p .expected ≢ packetsOf (p .length)
@@ -236,9 +248,12 @@ module _ (f : Frame) (ps : List Place) (s : List ℕ) (eight : length ps ≡ pla
           (record {
             shows =
                 subst⁻¹
-                (λ (m : List ℕ). Shows longMessages layout f ps s (set ps j freePlace) (keptAt j p (f .bytes) s) (said (gives (OneSender.finished (p .sender) (p .dgn) m))))
+                (λ (m : List ℕ). Shows longMessages layout f ps s (set ps j freePlace) (keptAt j p (f .bytes) s)
+                (said (gives (OneSender.finished (record { sender = p .sender; dgn = p .dgn; bytes = m })))))
                 (whole-message s (f .bytes) j p enough below rules-here size u)
-                (shows-feeds-ends longMessages layout f ps s part (refused 9) (gives (OneSender.finished (p .sender) (p .dgn) (joined (openMessage p (stretch longest j s)) (drop 1 (f .bytes)))))
+                (shows-feeds-ends longMessages layout f ps s part (refused 9)
+                (gives (OneSender.finished (wholeOf (openMessage p (stretch longest j s))
+                (joined (openMessage p (stretch longest j s)) (drop 1 (f .bytes))))))
                 j freePlace freePlace (keptAt j p (f .bytes) s) asks (sought (At j) e) (last n u) refl (others s (f .bytes) j p enough below rules-here size));
             rules = freed;
             long = length-written s (f .bytes) j p enough below rules-here size;
@@ -308,12 +323,13 @@ module _ (f : Frame) (ps : List Place) (s : List ℕ) (eight : length ps ≡ pla
           let h : (2 < n) × (n < 8) = rw e at k in
           rw e (kept (refused n) (refused n) (asked (refused n) e) (rw (ne-eqb n 8 (λ x. omega (arith, h .1)))) (refusal-named n (h .0) (h .1)))
       go (gives other) e k = rw e (kept (gives Eight.nothingToDo) (gives OneSender.nothingToDo) (asked (gives other) e) refl (NothingToDo, refl))
-      go (gives (announcement sender size dgn)) e k =
+      go (gives (announcement m)) e k =
           let h = rw e at k in
-          rw e (announced sender size dgn (sym (h .0)) (h .1) (h .2) (h .3) (h .4) (asked (gives (announcement sender size dgn)) e))
-      go (gives (packet sender number)) e k =
+          let asks = asked (gives (announcement m)) e in
+          rw e (announced (m .sender) (m .size) (m .dgn) (sym (h .0)) (h .1) (h .2) (h .3) (h .4) asks)
+      go (gives (packet p)) e k =
           let h = rw e at k in
-          rw e (carried sender number (sym (h .0)) (h .1) (asked (gives (packet sender number)) e))
+          rw e (carried (p .sender) (p .number) (sym (h .0)) (h .1) (asked (gives (packet p)) e))
 
 -- a pause at one place
 

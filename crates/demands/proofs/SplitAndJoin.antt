@@ -19,15 +19,17 @@ use Rattle.frame.proofs.Bytes.{number-of-bytes}
 use Rattle.frame.proofs.Laws.{lowest-wins}
 use Rattle.places.specs.Format.{Event, frame, pause, step, fixed}
 use Rattle.places.specs.OneKey.{solo, hearAlone, pauseAlone, openAfter}
-use Rattle.message.specs.LongMessage.{shortest, longest, packetBytes, packetsOf, idleLimit, toAll, byteAt, bytesTo, needed, Meaning, other, announcement, packet, announced, meant, meaningOf}
+use Rattle.message.specs.LongMessage.{shortest, longest, packetBytes, packetsOf, idleLimit, toAll, byteAt, bytesTo}
+use Rattle.message.specs.LongMessage.{needed, Meaning, other, announcement, packet, announced, meant, meaningOf}
 use Rattle.message.specs.OneSender.{Open, Tells, joined, asksBy, longMessages, nothingToDo, finished, opened, stored}
 use Rattle.message.specs.Receiver.{greatestSender}
 use Rattle.message.specs.Splitter.{announcementBytes, packetBytesOf}
 use Rattle.message.specs.Promises.{Announcement, Packet}
 use Rattle.message.specs.declared.Announced.{Announced}
-use Rattle.message.specs.declared.Cut.{Cut}
-use Rattle.message.proofs.Laws.{splitter-announces, splitter-cuts}
-use Rattle.demands.specs.SplitAndJoin.{sent, isApart, Sending, pauses, sends, next, last, Sent, announces, Sendable, SplitAndJoin, JoinedByRules}
+use Rattle.message.specs.declared.Split.{Split}
+use Rattle.message.proofs.Laws.{splitter-announces, splitter-splits}
+use Rattle.demands.specs.SplitAndJoin.{sent, isApart, Sending, pauses, sends, next, last, Sent, announces}
+use Rattle.demands.specs.SplitAndJoin.{Sendable, SplitAndJoin, JoinedByRules}
 use Rattle.demands.proofs.BusyBus.{told-on-bus}
 
 -- a frame as sent passes refusals 3 to 6, and its parts are those that it was formed from
@@ -90,7 +92,8 @@ module _ (size dgn sender : ℕ) (long : shortest ≤ size) (short : size ≤ lo
   unfolding announcementBytes bytesOf
   count-read = refl
 
-  announced-well : announced sender size (packetsOf size) dgn ≡ gives (announcement sender size dgn)
+  announced-well : announced sender size (packetsOf size) dgn
+      ≡ gives (announcement (record { sender = sender; size = size; dgn = dgn }))
   unfolding announced
   announced-well = rw (le-leb _ _ long, le-leb _ _ short, eq-eqb (packetsOf size) (packetsOf size) refl, le-leb _ _ about)
 
@@ -98,11 +101,13 @@ module _ (size dgn sender : ℕ) (long : shortest ≤ size) (short : size ≤ lo
   unfolding announcementBytes
   to-all = refl
 
-  announcement-meant : meant sender announcementDgn (announcementBytes size dgn) ≡ gives (announcement sender size dgn)
+  announcement-meant : meant sender announcementDgn (announcementBytes size dgn)
+      ≡ gives (announcement (record { sender = sender; size = size; dgn = dgn }))
   unfolding meant
   announcement-meant = rw (eq-eqb _ _ to-all, size-read, dgn-read, count-read) announced-well
 
-packet-meant : (message : List ℕ) (number sender : ℕ) → meant sender packetDgn (packetBytesOf message number) ≡ gives (packet sender number)
+packet-meant : (message : List ℕ) (number sender : ℕ) → meant sender packetDgn (packetBytesOf message number)
+    ≡ gives (packet (record { sender = sender; number = number }))
 unfolding meant packetBytesOf
 packet-meant message number sender = refl
 
@@ -127,10 +132,12 @@ joins message dgn sender number sum one most =
 
 module _ (message : List ℕ) (dgn sender : ℕ) (w : Sendable message dgn sender) where
   abbrev ToldLast : List (Event Frame) → Option Open → Type 0
-  ToldLast events m = (answers : List (Told Tells)) × (solo longMessages m events ≡ answers ++ (gives (finished sender dgn message) ∷ []))
+  ToldLast events m = (answers : List (Told Tells)) × (solo longMessages m events
+      ≡ answers ++ (gives (finished (record { sender = sender; dgn = dgn; bytes = message })) ∷ []))
 
   -- one packet, heard alone
-  module _ (number sum priority : ℕ) (r : Cut) (high : priority ≤ lowestPriority) (one : 1 ≤ number) (most : number ≤ packetsOf (length message))
+  module _ (number sum priority : ℕ) (r : Split) (high : priority ≤ lowestPriority) (one : 1 ≤ number)
+      (most : number ≤ packetsOf (length message))
       (cut : Packet message dgn number r) where
     abbrev f : Frame
     f = sent priority packetDgn sender (r .bytes)
@@ -139,9 +146,9 @@ module _ (message : List ℕ) (dgn sender : ℕ) (w : Sendable message dgn sende
     m = openAt message dgn sender number sum
 
     packet-is : r .bytes ≡ packetBytesOf message number
-    packet-is = splitter-cuts message dgn number r cut .given (w .about) (w .long) (w .short) one most .1
+    packet-is = splitter-splits message dgn number r cut .given (w .about) (w .long) (w .short) one most .1
 
-    packet-asks : meaningOf (f .id) (f .bytes) ≡ gives (packet sender number)
+    packet-asks : meaningOf (f .id) (f .bytes) ≡ gives (packet (record { sender = sender; number = number }))
     packet-asks =
         let l : length (r .bytes) ≡ frameBytes = rw packet-is (packet-length message number) in
         sent-meaning priority packetDgn sender high (omega arith) (w .named) (r .bytes) l ∙ rw packet-is (packet-meant message number sender)
@@ -155,7 +162,8 @@ module _ (message : List ℕ) (dgn sender : ℕ) (w : Sendable message dgn sende
         let c : joined m (drop 1 (r .bytes)) ≡ take (packetBytes * (number + 1 - 1)) message = packet-joins ∙ ap (λ (n : ℕ). take n message) y in
         rw (packet-asks, eq-eqb number number refl, ne-eqb number (packetsOf (length message)) (λ e. omega arith), c)
 
-    hears-last : number ≡ packetsOf (length message) → hearAlone longMessages f (some m) ≡ step none (gives (finished sender dgn message))
+    hears-last : number ≡ packetsOf (length message) → hearAlone longMessages f (some m)
+        ≡ step none (gives (finished (record { sender = sender; dgn = dgn; bytes = message })))
     hears-last h =
         let y : length message ≤ packetBytes * (number - 1) + needed (length message) number = omega (arith, w .long) in
         let c : joined m (drop 1 (r .bytes)) ≡ message = packet-joins ∙ take-all _ message y in
@@ -164,8 +172,8 @@ module _ (message : List ℕ) (dgn sender : ℕ) (w : Sendable message dgn sende
   apart-fixed : (t : Told Meaning) (bytes : List ℕ) → isApart t ≡ true → (a : Told Tells) × (asksBy t bytes ≡ fixed a)
   apart-fixed (refused n) bytes e = (refused n, refl)
   apart-fixed (gives other) bytes e = (gives nothingToDo, refl)
-  apart-fixed (gives (announcement x y z)) bytes e = true-false (sym e)
-  apart-fixed (gives (packet x y)) bytes e = true-false (sym e)
+  apart-fixed (gives (announcement m)) bytes e = true-false (sym e)
+  apart-fixed (gives (packet p)) bytes e = true-false (sym e)
 
   joined-up : (number sum : ℕ) (events : List (Event Frame)) → 1 ≤ number → Sending message dgn sender number sum events
       → ToldLast events (some (openAt message dgn sender number sum))
@@ -190,7 +198,8 @@ module _ (message : List ℕ) (dgn sender : ℕ) (w : Sendable message dgn sende
   announced-alone before priority r high given =
       let a = splitter-announces message dgn r given .given (w .about) (w .long) (w .short) .1 in
       let l : length (r .bytes) ≡ frameBytes = rw a (announcement-length (length message) dgn) in
-      let e : meaningOf (identifierOf priority announcementDgn sender) (r .bytes) ≡ gives (announcement sender (length message) dgn) =
+      let e : meaningOf (identifierOf priority announcementDgn sender) (r .bytes)
+      ≡ gives (announcement (record { sender = sender; size = length message; dgn = dgn })) =
       sent-meaning priority announcementDgn sender high (omega arith) (w .named) (r .bytes) l
       ∙ rw a (announcement-meant (length message) dgn sender (w .long) (w .short) (w .about))
       in
@@ -216,7 +225,7 @@ pub split-and-join : SplitAndJoin
 split-and-join message dgn sender h s earlier own w b e o =
     let r = joined-by-rules message dgn sender own w o (openAfter longMessages none earlier) in
     let first = solo longMessages none earlier in
-    let last = gives (finished sender dgn message) ∷ [] in (
+    let last = gives (finished (record { sender = sender; dgn = dgn; bytes = message })) ∷ [] in (
       first ++ r .0,
       told-on-bus h s b sender
           ∙ ap (λ (x : List (Event Frame)). solo longMessages none x) e

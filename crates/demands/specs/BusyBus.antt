@@ -26,7 +26,7 @@ ToldOnBus = Calls.ToldOnBus receiverCalls
 abbrev pub NoPlaceFree : Type 0
 NoPlaceFree = Calls.NoPlaceFree receiverCalls
 
--- A pause answers how many senders' messages those rules close in it.
+-- A pause answers how many senders' messages those rules close in it (RULES 4.12 and 5.11), and is never refused.
 abbrev pub PauseCount : Type 0
 PauseCount = Calls.PauseCount receiverCalls
 
@@ -51,8 +51,9 @@ RulesKept = Calls.RulesKept receiverCalls
 abbrev pub EveryRunRuns : Type 0
 EveryRunRuns = Calls.EveryRunRuns receiverCalls
 
--- At any state that keeps its rules, a new one or one that the caller made up: 8 exactly when eight other senders hold
--- the places, and a pause closes the open messages that the single-sender rules close.
+-- At any state that keeps its rules, a new one or one that the caller made up: a frame is answered 8 exactly when it is
+-- a valid announcement and eight other senders hold the places; and a pause answers how many of the senders that hold a
+-- place the single-sender rules close, and leaves each sender what those rules leave it.
 
 abbrev pub NoPlaceFreeAt : Type 0
 NoPlaceFreeAt = Calls.FullAtAnyState receiverCalls

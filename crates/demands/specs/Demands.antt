@@ -84,11 +84,11 @@ pub record DemandTwo : Type 0 where
   -- long messages: every message and DGN within the limits of RULES 5.15 is split, and is joined again in any run of
   -- calls
   pub splitter-announces : Message.SplitterAnnounces
-  pub splitter-cuts : Message.SplitterCuts
+  pub splitter-splits : Message.SplitterSplits
   pub split-and-join : SplitAndJoin
   pub joined-by-rules : JoinedByRules
   -- fast packets: every message of 1 to 223 bytes, in every sequence, is split, and is joined again in any run of calls
-  pub fast-splitter-cuts : Fast.SplitterCuts
+  pub fast-splitter-splits : Fast.SplitterSplits
   pub fast-split-and-join : FastSplitAndJoin.SplitAndJoin
   pub fast-joined-by-rules : FastSending.JoinedByRules
   -- claims: what one node sends, another's table takes for that claim

@@ -42,7 +42,7 @@ use Rattle.message.proofs.packet as message-packet
 use Rattle.message.proofs.Answer.refusal as message-answer-refusal
 use Rattle.message.proofs.Pausing.refusal as message-pausing-refusal
 use Rattle.message.proofs.Announcing.refusal as message-announcing-refusal
-use Rattle.message.proofs.Cutting.refusal as message-cutting-refusal
+use Rattle.message.proofs.Splitting.refusal as message-splitting-refusal
 use Rattle.message.proofs.Unsplittable.refusal as message-unsplittable-refusal
 use Rattle.fast.specs.Laws as Fast
 use Rattle.fast.proofs.Receiver.start as fast-start
@@ -53,7 +53,7 @@ use Rattle.fast.proofs.Receiver.pause as fast-pause
 use Rattle.fast.proofs.Pausing.refusal as fast-pausing-refusal
 use Rattle.fast.proofs.message as fast-message
 use Rattle.fast.proofs.frame_of as fast-frame-of
-use Rattle.fast.proofs.Cutting.refusal as fast-cutting-refusal
+use Rattle.fast.proofs.Splitting.refusal as fast-splitting-refusal
 use Rattle.catalogue.specs.Laws as Catalogue
 use Rattle.catalogue.proofs.rows as catalogue-rows
 use Rattle.catalogue.proofs.row_at as catalogue-row-at
@@ -229,9 +229,9 @@ module _ (M : Type 1) where
         Message.AnnouncingRefusalOnly
     pub message-packet :
         Answers message-packet.ended message-packet.Symbol.routine message-packet.spec Message.PacketOnly
-    pub message-cutting-refusal :
-        Answers message-cutting-refusal.ended message-cutting-refusal.Symbol.routine message-cutting-refusal.spec
-        Message.CuttingRefusalOnly
+    pub message-splitting-refusal :
+        Answers message-splitting-refusal.ended message-splitting-refusal.Symbol.routine message-splitting-refusal.spec
+        Message.SplittingRefusalOnly
     pub message-unsplittable-refusal :
         Answers message-unsplittable-refusal.ended message-unsplittable-refusal.Symbol.routine message-unsplittable-refusal.spec
         Message.UnsplittableRefusalOnly
@@ -252,9 +252,9 @@ module _ (M : Type 1) where
         AnswersBy fast-message.ended fast-message.Symbol.routine fast-message.spec (λ κs r s. now r ≡ now s)
         Fast.MessageOnly
     pub fast-frame-of : Answers fast-frame-of.ended fast-frame-of.Symbol.routine fast-frame-of.spec Fast.FrameOfOnly
-    pub fast-cutting-refusal :
-        Answers fast-cutting-refusal.ended fast-cutting-refusal.Symbol.routine fast-cutting-refusal.spec
-        Fast.CuttingRefusalOnly
+    pub fast-splitting-refusal :
+        Answers fast-splitting-refusal.ended fast-splitting-refusal.Symbol.routine fast-splitting-refusal.spec
+        Fast.SplittingRefusalOnly
     -- Field catalogue
     pub catalogue-rows :
         Answers catalogue-rows.ended catalogue-rows.Symbol.routine catalogue-rows.spec Catalogue.RowsOnly

@@ -3,12 +3,9 @@ use mathlib.Core.List.{List}
 use Prim.Native.Nat.{ℕ}
 use Rattle.frame.specs.Laws as Frame
 use Rattle.places.specs.Format.{Format}
-use Rattle.places.specs.Layout.{Layout}
 use Rattle.places.specs.Statements.{Pausing}
 use Rattle.places.specs.Calls.{Calls, KeepsPlaces}
-use Rattle.places.specs.Laws as Places
 use Rattle.places.specs.Statements as PlacesStatements
-use Rattle.places.specs.Receiver as PlacesReceiver
 use Rattle.places.specs.Calls as PlacesCalls
 use Rattle.places.specs.Tiny as PlacesTiny
 use Rattle.places.specs.TinyReceiver as PlacesTinyReceiver
@@ -63,47 +60,7 @@ pub record FrameLaws : Type 0 where
   pub example-one : Frame.ExampleOne
   pub lowest-wins : (id size : ℕ) → Frame.LowestWins id size
 
--- Of `places`: over any list of places,
-pub record SearchLaws (P : Type 0) : Type 0 where
-  pub found-at : Places.FoundAt P
-  pub found-nowhere : Places.FoundNowhere P
-  pub set-keeps : Places.SetKeeps P
-  pub every-set : Places.EverySet P
-
--- any layout,
-pub record LayoutLaws (P S : Type 0) (L : Layout P S) : Type 0 where
-  pub lookup-nowhere : Places.LookupNowhere L
-  pub lookup-at : Places.LookupAt L
-  pub free-nowhere : Places.FreeNowhere L
-  pub free-at : Places.FreeAt L
-  pub update-at : Places.UpdateAt L
-  pub close-at : Places.CloseAt L
-  pub take-at : Places.TakeAt L
-  pub free-write : Places.FreeWrite L
-  pub one-each-view : Places.OneEachView L
-  pub length-view : Places.LengthView L
-  pub blank-view : Places.BlankView L
-
--- any step of a receiver of any format and layout,
-pub record StepLaws (P : Type 0) (𝓕 : Format) (L : Layout P (𝓕 .Session)) (f : 𝓕 .Frame) (ps : List P) (s : List ℕ)
-    : Type 0 where
-  pub shows-fixed : PlacesReceiver.ShowsFixed 𝓕 L f ps s
-  pub shows-opens-held : PlacesReceiver.ShowsOpensHeld 𝓕 L f ps s
-  pub shows-opens-free : PlacesReceiver.ShowsOpensFree 𝓕 L f ps s
-  pub shows-finishes-held : PlacesReceiver.ShowsFinishesHeld 𝓕 L f ps s
-  pub shows-finishes-free : PlacesReceiver.ShowsFinishesFree 𝓕 L f ps s
-  pub shows-full : PlacesReceiver.ShowsFull 𝓕 L f ps s
-  pub shows-feeds-nowhere : PlacesReceiver.ShowsFeedsNowhere 𝓕 L f ps s
-  pub shows-feeds-goes : PlacesReceiver.ShowsFeedsGoes 𝓕 L f ps s
-  pub shows-feeds-ends : PlacesReceiver.ShowsFeedsEnds 𝓕 L f ps s
-  pub shows-keeps : PlacesReceiver.ShowsKeeps 𝓕 L f ps s
-
-pub record PauseLaws (P : Type 0) (𝓕 : Format) (L : Layout P (𝓕 .Session)) : Type 0 where
-  pub view-pass : Places.ViewPass 𝓕 L
-  pub view-closes : Places.ViewCloses 𝓕 L
-  pub pass-keeps : PlacesReceiver.PassKeeps 𝓕 L
-
--- any format,
+-- Of `places`: over any format,
 pub record FormatLaws (𝓕 : Format) : Type 1 where
   pub one-step : PlacesStatements.OneStep 𝓕
   pub pause-closes : PlacesStatements.PauseCloses 𝓕
@@ -133,14 +90,6 @@ pub record CallLaws (𝓕 : Format) (𝓒 : Calls 𝓕) : Type 1 where
   pub pause-at-any-state : PlacesCalls.PauseAtAnyState 𝓒
 
 pub record PlacesLaws : Type 1 where
-  pub searches : (P : Type 0) → SearchLaws P
-  pub stretch-same : Places.StretchSame
-  pub stretch-other : Places.StretchOther
-  pub layouts : (P S : Type 0) (L : Layout P S) → LayoutLaws P S L
-  pub steps :
-      (P : Type 0) (𝓕 : Format) (L : Layout P (𝓕 .Session)) (f : 𝓕 .Frame) (ps : List P) (s : List ℕ)
-      → StepLaws P 𝓕 L f ps s
-  pub pauses : (P : Type 0) (𝓕 : Format) (L : Layout P (𝓕 .Session)) → PauseLaws P 𝓕 L
   pub formats : (𝓕 : Format) → FormatLaws 𝓕
   pub calls : (𝓕 : Format) (𝓒 : Calls 𝓕) → KeepsPlaces 𝓒 → CallLaws 𝓕 𝓒
   pub nine-keys-told : PlacesTiny.NineKeysTold
@@ -159,7 +108,7 @@ pub record MessageLaws : Type 0 where
   pub told-answer-same : Message.ToldAnswerSame
   pub told-pausing-same : Message.ToldPausingSame
   pub announcing-number-same : Message.AnnouncingNumberSame
-  pub cutting-number-same : Message.CuttingNumberSame
+  pub splitting-number-same : Message.SplittingNumberSame
   pub new-only : Message.NewOnly
   pub hear-only : Message.HearOnly
   pub pause-only : Message.PauseOnly
@@ -169,7 +118,7 @@ pub record MessageLaws : Type 0 where
   pub answer-refusal-only : Message.AnswerRefusalOnly
   pub pausing-refusal-only : Message.PausingRefusalOnly
   pub announcing-refusal-only : Message.AnnouncingRefusalOnly
-  pub cutting-refusal-only : Message.CuttingRefusalOnly
+  pub splitting-refusal-only : Message.SplittingRefusalOnly
   pub unsplittable-refusal-only : Message.UnsplittableRefusalOnly
   pub refused-keeps : Message.RefusedKeeps
   pub ten-closes : Message.TenCloses
@@ -178,7 +127,7 @@ pub record MessageLaws : Type 0 where
   pub writes-its-own : Message.WritesItsOwn
   pub not-beyond : Message.NotBeyond
   pub splitter-announces : Message.SplitterAnnounces
-  pub splitter-cuts : Message.SplitterCuts
+  pub splitter-splits : Message.SplitterSplits
   pub lowest-wins :
       (id : ℕ) (bytes : List ℕ) (places : List Place) (storage : List ℕ) → Message.LowestWins id bytes places storage
 
@@ -186,7 +135,7 @@ pub record FastLaws : Type 1 where
   pub starting-number-same : Fast.StartingNumberSame
   pub told-answer-same : Fast.ToldAnswerSame
   pub told-pausing-same : Fast.ToldPausingSame
-  pub cutting-number-same : Fast.CuttingNumberSame
+  pub splitting-number-same : Fast.SplittingNumberSame
   pub start-only : Fast.StartOnly
   pub hear-only : Fast.HearOnly
   pub pause-only : Fast.PauseOnly
@@ -195,7 +144,7 @@ pub record FastLaws : Type 1 where
   pub starting-refusal-only : Fast.StartingRefusalOnly
   pub answer-refusal-only : Fast.AnswerRefusalOnly
   pub pausing-refusal-only : Fast.PausingRefusalOnly
-  pub cutting-refusal-only : Fast.CuttingRefusalOnly
+  pub splitting-refusal-only : Fast.SplittingRefusalOnly
   pub pair-same : Fast.PairSame
   pub first-byte-read : Fast.FirstByteRead
   pub frames-needed : Fast.FramesNeeded
@@ -210,7 +159,7 @@ pub record FastLaws : Type 1 where
   pub writes-the-frame : Fast.WritesTheFrame
   pub writes-its-own : Fast.WritesItsOwn
   pub not-beyond : Fast.NotBeyond
-  pub splitter-cuts : Fast.SplitterCuts
+  pub splitter-splits : Fast.SplitterSplits
   pub statistics-joined : FastExample.StatisticsJoined
   pub statistics-split : FastExample.StatisticsSplit
   pub every-list-starts : FastCalls.EveryListStarts

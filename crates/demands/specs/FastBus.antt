@@ -27,7 +27,7 @@ ToldOnBus = (names : List ℕ) → Calls.ToldOnBus (fastCalls names)
 abbrev pub NoPlaceFree : Type 0
 NoPlaceFree = (names : List ℕ) → Calls.NoPlaceFree (fastCalls names)
 
--- A pause answers how many pairs' messages those rules close in it.
+-- A pause answers how many pairs' messages those rules close in it (RULES 12.12 and 12.17), and is never refused.
 abbrev pub PauseCount : Type 0
 PauseCount = (names : List ℕ) → Calls.PauseCount (fastCalls names)
 
@@ -47,8 +47,9 @@ RulesKept = (names : List ℕ) → Calls.RulesKept (fastCalls names)
 abbrev pub EveryRunRuns : Type 0
 EveryRunRuns = (names : List ℕ) → Calls.EveryRunRuns (fastCalls names)
 
--- At any state that keeps its rules, one that was started or one that the caller made up: 8 exactly when eight other
--- pairs hold the places, and a pause closes the open messages that the single-pair rules close.
+-- At any state that keeps its rules, one that was started or one that the caller made up: a frame is answered 8 exactly
+-- when it is a frame 0 with a length within the limits and eight other pairs hold the places; and a pause answers how
+-- many of the pairs that hold a place the single-pair rules close, and leaves each pair what those rules leave it.
 
 abbrev pub NoPlaceFreeAt : Type 0
 NoPlaceFreeAt = (names : List ℕ) → Calls.FullAtAnyState (fastCalls names)

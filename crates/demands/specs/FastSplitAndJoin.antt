@@ -24,4 +24,4 @@ SplitAndJoin =
     → Sent names message dgn sender sequence own
     → (answers : List (Told Tells))
     × (answered (toldTo (fastPackets names) (pairOf sender dgn) h)
-    ≡ answers ++ (gives (finished sender dgn message) ∷ []))
+    ≡ answers ++ (gives (finished (record { sender = sender; dgn = dgn; bytes = message })) ∷ []))

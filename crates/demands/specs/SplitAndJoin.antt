@@ -15,13 +15,14 @@ use Rattle.places.specs.Format.{Event, frame, pause}
 use Rattle.places.specs.OneKey.{solo}
 use Rattle.places.specs.Places.{History, toldTo, admitted, answered}
 use Rattle.places.specs.Calls.{FromStart}
-use Rattle.message.specs.LongMessage.{shortest, longest, packetsOf, idleLimit, Meaning, other, announcement, packet, meaningOf}
+use Rattle.message.specs.LongMessage.{shortest, longest, packetsOf, idleLimit, Meaning, other, announcement, packet}
+use Rattle.message.specs.LongMessage.{meaningOf}
 use Rattle.message.specs.OneSender.{Open, Tells, finished, longMessages}
 use Rattle.message.specs.Receiver.{greatestSender}
 use Rattle.message.specs.Promises.{Announcement, Packet}
 use Rattle.message.specs.Calls.{Held, receiverCalls}
 use Rattle.message.specs.declared.Announced.{Announced}
-use Rattle.message.specs.declared.Cut.{Cut}
+use Rattle.message.specs.declared.Split.{Split}
 
 -- a frame of the message, as its sender puts it on the bus
 abbrev pub sent : ℕ → ℕ → ℕ → List ℕ → Frame
@@ -31,8 +32,8 @@ sent priority dgn sender bytes = record { id = identifierOf priority dgn sender;
 abbrev pub isApart : Told Meaning → Bool
 isApart (refused n) = true
 isApart (gives other) = true
-isApart (gives (announcement sender size dgn)) = false
-isApart (gives (packet sender number)) = false
+isApart (gives (announcement m)) = false
+isApart (gives (packet p)) = false
 
 -- What a sender does that is to send packet `number` next, when `sum` ms have passed since the message's last frame: it
 -- pauses, sends something else, sends what `packet` answers for that number, and ends with the last one.
@@ -41,11 +42,11 @@ pub data Sending (message : List ℕ) (dgn sender : ℕ) : ℕ → ℕ → List 
       → Sending message dgn sender number (sum + ms) events → Sending message dgn sender number sum (pause ms ∷ events)
   sends : {number sum : ℕ} {events : List (Event Frame)} (f : Frame) → isApart (meaningOf (f .id) (f .bytes)) ≡ true
       → Sending message dgn sender number sum events → Sending message dgn sender number sum (frame f ∷ events)
-  next : {number sum : ℕ} {events : List (Event Frame)} (priority : ℕ) (r : Cut) → priority ≤ lowestPriority
+  next : {number sum : ℕ} {events : List (Event Frame)} (priority : ℕ) (r : Split) → priority ≤ lowestPriority
       → Packet message dgn number r → number < packetsOf (length message)
       → Sending message dgn sender (number + 1) 0 events
       → Sending message dgn sender number sum (frame (sent priority packetDgn sender (r .bytes)) ∷ events)
-  last : {number sum : ℕ} (priority : ℕ) (r : Cut) → priority ≤ lowestPriority
+  last : {number sum : ℕ} (priority : ℕ) (r : Split) → priority ≤ lowestPriority
       → Packet message dgn number r → number ≡ packetsOf (length message)
       → Sending message dgn sender number sum (frame (sent priority packetDgn sender (r .bytes)) ∷ [])
 
@@ -71,7 +72,8 @@ SplitAndJoin =
     → Sendable message dgn sender → FromStart receiverCalls h s → admitted longMessages sender h ≡ earlier ++ own
     → Sent message dgn sender own
     → (answers : List (Told Tells))
-    × (answered (toldTo longMessages sender h) ≡ answers ++ (gives (finished sender dgn message) ∷ []))
+    × (answered (toldTo longMessages sender h)
+    ≡ answers ++ (gives (finished (record { sender = sender; dgn = dgn; bytes = message })) ∷ []))
 
 -- By the single-sender rules: whatever was open, the last answer hands over the message.
 abbrev pub JoinedByRules : Type 0
@@ -80,4 +82,5 @@ JoinedByRules =
     → Sent message dgn sender events
     → (before : Option Open)
     → (answers : List (Told Tells))
-    × (solo longMessages before events ≡ answers ++ (gives (finished sender dgn message) ∷ []))
+    × (solo longMessages before events
+    ≡ answers ++ (gives (finished (record { sender = sender; dgn = dgn; bytes = message })) ∷ []))

@@ -63,7 +63,9 @@ told sender events =
     ap answers (told-run sender begin (starts-keep begin begins) events
     ∙ ap (λ (ps : List (Seat Open)). toldTo longMessages sender (run longMessages ps events)) (blank-view layout placeCount storageOfZeros))
 
-ninth : answers (toldTo longMessages 9 (onBusyBus longMessages (eightSenders ++ (Examples.announces 9 nineBytes ∷ [])))) ≡ 8 ∷ []
+ninth :
+    answers (toldTo longMessages 9 (onBusyBus longMessages (eightSenders ++ (Examples.announcementBy 9 nineBytes ∷ []))))
+    ≡ 8 ∷ []
 unfolding priorityOf reservedOf dgnOf sourceOf identifierOf numberOf sourceAllowed checkedOf bytesTo announced meant meaningOf
 ninth = refl
 
@@ -90,6 +92,6 @@ pub all-as-printed : AllAsPrinted
 unfolding priorityOf reservedOf dgnOf sourceOf identifierOf numberOf bytesOf sourceAllowed checkedOf formedOf bytesTo announced meant meaningOf isZero placeKeepsRules keepsRules closes pausedAnswer splits announcementBytes announcementOf classAt scaledOf
 all-as-printed =
     refl ▸ refl ▸ refl ▸ refl ▸ refl ▸ refl ▸ refl ▸ refl ▸ refl ▸ refl ▸ refl ▸ refl ▸
-    (told 9 (eightSenders ++ (Examples.announces 9 nineBytes ∷ [])) ∙ ninth) ▸
+    (told 9 (eightSenders ++ (Examples.announcementBy 9 nineBytes ∷ [])) ∙ ninth) ▸
     (told 0x54 (announcement54 ∷ pause 50 ∷ first54 ∷ pause 50 ∷ second54 ∷ []) ∙ long) ▸
     refl ▸ refl ▸ refl ▸ refl ▸ eleven ▸ end

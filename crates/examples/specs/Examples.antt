@@ -48,8 +48,8 @@ bytes (gives l) = 0 ∷ l
 abbrev pub meaning : Told Meaning → List ℕ
 meaning (refused n) = n ∷ []
 meaning (gives other) = 0 ∷ []
-meaning (gives (announcement sender size dgn)) = 0 ∷ sender ∷ size ∷ dgn ∷ []
-meaning (gives (packet sender number)) = 0 ∷ sender ∷ number ∷ []
+meaning (gives (announcement m)) = 0 ∷ m .sender ∷ m .size ∷ m .dgn ∷ []
+meaning (gives (packet p)) = 0 ∷ p .sender ∷ p .number ∷ []
 
 -- nothing to do 0, opened 1, stored 2, a finished message its sender, DGN and bytes
 abbrev pub answer : Out (Told Tells) → List ℕ
@@ -58,7 +58,7 @@ answer (said (refused n)) = n ∷ []
 answer (said (gives nothingToDo)) = 0 ∷ 0 ∷ []
 answer (said (gives opened)) = 0 ∷ 1 ∷ []
 answer (said (gives stored)) = 0 ∷ 2 ∷ []
-answer (said (gives (finished sender dgn l))) = 0 ∷ sender ∷ dgn ∷ l
+answer (said (gives (finished m))) = 0 ∷ m .sender ∷ m .dgn ∷ m .bytes
 
 abbrev pub answers : List (Out (Told Tells)) → List ℕ
 answers [] = []
@@ -99,8 +99,8 @@ toldOf sender events = toldFrom sender (replicate placeCount freePlace) storageO
 abbrev pub oneOpen : List Place
 oneOpen = record { sender = 0x54; length = 9; dgn = 0xFEEB; expected = 1; idle = 0 } ∷ replicate 7 freePlace
 
-abbrev pub announces : ℕ → List ℕ → Event Frame
-announces sender l = frame (record { id = identifierOf 7 0xECFF sender; bytes = l })
+abbrev pub announcementBy : ℕ → List ℕ → Event Frame
+announcementBy sender l = frame (record { id = identifierOf 7 0xECFF sender; bytes = l })
 
 abbrev pub nineBytes : List ℕ
 nineBytes = 0x20 ∷ 0x09 ∷ 0x00 ∷ 0x02 ∷ 0xFF ∷ 0xEB ∷ 0xFE ∷ 0x00 ∷ []
@@ -120,8 +120,9 @@ announced low high packets = meaningOf 0x1CECFF54 (0x20 ∷ low ∷ high ∷ pac
 
 abbrev pub eightSenders : List (Event Frame)
 eightSenders =
-    announces 1 nineBytes ∷ announces 2 nineBytes ∷ announces 3 nineBytes ∷ announces 4 nineBytes ∷ announces 5 nineBytes
-    ∷ announces 6 nineBytes ∷ announces 7 nineBytes ∷ announces 8 nineBytes ∷ []
+    announcementBy 1 nineBytes ∷ announcementBy 2 nineBytes ∷ announcementBy 3 nineBytes
+    ∷ announcementBy 4 nineBytes ∷ announcementBy 5 nineBytes ∷ announcementBy 6 nineBytes
+    ∷ announcementBy 7 nineBytes ∷ announcementBy 8 nineBytes ∷ []
 
 -- a node that holds 9Ch
 abbrev pub holding9C : Claim
@@ -182,7 +183,7 @@ idleClosed = line 5 (number (pausedAnswer 751 oneOpen)) (0 ∷ 1 ∷ [])
 
 -- (6) a ninth sender
 abbrev pub ninthSender : Line
-ninthSender = line 6 (answers (toldOf 9 (eightSenders ++ (announces 9 nineBytes ∷ [])))) (8 ∷ [])
+ninthSender = line 6 (answers (toldOf 9 (eightSenders ++ (announcementBy 9 nineBytes ∷ [])))) (8 ∷ [])
 
 -- (7) the long message
 abbrev pub longMessage : Line

@@ -1,6 +1,6 @@
 -- What a frame can mean to the receiver, read off its definition.
 -- Assumes nothing.
-use mathlib.Core.Path.{_≡_, refl, sym, subst}
+use mathlib.Core.Path.{_≡_, refl, sym, subst, subst⁻¹}
 use mathlib.Core.Bool.{Bool, true, false, not}
 use mathlib.Core.List.{List, [], _∷_}
 use Prim.Native.Nat.{ℕ, _≤_, _<_, _/_}
@@ -16,7 +16,8 @@ use Rattle.frame.specs.Frame.{sourceAllowed, checkedOf, frameBytes}
 use Rattle.frame.specs.Standard.{greatestAddress, announcementDgn, packetDgn}
 use Rattle.frame.specs.declared.Parts.{Parts}
 use Rattle.words.proofs.Words.{both-true, by-test, not-flips, true-false}
-use Rattle.fast.specs.FastPacket.{sequenceOf, frameNumberOf, greatestSequence, longest, byteAt, Meaning, other, begins, continues, begun, carried, meant, meaningOf}
+use Rattle.fast.specs.FastPacket.{sequenceOf, frameNumberOf, greatestSequence, longest, byteAt, Meaning, other}
+use Rattle.fast.specs.FastPacket.{begins, continues, begun, carried, meant, meaningOf}
 use Rattle.fast.specs.Names.{mayBeNamed, isNamed}
 
 by-if : {A : Type 0} (P : A → Type 0) (b : Bool) (x y : A) → (b ≡ true → P x) → (b ≡ false → P y)
@@ -45,8 +46,8 @@ pub named-allowed : (names : List ℕ) (dgn : ℕ) → every mayBeNamed names �
 named-allowed [] dgn e n = true-false (sym n)
 named-allowed (name ∷ names) dgn e n =
     let k = both-true (mayBeNamed name) _ e in
-    by-test (name =? dgn)
-    (λ t. subst (λ (d : ℕ). mayBeNamed d ≡ true) (eqb-true name dgn t) (k .0))
+    by-test (dgn =? name)
+    (λ t. subst⁻¹ (λ (d : ℕ). mayBeNamed d ≡ true) (eqb-true dgn name t) (k .0))
     (λ t. named-allowed names dgn (k .1) (rw t at n))
 
 -- its sender is no higher than 253: it is none of those that a node without an address may send
@@ -72,11 +73,11 @@ sender-low source dgn h m f =
 abbrev pub Known : List ℕ → ℕ → List ℕ → Told Meaning → Type 0
 Known names id bytes (refused n) = (2 < n) × (n < 8)
 Known names id bytes (gives other) = Unit {0}
-Known names id bytes (gives (begins sender dgn sequence size)) =
-    (sender ≡ sourceOf id) × (dgn ≡ dgnOf id) × (length bytes ≡ frameBytes) × (isNamed dgn names ≡ true)
-    × (sender ≤ greatestAddress) × (sequence ≤ greatestSequence) × (1 ≤ size) × (size ≤ longest)
-Known names id bytes (gives (continues sender dgn sequence number)) =
-    (sender ≡ sourceOf id) × (dgn ≡ dgnOf id) × (length bytes ≡ frameBytes)
+Known names id bytes (gives (begins m)) =
+    (m .sender ≡ sourceOf id) × (m .dgn ≡ dgnOf id) × (length bytes ≡ frameBytes) × (isNamed (m .dgn) names ≡ true)
+    × (m .sender ≤ greatestAddress) × (m .sequence ≤ greatestSequence) × (1 ≤ m .size) × (m .size ≤ longest)
+Known names id bytes (gives (continues f)) =
+    (f .sender ≡ sourceOf id) × (f .dgn ≡ dgnOf id) × (length bytes ≡ frameBytes)
 
 sequence-low : (byte : ℕ) → sequenceOf byte ≤ greatestSequence
 sequence-low byte = omega arith

@@ -18,16 +18,18 @@ use Rattle.words.proofs.Words.{both-true, true-false}
 use Rattle.frame.proofs.Laws.{lowest-wins}
 use Rattle.places.specs.Format.{Event, step, fixed}
 use Rattle.places.specs.OneKey.{solo, hearAlone}
-use Rattle.fast.specs.FastPacket.{greatestSequence, firstBytes, laterBytes, longest, offsetOf, lastFrame, needed, idleLimit, Meaning, other, begins, continues, begun, carried, meant, meaningOf}
+use Rattle.fast.specs.FastPacket.{greatestSequence, firstBytes, laterBytes, longest, offsetOf, lastFrame, needed}
+use Rattle.fast.specs.FastPacket.{idleLimit, Meaning, other, begins, continues, begun, carried, meant, meaningOf}
 use Rattle.fast.specs.Names.{mayBeNamed, isWellFormed}
 use Rattle.fast.specs.OnePair.{Open, Tells, joined, asksBy, fastPackets, nothingToDo, opened, stored, finished}
 use Rattle.fast.specs.Splitter.{firstBytesOf, laterBytesOf, frameBytesOf}
 use Rattle.fast.specs.Promises.{FrameOf}
-use Rattle.fast.specs.Sending.{sent, isApart, Sendable, Sending, pauses, sends, next, last, Sent, at-once, in-frames, JoinedByRules}
-use Rattle.fast.specs.declared.Cut.{Cut}
+use Rattle.fast.specs.Sending.{sent, isApart, Sendable, Sending, pauses, sends, next, last, Sent, at-once}
+use Rattle.fast.specs.Sending.{in-frames, JoinedByRules}
+use Rattle.fast.specs.declared.Split.{Split}
 use Rattle.fast.proofs.Steps.{all-allowed, meant-carried}
 use Rattle.fast.proofs.Frames.{named-allowed}
-use Rattle.fast.proofs.Laws.{first-byte-read, splitter-cuts}
+use Rattle.fast.proofs.Laws.{first-byte-read, splitter-splits}
 
 -- a frame as sent passes refusals 3 to 6, and its parts are those that it was formed from
 
@@ -86,30 +88,32 @@ unpadded n m l h k = take-take n m (l ++ replicate m unused) h ∙ take-append-l
 
 module _ (message : List ℕ) (sequence : ℕ) (numbered : sequence ≤ greatestSequence) (long : 1 ≤ length message)
     (short : length message ≤ longest) where
-  cut-is : (number : ℕ) → number ≤ lastFrame (length message) → (r : Cut) → FrameOf message sequence number r
+  frame-is : (number : ℕ) → number ≤ lastFrame (length message) → (r : Split) → FrameOf message sequence number r
       → r .bytes ≡ frameBytesOf message sequence number
-  cut-is number most r c = splitter-cuts message sequence number r c .given numbered long short most .1
+  frame-is number most r c = splitter-splits message sequence number r c .given numbered long short most .1
 
-  first-is : (r : Cut) → FrameOf message sequence 0 r → r .bytes ≡ firstBytesOf message sequence
+  first-is : (r : Split) → FrameOf message sequence 0 r → r .bytes ≡ firstBytesOf message sequence
   unfolding frameBytesOf
-  first-is r c = cut-is 0 (omega arith) r c
+  first-is r c = frame-is 0 (omega arith) r c
 
-  later-is : (number : ℕ) (r : Cut) → 1 ≤ number → number ≤ lastFrame (length message)
+  later-is : (number : ℕ) (r : Split) → 1 ≤ number → number ≤ lastFrame (length message)
       → FrameOf message sequence number r → r .bytes ≡ laterBytesOf message sequence number
   unfolding frameBytesOf
-  later-is number r one most c = cut-is number most r c ∙ rw (ne-eqb number 0 (λ e. omega arith))
+  later-is number r one most c = frame-is number most r c ∙ rw (ne-eqb number 0 (λ e. omega arith))
 
   -- they mean what they are to mean
 
   first-carried : (sender dgn : ℕ)
-      → carried sender dgn (firstBytesOf message sequence) ≡ gives (begins sender dgn sequence (length message))
+      → carried sender dgn (firstBytesOf message sequence)
+      ≡ gives (begins (record { sender = sender; dgn = dgn; sequence = sequence; size = length message }))
   unfolding carried begun firstBytesOf
   first-carried sender dgn =
       let b = first-byte-read sequence 0 numbered (omega arith) in
       rw (b .1, b .0, le-leb _ _ long, le-leb _ _ short)
 
   later-carried : (sender dgn number : ℕ) → 1 ≤ number → number ≤ lastFrame (length message)
-      → carried sender dgn (laterBytesOf message sequence number) ≡ gives (continues sender dgn sequence number)
+      → carried sender dgn (laterBytesOf message sequence number)
+      ≡ gives (continues (record { sender = sender; dgn = dgn; sequence = sequence; number = number }))
   unfolding carried laterBytesOf
   later-carried sender dgn number one most =
       let b = first-byte-read sequence number numbered (omega arith) in
@@ -158,7 +162,8 @@ module _ (names message : List ℕ) (dgn sender sequence : ℕ) (well-formed : i
   abbrev ToldLast : List (Event Frame) → Option Open → Type 0
   ToldLast events m =
       (answers : List (Told Tells))
-      × (solo (fastPackets names) m events ≡ answers ++ (gives (finished sender dgn message) ∷ []))
+      × (solo (fastPackets names) m events
+      ≡ answers ++ (gives (finished (record { sender = sender; dgn = dgn; bytes = message })) ∷ []))
 
   small : dgn ≤ greatestDgn
   small = may-be-small dgn (named-allowed names dgn (all-allowed names well-formed) (w .about))
@@ -170,7 +175,7 @@ module _ (names message : List ℕ) (dgn sender sequence : ℕ) (well-formed : i
       ∙ meant-carried names sender dgn bytes (w .about)
 
   -- frame 0, heard alone
-  module _ (before : Option Open) (priority : ℕ) (r : Cut) (high : priority ≤ lowestPriority)
+  module _ (before : Option Open) (priority : ℕ) (r : Split) (high : priority ≤ lowestPriority)
       (cut : FrameOf message sequence 0 r) where
     abbrev f₀ : Frame
     f₀ = sent priority dgn sender (r .bytes)
@@ -178,14 +183,16 @@ module _ (names message : List ℕ) (dgn sender sequence : ℕ) (well-formed : i
     first-bytes : r .bytes ≡ firstBytesOf message sequence
     first-bytes = first-is message sequence (w .numbered) (w .long) (w .short) r cut
 
-    first-means : meaningOf names (f₀ .id) (f₀ .bytes) ≡ gives (begins sender dgn sequence (length message))
+    first-means : meaningOf names (f₀ .id) (f₀ .bytes)
+        ≡ gives (begins (record { sender = sender; dgn = dgn; sequence = sequence; size = length message }))
     first-means =
         let l : length (r .bytes) ≡ frameBytes = rw first-bytes (first-length message sequence) in
         means priority (r .bytes) high l
         ∙ rw first-bytes (first-carried message sequence (w .numbered) (w .long) (w .short) sender dgn)
 
     hears-whole : length message ≤ firstBytes
-        → hearAlone (fastPackets names) f₀ before ≡ step none (gives (finished sender dgn message))
+        → hearAlone (fastPackets names) f₀ before
+        ≡ step none (gives (finished (record { sender = sender; dgn = dgn; bytes = message })))
     hears-whole h =
         let c : take (length message) (drop 2 (r .bytes)) ≡ message = rw first-bytes (all-bytes message sequence h) in
         rw (first-means, le-leb _ _ h, c)
@@ -198,7 +205,7 @@ module _ (names message : List ℕ) (dgn sender sequence : ℕ) (well-formed : i
         rw (first-means, lt-leb _ _ h, c)
 
   -- a later frame, heard alone
-  module _ (number sum priority : ℕ) (r : Cut) (high : priority ≤ lowestPriority) (one : 1 ≤ number)
+  module _ (number sum priority : ℕ) (r : Split) (high : priority ≤ lowestPriority) (one : 1 ≤ number)
       (most : number ≤ lastFrame (length message)) (cut : FrameOf message sequence number r) where
     abbrev f : Frame
     f = sent priority dgn sender (r .bytes)
@@ -209,7 +216,8 @@ module _ (names message : List ℕ) (dgn sender sequence : ℕ) (well-formed : i
     later-bytes : r .bytes ≡ laterBytesOf message sequence number
     later-bytes = later-is message sequence (w .numbered) (w .long) (w .short) number r one most cut
 
-    later-means : meaningOf names (f .id) (f .bytes) ≡ gives (continues sender dgn sequence number)
+    later-means : meaningOf names (f .id) (f .bytes)
+        ≡ gives (continues (record { sender = sender; dgn = dgn; sequence = sequence; number = number }))
     later-means =
         let l : length (r .bytes) ≡ frameBytes = rw later-bytes (later-length message sequence number) in
         means priority (r .bytes) high l
@@ -229,7 +237,8 @@ module _ (names message : List ℕ) (dgn sender sequence : ℕ) (well-formed : i
         rw (later-means, eq-eqb sequence sequence refl, eq-eqb number number refl, u, c)
 
     hears-last : number ≡ lastFrame (length message)
-        → hearAlone (fastPackets names) f (some m) ≡ step none (gives (finished sender dgn message))
+        → hearAlone (fastPackets names) f (some m)
+        ≡ step none (gives (finished (record { sender = sender; dgn = dgn; bytes = message })))
     hears-last h =
         let y : length message ≤ offsetOf number + needed (length message) number = omega arith in
         let c : joined m (drop 1 (r .bytes)) ≡ message = later-joins ∙ take-all _ message y in
@@ -239,8 +248,8 @@ module _ (names message : List ℕ) (dgn sender sequence : ℕ) (well-formed : i
   apart-fixed : (t : Told Meaning) (bytes : List ℕ) → isApart t ≡ true → (a : Told Tells) × (asksBy t bytes ≡ fixed a)
   apart-fixed (refused n) bytes e = (refused n, refl)
   apart-fixed (gives other) bytes e = (gives nothingToDo, refl)
-  apart-fixed (gives (begins a b c d)) bytes e = true-false (sym e)
-  apart-fixed (gives (continues a b c d)) bytes e = true-false (sym e)
+  apart-fixed (gives (begins m)) bytes e = true-false (sym e)
+  apart-fixed (gives (continues f)) bytes e = true-false (sym e)
 
   joined-up : (number sum : ℕ) (events : List (Event Frame)) → 1 ≤ number
       → Sending names message dgn sender sequence number sum events

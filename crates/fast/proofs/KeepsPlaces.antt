@@ -8,7 +8,8 @@ use mathlib.Core.Logic.{_≢_}
 use mathlib.Core.Option.{some, none}
 use Prim.Native.Nat.{ℕ, _+_, _*_, _≤_, _<_}
 use native.Mathlib.Omega.{arith}
-use borrow.Author.Tests.{eq-eqb, ne-eqb, eqb-true, eqb-false, lt-ltb, le-ltb, le-leb, lt-leb, ltb-true, ltb-false, leb-true, leb-false}
+use borrow.Author.Tests.{eq-eqb, ne-eqb, eqb-true, eqb-false, lt-ltb, le-ltb, le-leb, lt-leb, ltb-true, ltb-false}
+use borrow.Author.Tests.{leb-true, leb-false}
 use lib.ListN.{length, take, drop, getD, set, replicate, length-take, length-drop, length-map}
 use lib.Seq.{paste, length-paste, take-paste, take-take, set-getD}
 use Rattle.words.specs.Words.{_≤?_, _<?_, _=?_, _and_, Told, refused, gives}
@@ -16,34 +17,47 @@ use Rattle.words.specs.Lists.{every, count, first}
 use Rattle.frame.specs.Identifier.{sourceOf, dgnOf}
 use Rattle.frame.specs.Frame.{frameBytes}
 use Rattle.frame.specs.Standard.{Frame, greatestAddress}
-use Rattle.frame.specs.declared.BadFrame.the-variants.{IdentifierTooLarge, NotEightBytes, ReservedBitSet, SourceNotAllowed}
+use Rattle.frame.specs.declared.BadFrame.the-variants.{IdentifierTooLarge, NotEightBytes, ReservedBitSet}
+use Rattle.frame.specs.declared.BadFrame.the-variants.{SourceNotAllowed}
 use Rattle.words.proofs.Words.{by-test, both-true}
 use Rattle.places.specs.Format.{Format, fixed, opens, finishes, goes, ends}
 use Rattle.places.specs.OneKey.{pauseAlone}
 use Rattle.places.specs.Places.{free, Out, said, placeCount, rest, closes}
 use Rattle.places.specs.Layout.{stretch, AgreeBut, openBy, seat, view, oneEach}
-use Rattle.places.specs.Receiver.{Shows}
 use Rattle.places.specs.Statements.{isOpening}
 use Rattle.words.specs.declared.Found.{Found}
 use Rattle.words.specs.declared.Found.the-variants.{At, Nowhere}
 use Rattle.words.proofs.Lists.{found-at, every-at, every-set, every-map}
 use Rattle.places.proofs.Stretch.{stretch-same, stretch-other}
 use Rattle.places.proofs.View.{one-each-view, length-view, blank-view, view-pass, view-closes}
-use Rattle.places.proofs.Receiver.{shows-fixed, shows-opens-held, shows-opens-free, shows-finishes-held, shows-finishes-free, shows-full, shows-feeds-nowhere, shows-feeds-goes, shows-feeds-ends, shows-keeps, pass-keeps}
-use Rattle.fast.specs.FastPacket.{greatestSequence, firstBytes, longest, offsetOf, lastFrame, neededFirst, needed, idleLimit, pairOf, Meaning, other, begins, continues, meaningOf}
+use Rattle.places.proofs.Receiver.{Shows, shows-fixed, shows-opens-held, shows-opens-free, shows-finishes-held}
+use Rattle.places.proofs.Receiver.{shows-finishes-free, shows-full, shows-feeds-nowhere, shows-feeds-goes}
+use Rattle.places.proofs.Receiver.{shows-feeds-ends, shows-keeps, pass-keeps}
+use Rattle.fast.specs.FastPacket.{greatestSequence, firstBytes, longest, offsetOf, lastFrame, neededFirst, needed}
+use Rattle.fast.specs.FastPacket.{idleLimit, pairOf, Meaning, other, begins, continues, meaningOf}
 use Rattle.fast.specs.Names.{isNamed, isWellFormed}
 use Rattle.fast.specs.OnePair as OnePair
-use Rattle.fast.specs.OnePair.{Open, Part, Tells, begunBy, joined, expectingNext, fedBy, waits, asksBy, fastPackets}
+use Rattle.fast.specs.OnePair.{Open, Part, Tells, begunBy, joined, expectingNext, fedBy, waits, asksBy}
+use Rattle.fast.specs.OnePair.{fastPackets}
 use Rattle.fast.specs.Receiver as Eight
-use Rattle.fast.specs.Receiver.{room, freePlace, isFree, openMessage, layout, isOpenBy, namesOf, isZero, placeKeepsRules, keepsRules, Outcome, After, leaves, holding, placing, placeFor, newPlace, firstKept, entersAt, keptAt, expecting, advanced, frameAt, byMeaning, heard, idled, pausedState, pausedAnswer}
+use Rattle.fast.specs.Receiver.{room, freePlace, isFree, openMessage, layout, isOpenBy, namesOf, isZero}
+use Rattle.fast.specs.Receiver.{placeKeepsRules, keepsRules, Outcome, After, leaves, holding, placing, placeFor}
+use Rattle.fast.specs.Receiver.{newPlace, firstKept, entersAt, keptAt, expecting, advanced, frameAt, byMeaning}
+use Rattle.fast.specs.Receiver.{heard, idled, pausedState, pausedAnswer}
 use Rattle.fast.specs.Promises.{toldAnswer, naming, partOf, messageIn}
-use Rattle.fast.specs.Calls.{Held, Starts, Keeps, tells, Hears, Pauses, openIn, EveryListStarts, FastKeepsPlaces, FastPausesAdd}
+use Rattle.fast.specs.Calls.{Held, Starts, Keeps, tells, Hears, Pauses, openIn, EveryListStarts, FastKeepsPlaces}
+use Rattle.fast.specs.Calls.{FastPausesAdd}
 use Rattle.fast.specs.declared.Place.{Place}
 use Rattle.fast.specs.declared.Receiver.{Receiver}
 use Rattle.fast.specs.declared.Answer.{Answer}
-use Rattle.fast.specs.declared.Answer.the-variants.{BadFrame, MalformedLength, NoPlaceFree, NoOpenMessage, UnexpectedFrame, NothingToDo, Opened, Stored, Finished}
+use Rattle.fast.specs.declared.Answer.the-variants.{BadFrame, MalformedLength, NoPlaceFree, NoOpenMessage}
+use Rattle.fast.specs.declared.Answer.the-variants.{UnexpectedFrame, NothingToDo, Opened, Stored, Finished}
 use Rattle.fast.specs.declared.Pausing.the-variants as Pausing
-use Rattle.fast.proofs.Steps.{found-below, Takes, its-own, a-free-one, place-for-at, place-for-nowhere, begins-at, begins-nowhere, entered-short, entered-long, advanced-last, advanced-next, frame-expected, frame-other-sequence, frame-other-number, continues-at, continues-nowhere, rules-of, keeps-rules, all-allowed, OpenRules, open-rules, rules-open, rules-at, heard-kept}
+use Rattle.fast.proofs.Steps.{found-below, Takes, its-own, a-free-one, place-for-at, place-for-nowhere}
+use Rattle.fast.proofs.Steps.{begins-at, begins-nowhere, entered-short, entered-long, advanced-last}
+use Rattle.fast.proofs.Steps.{advanced-next, frame-expected, frame-other-sequence, frame-other-number}
+use Rattle.fast.proofs.Steps.{continues-at, continues-nowhere, rules-of, keeps-rules, all-allowed, OpenRules}
+use Rattle.fast.proofs.Steps.{open-rules, rules-open, rules-at, heard-kept}
 use Rattle.fast.proofs.Frames.{Known, meaning-known}
 use Rattle.fast.proofs.Laws.{named-so, free-keeps-rules, naming-keeps-rules}
 
@@ -178,7 +192,9 @@ module _ (f : Frame) (r : Receiver) (s : List ℕ) (eight : length (r .places) �
   module _ (sender dgn sequence size : ℕ) (by : key ≡ pairOf sender dgn) (eightBytes : length (f .bytes) ≡ frameBytes)
       (about : isNamed dgn names ≡ true) (from : sender ≤ greatestAddress) (numbered : sequence ≤ greatestSequence)
       (some-bytes : 1 ≤ size) (short : size ≤ longest)
-      (asked : format .asks f ≡ asksBy (gives (begins sender dgn sequence size)) (f .bytes)) where
+      (asked : format .asks f
+      ≡ asksBy (gives (begins (record { sender = sender; dgn = dgn; sequence = sequence; size = size })))
+      (f .bytes)) where
     abbrev new : Place
     new = newPlace sender dgn sequence size
 
@@ -197,7 +213,7 @@ module _ (f : Frame) (r : Receiver) (s : List ℕ) (eight : length (r .places) �
     -- of six bytes or fewer: it finishes at once, in the pair's place or the lowest free one
     module _ (few : size ≤ firstBytes) where
       abbrev told : Told Tells
-      told = gives (OnePair.finished sender dgn (take size six))
+      told = gives (OnePair.finished (record { sender = sender; dgn = dgn; bytes = take size six }))
 
       asks-finishes : format .asks f ≡ finishes told
       asks-finishes = asked ∙ rw (le-leb _ _ few)
@@ -319,7 +335,7 @@ module _ (f : Frame) (r : Receiver) (s : List ℕ) (eight : length (r .places) �
         (λ t. finished-free (leb-true _ _ t) j n e)
         (λ t. opened-free (leb-false _ _ t) j n e)
 
-    begun : Agrees (Eight.begins new (f .bytes) r s)
+    begun : Agrees (Eight.hearsFirst new (f .bytes) r s)
     begun = go (placeFor (pairOf sender dgn) ps) refl
       where
         opening : isOpening (format .asks f) ≡ true
@@ -328,7 +344,7 @@ module _ (f : Frame) (r : Receiver) (s : List ℕ) (eight : length (r .places) �
             (λ t. rw (asks-finishes (leb-true _ _ t)))
             (λ t. rw (asks-opens (leb-false _ _ t)))
 
-        go : (g : Found) → placeFor (pairOf sender dgn) ps ≡ g → Agrees (Eight.begins new (f .bytes) r s)
+        go : (g : Found) → placeFor (pairOf sender dgn) ps ≡ g → Agrees (Eight.hearsFirst new (f .bytes) r s)
         go (At j) e =
             subst⁻¹ Agrees (begins-at new (f .bytes) r s j e) (entering j (place-for-at (pairOf sender dgn) ps j e))
         go Nowhere e =
@@ -344,7 +360,9 @@ module _ (f : Frame) (r : Receiver) (s : List ℕ) (eight : length (r .places) �
 
   -- a later frame
   module _ (sender dgn sequence number : ℕ) (by : key ≡ pairOf sender dgn) (eightBytes : length (f .bytes) ≡ frameBytes)
-      (asks : format .asks f ≡ asksBy (gives (continues sender dgn sequence number)) (f .bytes)) where
+      (asks : format .asks f
+      ≡ asksBy (gives (continues (record { sender = sender; dgn = dgn; sequence = sequence; number = number })))
+      (f .bytes)) where
     abbrev seven : List ℕ
     seven = drop 1 (f .bytes)
 
@@ -429,7 +447,8 @@ module _ (f : Frame) (r : Receiver) (s : List ℕ) (eight : length (r .places) �
           rw (not-free p (omega (arith, here .long)), eq-eqb (pairOf (p .sender) (p .dgn)) key (of-the-pair ∙ sym by))
 
       last : sequence ≡ p .sequence → number ≡ p .expected → p .expected ≡ lastFrame (p .length)
-          → fedBy m part ≡ ends (gives (OnePair.finished (p .sender) (p .dgn) (joined m seven)))
+          → fedBy m part
+          ≡ ends (gives (OnePair.finished (record { sender = p .sender; dgn = p .dgn; bytes = joined m seven })))
       last q n u = rw (eq-eqb _ _ q, eq-eqb _ _ n, eq-eqb _ _ u)
 
       next : sequence ≡ p .sequence → number ≡ p .expected → p .expected ≢ lastFrame (p .length)
@@ -446,10 +465,10 @@ module _ (f : Frame) (r : Receiver) (s : List ℕ) (eight : length (r .places) �
                 subst⁻¹
                 (λ (l : List ℕ).
                 Shows format layout f ps s (set ps j freePlace) t
-                (said (gives (OnePair.finished (p .sender) (p .dgn) l))))
+                (said (gives (OnePair.finished (record { sender = p .sender; dgn = p .dgn; bytes = l })))))
                 (whole-message u)
                 (shows-feeds-ends format layout f ps s part (refused 9)
-                (gives (OnePair.finished (p .sender) (p .dgn) (joined m seven)))
+                (gives (OnePair.finished (record { sender = p .sender; dgn = p .dgn; bytes = joined m seven })))
                 j freePlace freePlace t asks (sought (At j) e) (last q n u) refl others);
             rules = freed j;
             long = length-kept;
@@ -507,11 +526,11 @@ module _ (f : Frame) (r : Receiver) (s : List ℕ) (eight : length (r .places) �
           (frame-other-sequence j p r s sequence number (f .bytes) (eqb-false sequence (p .sequence) t))
           (closed (rw t)))
 
-    continued : Agrees (Eight.continues (pairOf sender dgn) sequence number (f .bytes) r s)
+    continued : Agrees (Eight.hearsLater (pairOf sender dgn) sequence number (f .bytes) r s)
     continued = go (first (isOpenBy (pairOf sender dgn)) ps) refl
       where
         go : (g : Found) → first (isOpenBy (pairOf sender dgn)) ps ≡ g
-            → Agrees (Eight.continues (pairOf sender dgn) sequence number (f .bytes) r s)
+            → Agrees (Eight.hearsLater (pairOf sender dgn) sequence number (f .bytes) r s)
         go (At j) e =
             subst⁻¹ Agrees (continues-at (pairOf sender dgn) sequence number (f .bytes) r s j e) (at-place j e)
         go Nowhere e =
@@ -548,16 +567,16 @@ module _ (f : Frame) (r : Receiver) (s : List ℕ) (eight : length (r .places) �
       go (gives other) e k =
           rw e
           (kept (gives Eight.nothingToDo) (gives OnePair.nothingToDo) (asked (gives other) e) refl (NothingToDo, refl))
-      go (gives (begins sender dgn sequence size)) e k =
+      go (gives (begins m)) e k =
           let h = rw e at k in
           rw e
-          (begun sender dgn sequence size (pair sender dgn (h .0) (h .1)) (h .2) (h .3) (h .4) (h .5) (h .6) (h .7)
-          (asked (gives (begins sender dgn sequence size)) e))
-      go (gives (continues sender dgn sequence number)) e k =
+          (begun (m .sender) (m .dgn) (m .sequence) (m .size) (pair (m .sender) (m .dgn) (h .0) (h .1))
+          (h .2) (h .3) (h .4) (h .5) (h .6) (h .7) (asked (gives (begins m)) e))
+      go (gives (continues l)) e k =
           let h = rw e at k in
           rw e
-          (continued sender dgn sequence number (pair sender dgn (h .0) (h .1)) (h .2)
-          (asked (gives (continues sender dgn sequence number)) e))
+          (continued (l .sender) (l .dgn) (l .sequence) (l .number) (pair (l .sender) (l .dgn) (h .0) (h .1)) (h .2)
+          (asked (gives (continues l)) e))
 
 -- a pause at one place
 
@@ -806,15 +825,15 @@ never e = let y : _≡_ {A = ℕ} 0 1 = cc in absurd (omega arith)
 opens-within : (t : Told Meaning) (bytes : List ℕ) (m : Open) (a : Told Tells) → asksBy t bytes ≡ opens m a → Within m
 opens-within (refused n) bytes m a e = let y : _≡_ {A = ℕ} 0 1 = cc in absurd (omega arith)
 opens-within (gives other) bytes m a e = let y : _≡_ {A = ℕ} 0 1 = cc in absurd (omega arith)
-opens-within (gives (begins sender dgn sequence size)) bytes m a e =
-    by-test (size ≤? firstBytes)
+opens-within (gives (begins n)) bytes m a e =
+    by-test (n .size ≤? firstBytes)
     (λ t. let z = rw t at e in let y : _≡_ {A = ℕ} 0 1 = cc in absurd (omega arith))
     (λ t.
     let z = rw t at e in
-    let y : begunBy sender dgn sequence size (take firstBytes (drop 2 bytes)) ≡ m = cc in
+    let y : begunBy (n .sender) (n .dgn) (n .sequence) (n .size) (take firstBytes (drop 2 bytes)) ≡ m = cc in
     let x : 0 ≡ m .idle = ap (λ (o : Open). o .idle) y in
     omega arith)
-opens-within (gives (continues sender dgn sequence number)) bytes m a e =
+opens-within (gives (continues f)) bytes m a e =
     let y : _≡_ {A = ℕ} 0 1 = cc in absurd (omega arith)
 
 goes-to : {m n : Open} {a b : Told Tells} → goes m a ≡ goes n b → m ≡ n

@@ -7,44 +7,63 @@ use mathlib.Core.Logic.{_≢_, _⊎_, inl, inr}
 use Prim.Native.Nat.{ℕ, zero, suc, _+_, _-_, _*_, _≤_, _<_}
 use native.Mathlib.Nat.{le-of-suc-le-suc, not-suc-le-zero}
 use native.Mathlib.Omega.{arith}
-use borrow.Author.Tests.{eqb-true, eqb-false, leb-true, leb-false, ltb-true, ltb-false, not-true, eq-eqb, ne-eqb, le-leb, lt-leb}
+use borrow.Author.Tests.{eqb-true, eqb-false, leb-true, leb-false, ltb-true, ltb-false, not-true, eq-eqb, ne-eqb}
+use borrow.Author.Tests.{le-leb, lt-leb}
 use lib.ListN.{List·getD-append, length, take, drop, getD, length-drop, length-take}
 use lib.Seq.{paste, getD-take, getD-drop, getD-append-add, take-paste, drop-paste, take-append-seam}
 use Rattle.words.specs.Words.{if_then_else_, _=?_, _<?_, _≤?_, _and_, bits, Told, refused, gives, numberIn}
-use Rattle.words.specs.Lists.{every, count, first}
+use Rattle.words.specs.Lists.{every, count, first, Distinct}
 use Rattle.frame.specs.Identifier.{greatestDgn}
 use Rattle.frame.specs.Standard.{announcementDgn, packetDgn}
 use Rattle.frame.specs.Frame.{frameBytes}
 use Rattle.frame.specs.Promises.{refusalOf}
 use Rattle.frame.specs.declared.BadFrame as Frames
-use Rattle.frame.specs.declared.BadFrame.the-variants.{IdentifierTooLarge, NotEightBytes, ReservedBitSet, SourceNotAllowed}
+use Rattle.frame.specs.declared.BadFrame.the-variants.{IdentifierTooLarge, NotEightBytes, ReservedBitSet}
+use Rattle.frame.specs.declared.BadFrame.the-variants.{SourceNotAllowed}
 use Rattle.words.proofs.Words.{by-test, both-true, true-false}
 use Rattle.words.proofs.Tests.{tests}
 use Rattle.frame.proofs.Laws.{badBack, bad-back}
 use Rattle.places.specs.Places.{placeCount}
 use Rattle.words.specs.declared.Found.{Found}
 use Rattle.words.specs.declared.Found.the-variants.{At, Nowhere}
-use Rattle.words.proofs.Lists.{every-at, every-replicate}
-use Rattle.fast.specs.FastPacket.{greatestSequence, firstBytes, longest, offsetOf, lastFrame, neededFirst, needed, pairOf, frameNumberOf, byteAt, Meaning, other, begins, continues, begun, carried, meaningOf}
-use Rattle.fast.specs.Names.{mostNamed, mayBeNamed, isNamed, noneTwice, isWellFormed, padded}
-use Rattle.fast.specs.Receiver.{room, freePlace, isOpenBy, namesOf, isZero, placeKeepsRules, keepsRules, Outcome, nothingToDo, opened, stored, finished, After, leaves, placing, placeFor, newPlace, firstKept, keptAt, frameAt, byMeaning, heard, pausedState, pausedAnswer}
+use Rattle.words.proofs.Lists.{every-at, every-replicate, distinct-cons, distinct-head, distinct-tail}
+use Rattle.fast.specs.FastPacket.{greatestSequence, firstBytes, longest, offsetOf, lastFrame, neededFirst, needed}
+use Rattle.fast.specs.FastPacket.{pairOf, frameNumberOf, byteAt, Meaning, other, NewMessage, LaterFrame, begins}
+use Rattle.fast.specs.FastPacket.{continues, begun, carried, meaningOf}
+use Rattle.fast.specs.Names.{mostNamed, mayBeNamed, isNamed, isWellFormed}
+use Rattle.fast.specs.Receiver.{room, freePlace, isOpenBy, namesOf, isZero, placeKeepsRules, keepsRules, Outcome}
+use Rattle.fast.specs.Receiver.{nothingToDo, opened, stored, finished, After, leaves, placing, placeFor, newPlace}
+use Rattle.fast.specs.Receiver.{firstKept, keptAt, frameAt, byMeaning, heard, pausedState, pausedAnswer}
 use Rattle.fast.specs.Receiver as Receiver
 use Rattle.fast.specs.Splitter.{refusalIn, frameBytesOf, frameOf}
-use Rattle.fast.specs.Promises.{startingNumber, toldAnswer, toldPausing, cuttingNumber, naming, namingNone, bytesIn}
-use Rattle.fast.specs.Laws.{StartingNumberSame, ToldAnswerSame, ToldPausingSame, CuttingNumberSame, StartOnly, HearOnly, PauseOnly, MessageOnly, FrameOfOnly, StartingRefusalOnly, AnswerRefusalOnly, PausingRefusalOnly, CuttingRefusalOnly, PairSame, FirstByteRead, FramesNeeded, NamedWhen, StartNames, StartRefusedKeeps, RefusedKeeps, OutOfTurn, ClosedAt, TenCloses, PauseRefusedKeeps, LowestWins, ItsOwn, WritesFrameZero, WritesTheFrame, WritesItsOwn, NotBeyond, SplitterCuts}
+use Rattle.fast.specs.Promises.{startingNumber, toldAnswer, toldPausing, splittingNumber, naming, namingNone}
+use Rattle.fast.specs.Promises.{bytesIn}
+use Rattle.fast.specs.Laws.{StartingNumberSame, ToldAnswerSame, ToldPausingSame, SplittingNumberSame, StartOnly}
+use Rattle.fast.specs.Laws.{HearOnly, PauseOnly, MessageOnly, FrameOfOnly, StartingRefusalOnly, AnswerRefusalOnly}
+use Rattle.fast.specs.Laws.{PausingRefusalOnly, SplittingRefusalOnly, PairSame, FirstByteRead, FramesNeeded}
+use Rattle.fast.specs.Laws.{NamedWhen, StartNames, StartRefusedKeeps, RefusedKeeps, OutOfTurn, ClosedAt}
+use Rattle.fast.specs.Laws.{TenCloses, PauseRefusedKeeps, LowestWins, ItsOwn, WritesFrameZero, WritesTheFrame}
+use Rattle.fast.specs.Laws.{WritesItsOwn, NotBeyond, SplitterSplits}
 use Rattle.fast.specs.declared.Place.{Place}
 use Rattle.fast.specs.declared.Receiver.{Receiver}
 use Rattle.fast.specs.declared.Starting.{Starting}
 use Rattle.fast.specs.declared.Starting.the-variants as Starting
 use Rattle.fast.specs.declared.Answer.{Answer}
-use Rattle.fast.specs.declared.Answer.the-variants.{StorageTooShort, BrokenState, BadFrame, MalformedLength, NoPlaceFree, NoOpenMessage, UnexpectedFrame, NothingToDo, Opened, Stored, Finished}
+use Rattle.fast.specs.declared.Answer.the-variants.{StorageTooShort, BrokenState, BadFrame, MalformedLength}
+use Rattle.fast.specs.declared.Answer.the-variants.{NoPlaceFree, NoOpenMessage, UnexpectedFrame, NothingToDo}
+use Rattle.fast.specs.declared.Answer.the-variants.{Opened, Stored, Finished}
 use Rattle.fast.specs.declared.Pausing.{Pausing}
 use Rattle.fast.specs.declared.Pausing.the-variants as Pausing
-use Rattle.fast.specs.declared.Cutting.{Cutting}
-use Rattle.fast.specs.declared.Cutting.the-variants as Cutting
-use Rattle.fast.proofs.Cuts.{frame-given}
+use Rattle.fast.specs.declared.Splitting.{Splitting}
+use Rattle.fast.specs.declared.Splitting.the-variants as Splitting
+use Rattle.fast.proofs.Splits.{frame-given}
 use Rattle.fast.proofs.Frames.{Known, meaning-known}
-use Rattle.fast.proofs.Steps.{found-below, place-for-below, begins-at, begins-nowhere, entered-short, entered-long, entered-storage, advanced-last, advanced-next, advanced-storage, frame-expected, frame-other-sequence, frame-other-number, continues-at, continues-nowhere, rules-of, keeps-rules, all-allowed, OpenRules, rules-at, heard-short, heard-broken, heard-kept, meaning-refused, meaning-given, meant-other, meant-carried}
+use Rattle.fast.proofs.Steps.{found-below, place-for-below, begins-at, begins-nowhere, entered-short}
+use Rattle.fast.proofs.Steps.{entered-long, entered-storage, advanced-last, advanced-next, advanced-storage}
+use Rattle.fast.proofs.Steps.{frame-expected, frame-other-sequence, frame-other-number, continues-at}
+use Rattle.fast.proofs.Steps.{continues-nowhere, rules-of, keeps-rules, all-allowed, OpenRules, rules-at}
+use Rattle.fast.proofs.Steps.{heard-short, heard-broken, heard-kept, meaning-refused, meaning-given, meant-other}
+use Rattle.fast.proofs.Steps.{meant-carried}
 
 -- an answer is read back from what it tells
 
@@ -71,7 +90,7 @@ answerBack (refused n) =
 answerBack (gives nothingToDo) = NothingToDo
 answerBack (gives opened) = Opened
 answerBack (gives stored) = Stored
-answerBack (gives (finished place sender dgn size)) = Finished place sender dgn size
+answerBack (gives (finished m)) = Finished (m .place) (m .sender) (m .dgn) (m .size)
 
 bad-answer : (w : Frames.BadFrame) → answerBack (refused (refusalOf w)) ≡ BadFrame w
 unfolding answerBack
@@ -109,22 +128,22 @@ pausing-back Pausing.BrokenState = refl
 pub told-pausing-same : ToldPausingSame
 told-pausing-same r s e = sym (pausing-back r) ∙ ap pausingBack e ∙ pausing-back s
 
-cuttingBack : ℕ → Cutting
-cuttingBack n =
-    if n =? 0 then Cutting.Bytes else
-    if n =? 12 then Cutting.SequenceTooLarge else
-    if n =? 13 then Cutting.LengthNotSplit else
-    Cutting.NoSuchFrame
+splittingBack : ℕ → Splitting
+splittingBack n =
+    if n =? 0 then Splitting.Bytes else
+    if n =? 12 then Splitting.NoCode else
+    if n =? 13 then Splitting.LengthNotSplit else
+    Splitting.NoSuchFrame
 
-cutting-back : (r : Cutting) → cuttingBack (cuttingNumber r) ≡ r
-unfolding cuttingBack
-cutting-back Cutting.Bytes = refl
-cutting-back Cutting.SequenceTooLarge = refl
-cutting-back Cutting.LengthNotSplit = refl
-cutting-back Cutting.NoSuchFrame = refl
+splitting-back : (r : Splitting) → splittingBack (splittingNumber r) ≡ r
+unfolding splittingBack
+splitting-back Splitting.Bytes = refl
+splitting-back Splitting.NoCode = refl
+splitting-back Splitting.LengthNotSplit = refl
+splitting-back Splitting.NoSuchFrame = refl
 
-pub cutting-number-same : CuttingNumberSame
-cutting-number-same r s e = sym (cutting-back r) ∙ ap cuttingBack e ∙ cutting-back s
+pub splitting-number-same : SplittingNumberSame
+splitting-number-same r s e = sym (splitting-back r) ∙ ap splittingBack e ∙ splitting-back s
 
 -- no second answer
 
@@ -151,7 +170,7 @@ message-only storage answer r s p q = p .bytes ∙ sym (q .bytes)
 
 pub frame-of-only : FrameOfOnly
 frame-of-only message sequence number r s p q =
-    let a = cutting-number-same (r .answer) (s .answer) (p .number ∙ sym (q .number)) in
+    let a = splitting-number-same (r .answer) (s .answer) (p .number ∙ sym (q .number)) in
     let b = p .bytes ∙ sym (q .bytes) in
     λ i. record { answer = a i; bytes = b i }
 
@@ -164,8 +183,8 @@ answer-refusal-only answer r s p q = p .number ∙ sym (q .number)
 pub pausing-refusal-only : PausingRefusalOnly
 pausing-refusal-only answer r s p q = p .number ∙ sym (q .number)
 
-pub cutting-refusal-only : CuttingRefusalOnly
-cutting-refusal-only answer r s p q = p .number ∙ sym (q .number)
+pub splitting-refusal-only : SplittingRefusalOnly
+splitting-refusal-only answer r s p q = p .number ∙ sym (q .number)
 
 -- the numbers of a pair, of a first byte, and of the last frame
 
@@ -217,42 +236,38 @@ every-by f (name ∷ names) k =
 
 named-at : (names : List ℕ) (dgn j : ℕ) → j < length names → dgn ≡ getD names j 0 → isNamed dgn names ≡ true
 named-at [] dgn j h e = absurd (not-suc-le-zero h)
-named-at (name ∷ names) dgn zero h e = rw (eq-eqb name dgn (sym e))
+named-at (name ∷ names) dgn zero h e = rw (eq-eqb dgn name e)
 named-at (name ∷ names) dgn (suc j) h e =
-    by-test (name =? dgn) (λ t. rw t) (λ t. rw (t, named-at names dgn j (le-of-suc-le-suc h) e))
+    by-test (dgn =? name) (λ t. rw t) (λ t. rw (t, named-at names dgn j (le-of-suc-le-suc h) e))
 
 not-named : (names : List ℕ) (dgn : ℕ) → ((j : ℕ) → j < length names → dgn ≢ getD names j 0) → isNamed dgn names ≡ false
 not-named [] dgn k = refl
 not-named (name ∷ names) dgn k =
-    rw (ne-eqb name dgn (λ e. k 0 (omega arith) (sym e)), not-named names dgn (λ j h. k (suc j) (omega arith)))
+    rw (ne-eqb dgn name (k 0 (omega arith)), not-named names dgn (λ j h. k (suc j) (omega arith)))
 
-none-twice-at : (names : List ℕ) → noneTwice names ≡ true
+none-twice-at : (names : List ℕ) → Distinct names
     → (i j : ℕ) → i < j → j < length names → getD names i 0 ≢ getD names j 0
-unfolding noneTwice
 none-twice-at [] t i j l h e = not-suc-le-zero h
 none-twice-at (name ∷ names) t i zero l h e = not-suc-le-zero l
 none-twice-at (name ∷ names) t zero (suc j) l h e =
     true-false
-    (sym (named-at names name j (le-of-suc-le-suc h) e)
-    ∙ not-true (isNamed name names) (both-true (not (isNamed name names)) _ t .0))
+    (sym (named-at names name j (le-of-suc-le-suc h) e) ∙ distinct-head name names t)
 none-twice-at (name ∷ names) t (suc i) (suc j) l h e =
-    none-twice-at names (both-true (not (isNamed name names)) _ t .1) i j (le-of-suc-le-suc l) (le-of-suc-le-suc h) e
+    none-twice-at names (distinct-tail name names t) i j (le-of-suc-le-suc l) (le-of-suc-le-suc h) e
 
 none-twice-by : (names : List ℕ) → ((i j : ℕ) → i < j → j < length names → getD names i 0 ≢ getD names j 0)
-    → noneTwice names ≡ true
-unfolding noneTwice
+    → Distinct names
 none-twice-by [] k = refl
 none-twice-by (name ∷ names) k =
-    rw (
-      not-named names name (λ j h. k 0 (suc j) (omega arith) (omega arith)),
-      none-twice-by names (λ i j l h. k (suc i) (suc j) (omega arith) (omega arith)),
-    )
+    distinct-cons name names
+    (not-named names name (λ j h. k 0 (suc j) (omega arith) (omega arith)))
+    (none-twice-by names (λ i j l h. k (suc i) (suc j) (omega arith) (omega arith)))
 
 -- a list that a start takes
 record WellFormed (names : List ℕ) : Type 0 where
   few : length names ≤ mostNamed
   allowed : every mayBeNamed names ≡ true
-  different : noneTwice names ≡ true
+  different : Distinct names
 
 well-formed : (names : List ℕ) → isWellFormed names ≡ true → WellFormed names
 unfolding isWellFormed
@@ -268,7 +283,6 @@ well-formed-by names w = rw (le-leb _ _ (w .few), w .allowed, w .different)
 -- a receiver at the start names those DGNs, and keeps its rules
 
 pub named-so : (names : List ℕ) → namesOf (naming names) ≡ names
-unfolding padded
 named-so names = take-append-seam names _
 
 pub free-keeps-rules : (names : List ℕ) → placeKeepsRules names freePlace ≡ true
@@ -326,32 +340,35 @@ start-refused-keeps names r p k =
 data Left (id : ℕ) (bytes : List ℕ) (r : Receiver) (s : List ℕ) : After → Type 0 where
   refuses : {n : ℕ} → n ≢ 10 → Left id bytes r s (leaves r s (refused n))
   passes : Left id bytes r s (leaves r s (gives nothingToDo))
-  enters : {sender dgn sequence size i : ℕ} {q : Receiver} {o : Outcome}
-      → meaningOf (namesOf r) id bytes ≡ gives (begins sender dgn sequence size)
-      → placeFor (pairOf sender dgn) (r .places) ≡ At i → room ≤ length s → length bytes ≡ frameBytes
-      → Left id bytes r s (leaves q (firstKept i (newPlace sender dgn sequence size) bytes s) (gives o))
-  closes : {sender dgn sequence number i : ℕ}
-      → meaningOf (namesOf r) id bytes ≡ gives (continues sender dgn sequence number)
-      → first (isOpenBy (pairOf sender dgn)) (r .places) ≡ At i → OutOfTurn r i sequence number
+  enters : {n : NewMessage} {i : ℕ} {q : Receiver} {o : Outcome}
+      → meaningOf (namesOf r) id bytes ≡ gives (begins n)
+      → placeFor (pairOf (n .sender) (n .dgn)) (r .places) ≡ At i → room ≤ length s → length bytes ≡ frameBytes
+      → Left id bytes r s
+      (leaves q (firstKept i (newPlace (n .sender) (n .dgn) (n .sequence) (n .size)) bytes s) (gives o))
+  closes : {l : LaterFrame} {i : ℕ}
+      → meaningOf (namesOf r) id bytes ≡ gives (continues l)
+      → first (isOpenBy (pairOf (l .sender) (l .dgn))) (r .places) ≡ At i → OutOfTurn r i (l .sequence) (l .number)
       → Left id bytes r s (leaves (placing r i freePlace) s (refused 10))
-  stores : {sender dgn sequence number i : ℕ} {q : Receiver} {o : Outcome}
-      → meaningOf (namesOf r) id bytes ≡ gives (continues sender dgn sequence number)
-      → first (isOpenBy (pairOf sender dgn)) (r .places) ≡ At i → number ≡ getD (r .places) i freePlace .expected
+  stores : {l : LaterFrame} {i : ℕ} {q : Receiver} {o : Outcome}
+      → meaningOf (namesOf r) id bytes ≡ gives (continues l)
+      → first (isOpenBy (pairOf (l .sender) (l .dgn))) (r .places) ≡ At i
+      → l .number ≡ getD (r .places) i freePlace .expected
       → OpenRules (namesOf r) (getD (r .places) i freePlace) → room ≤ length s → length bytes ≡ frameBytes
       → Left id bytes r s (leaves q (keptAt i (getD (r .places) i freePlace) bytes s) (gives o))
 
 module _ (id : ℕ) (bytes : List ℕ) (r : Receiver) (s : List ℕ) where
   begins-left : (sender dgn sequence size : ℕ)
-      → meaningOf (namesOf r) id bytes ≡ gives (begins sender dgn sequence size)
+      → meaningOf (namesOf r) id bytes
+      ≡ gives (begins (record { sender = sender; dgn = dgn; sequence = sequence; size = size }))
       → room ≤ length s → length bytes ≡ frameBytes
-      → Left id bytes r s (Receiver.begins (newPlace sender dgn sequence size) bytes r s)
+      → Left id bytes r s (Receiver.hearsFirst (newPlace sender dgn sequence size) bytes r s)
   begins-left sender dgn sequence size m enough l = go (placeFor (pairOf sender dgn) (r .places)) refl
     where
       p : Place
       p = newPlace sender dgn sequence size
 
       go : (g : Found) → placeFor (pairOf sender dgn) (r .places) ≡ g
-          → Left id bytes r s (Receiver.begins (newPlace sender dgn sequence size) bytes r s)
+          → Left id bytes r s (Receiver.hearsFirst (newPlace sender dgn sequence size) bytes r s)
       go (At i) e =
           subst⁻¹ (Left id bytes r s) (begins-at p bytes r s i e)
           (by-test (size ≤? firstBytes)
@@ -362,9 +379,10 @@ module _ (id : ℕ) (bytes : List ℕ) (r : Receiver) (s : List ℕ) where
       go Nowhere e = subst⁻¹ (Left id bytes r s) (begins-nowhere p bytes r s e) (refuses (λ x. omega arith))
 
   continues-left : (sender dgn sequence number : ℕ)
-      → meaningOf (namesOf r) id bytes ≡ gives (continues sender dgn sequence number)
+      → meaningOf (namesOf r) id bytes
+      ≡ gives (continues (record { sender = sender; dgn = dgn; sequence = sequence; number = number }))
       → keepsRules r ≡ true → room ≤ length s → length bytes ≡ frameBytes
-      → Left id bytes r s (Receiver.continues (pairOf sender dgn) sequence number bytes r s)
+      → Left id bytes r s (Receiver.hearsLater (pairOf sender dgn) sequence number bytes r s)
   continues-left sender dgn sequence number m v enough l = go (first (isOpenBy (pairOf sender dgn)) (r .places)) refl
     where
       at : (i : ℕ) → first (isOpenBy (pairOf sender dgn)) (r .places) ≡ At i
@@ -394,7 +412,7 @@ module _ (id : ℕ) (bytes : List ℕ) (r : Receiver) (s : List ℕ) where
           subst⁻¹ (Left id bytes r s) (frame-other-sequence i p r s sequence number bytes d) (closes m e (inl d)))
 
       go : (g : Found) → first (isOpenBy (pairOf sender dgn)) (r .places) ≡ g
-          → Left id bytes r s (Receiver.continues (pairOf sender dgn) sequence number bytes r s)
+          → Left id bytes r s (Receiver.hearsLater (pairOf sender dgn) sequence number bytes r s)
       go (At i) e =
           subst⁻¹ (Left id bytes r s) (continues-at (pairOf sender dgn) sequence number bytes r s i e) (at i e)
       go Nowhere e =
@@ -408,10 +426,10 @@ module _ (id : ℕ) (bytes : List ℕ) (r : Receiver) (s : List ℕ) where
       let x : n ≡ 10 → ⊥ = λ y. omega arith in
       refuses x
   meaning-left (gives other) e k v enough = passes
-  meaning-left (gives (begins sender dgn sequence size)) e k v enough =
-      begins-left sender dgn sequence size e enough (k .2)
-  meaning-left (gives (continues sender dgn sequence number)) e k v enough =
-      continues-left sender dgn sequence number e v enough (k .2)
+  meaning-left (gives (begins m)) e k v enough =
+      begins-left (m .sender) (m .dgn) (m .sequence) (m .size) e enough (k .2)
+  meaning-left (gives (continues f)) e k v enough =
+      continues-left (f .sender) (f .dgn) (f .sequence) (f .number) e v enough (k .2)
 
   -- what is known of a frame, in a state that keeps its rules
   known-of : keepsRules r ≡ true → Known (namesOf r) id bytes (meaningOf (namesOf r) id bytes)
@@ -455,14 +473,13 @@ ten-closes id bytes state s r exit h e =
   where
     go : (a : After) → Left id bytes state s a → a .answer ≡ refused 10
         → r .receiver ≡ a .receiver → exit ≡ a .storage
-        → (sender dgn sequence number i : ℕ)
-        × (meaningOf (namesOf state) id bytes ≡ gives (continues sender dgn sequence number))
-        × OutOfTurn state i sequence number × ClosedAt state s (r .receiver) exit (pairOf sender dgn) i
+        → (l : LaterFrame) × (i : ℕ) × (meaningOf (namesOf state) id bytes ≡ gives (continues l))
+        × OutOfTurn state i (l .sequence) (l .number)
+        × ClosedAt state s (r .receiver) exit (pairOf (l .sender) (l .dgn)) i
     go a (refuses x) y p q = absurd (x (refused-is y))
     go a passes y p q = given-refused y
     go a (enters m f enough b) y p q = given-refused y
-    go a (closes {sender = sender} {dgn = dgn} {sequence = sequence} {number = number} {i = i} m f o) y p q =
-        (sender, dgn, sequence, number, i, m, o, record { held = f; closed = p; kept = q })
+    go a (closes {l = l} {i = i} m f o) y p q = (l, i, m, o, record { held = f; closed = p; kept = q })
     go a (stores m f d o enough b) y p q = given-refused y
 
 pub pause-refused-keeps : PauseRefusedKeeps
@@ -567,11 +584,12 @@ frame-holds : (bytes : List ℕ) (p : Place) → length bytes ≡ frameBytes
 frame-holds bytes p b = rw length-drop (omega arith)
 
 pub writes-frame-zero : WritesFrameZero
-writes-frame-zero id bytes state s r exit sender dgn sequence size i k eight enough v h m f own =
-    let p = newPlace sender dgn sequence size in
+writes-frame-zero id bytes state s r exit n i k eight enough v h m f own =
+    let size = n .size in
+    let p = newPlace (n .sender) (n .dgn) (n .sequence) size in
     let kept = firstKept i p bytes s in
     let known = subst (Known (namesOf state) id bytes) m (known-of id bytes state s v) in
-    let below = place-for-below (pairOf sender dgn) (state .places) i eight f in
+    let below = place-for-below (pairOf (n .sender) (n .dgn)) (state .places) i eight f in
     let e = ap (λ (a : After). a .storage)
     (heard-kept id bytes state s enough v
     ∙ ap (λ (t : Told Meaning). byMeaning t bytes state s) m
@@ -607,18 +625,18 @@ writes-its-own id bytes state s r exit k eight h beside-first beside-later =
     go : (a : After) → Left id bytes state s a → getD (a .storage) k 0 ≡ getD s k 0
     go a (refuses x) = refl
     go a passes = refl
-    go a (enters {sender = sender} {dgn = dgn} {sequence = sequence} {size = size} {i = i} m f enough b) =
-        let below = place-for-below (pairOf sender dgn) (state .places) i eight f in
-        copy-keeps s (longest * i + 0) (drop 2 bytes) (neededFirst size) k
-        (first-stretch s i size below enough) (first-holds bytes size b)
-        (λ x y. beside-first sender dgn sequence size i m f (record { above = x; below = y }))
+    go a (enters {n = n} {i = i} m f enough b) =
+        let below = place-for-below (pairOf (n .sender) (n .dgn)) (state .places) i eight f in
+        copy-keeps s (longest * i + 0) (drop 2 bytes) (neededFirst (n .size)) k
+        (first-stretch s i (n .size) below enough) (first-holds bytes (n .size) b)
+        (λ x y. beside-first n i m f (record { above = x; below = y }))
     go a (closes m f o) = refl
-    go a (stores {sender = sender} {dgn = dgn} {sequence = sequence} {number = number} {i = i} m f d o enough b) =
+    go a (stores {l = l} {i = i} m f d o enough b) =
         let p = getD (state .places) i freePlace in
-        let below = found-below (isOpenBy (pairOf sender dgn)) (state .places) i eight f in
+        let below = found-below (isOpenBy (pairOf (l .sender) (l .dgn))) (state .places) i eight f in
         copy-keeps s (longest * i + offsetOf (p .expected)) (drop 1 bytes) (needed (p .length) (p .expected)) k
         (stretch-holds s i p below enough o) (frame-holds bytes p b)
-        (λ x y. beside-later sender dgn sequence number i m f
+        (λ x y. beside-later l i m f
         (subst⁻¹ (λ (n : ℕ). ItsOwn i (offsetOf n) (needed (p .length) n) k) d (record { above = x; below = y })))
 
 pub not-beyond : NotBeyond
@@ -647,13 +665,13 @@ module _ (size sequence number : ℕ) where
   refusal-none q l h n = search tests
 
 module _ (message : List ℕ) (sequence number : ℕ) where
-  cut-refused : refusalIn (length message) sequence number ≢ 0
+  split-refused : refusalIn (length message) sequence number ≢ 0
       → frameOf message sequence number ≡ refused (refusalIn (length message) sequence number)
   unfolding frameOf
-  cut-refused n = rw (ne-eqb (refusalIn (length message) sequence number) 0 n)
+  split-refused n = rw (ne-eqb (refusalIn (length message) sequence number) 0 n)
 
-pub splitter-cuts : SplitterCuts
-splitter-cuts message sequence number r p =
+pub splitter-splits : SplitterSplits
+splitter-splits message sequence number r p =
     let size = length message in
     record {
       twelve = λ q. refuses-by (refusal-twelve size sequence number q) (λ z. omega arith);
@@ -661,15 +679,15 @@ splitter-cuts message sequence number r p =
       fifteen = λ q l h n. refuses-by (refusal-fifteen size sequence number q l h n) (λ z. omega arith);
       zeros = λ x.
           let n : refusalIn size sequence number ≢ 0 = λ z. x (answers-bytes (frame-given message sequence number z)) in
-          p .bytes ∙ ap bytesIn (cut-refused message sequence number n);
+          p .bytes ∙ ap bytesIn (split-refused message sequence number n);
       given = λ q l h n.
           let g = frame-given message sequence number (refusal-none size sequence number q l h n) in
           (answers-bytes g, p .bytes ∙ ap bytesIn g);
     }
   where
-    refuses-by : {n : ℕ} → refusalIn (length message) sequence number ≡ n → n ≢ 0 → cuttingNumber (r .answer) ≡ n
-    refuses-by e z = p .number ∙ ap numberIn (cut-refused message sequence number (λ x. z (sym e ∙ x))) ∙ e
+    refuses-by : {n : ℕ} → refusalIn (length message) sequence number ≡ n → n ≢ 0 → splittingNumber (r .answer) ≡ n
+    refuses-by e z = p .number ∙ ap numberIn (split-refused message sequence number (λ x. z (sym e ∙ x))) ∙ e
 
     answers-bytes : frameOf message sequence number ≡ gives (frameBytesOf message sequence number)
-        → r .answer ≡ Cutting.Bytes
-    answers-bytes g = cutting-number-same (r .answer) Cutting.Bytes (p .number ∙ ap numberIn g)
+        → r .answer ≡ Splitting.Bytes
+    answers-bytes g = splitting-number-same (r .answer) Splitting.Bytes (p .number ∙ ap numberIn g)

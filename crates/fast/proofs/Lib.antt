@@ -1,5 +1,5 @@
 pub mod Dgns
-pub mod Cuts
+pub mod Splits
 pub mod Steps
 pub mod Frames
 pub mod Laws

@@ -6,7 +6,8 @@ use mathlib.Core.Bool.{Bool, true, false, not}
 use mathlib.Core.List.{List}
 use Prim.Native.Nat.{ℕ, _+_, _<_, _≤_}
 use native.Mathlib.Omega.{arith}
-use borrow.Author.Tests.{leb-true, ltb-true, eqb-true, eqb-false, not-true, eq-eqb, ne-eqb, lt-ltb, le-ltb, le-leb, lt-leb, leb-false}
+use borrow.Author.Tests.{leb-true, ltb-true, eqb-true, eqb-false, not-true, eq-eqb, ne-eqb, lt-ltb, le-ltb, le-leb}
+use borrow.Author.Tests.{lt-leb, leb-false}
 use lib.ListN.{length, getD}
 use Rattle.words.specs.Words.{_≤?_, _=?_, _<?_, _and_, Told, refused, gives}
 use Rattle.words.specs.Lists.{every, first}
@@ -18,9 +19,13 @@ use Rattle.places.specs.Layout.{oneEach}
 use Rattle.words.proofs.Lists.{found-at, every-at}
 use Rattle.words.specs.declared.Found.{Found}
 use Rattle.words.specs.declared.Found.the-variants.{At, Nowhere}
-use Rattle.fast.specs.FastPacket.{greatestSequence, firstBytes, longest, lastFrame, idleLimit, pairOf, other, carried, meant, meaningOf}
+use Rattle.fast.specs.FastPacket.{greatestSequence, firstBytes, longest, lastFrame, idleLimit, pairOf, other}
+use Rattle.fast.specs.FastPacket.{carried, meant, meaningOf}
 use Rattle.fast.specs.Names.{mostNamed, mayBeNamed, isNamed, isWellFormed}
-use Rattle.fast.specs.Receiver.{room, freePlace, isFree, isOpenBy, layout, namesOf, holdsNames, keepsLimits, placeKeepsRules, keepsRules, Outcome, opened, stored, finished, After, leaves, placing, placeFor, entered, entersAt, begins, keptAt, expecting, advanced, frameAt, continues, byMeaning, heard}
+use Rattle.fast.specs.Receiver.{room, freePlace, isFree, isOpenBy, layout, namesOf, holdsNames, keepsLimits}
+use Rattle.fast.specs.Receiver.{placeKeepsRules, keepsRules, Outcome, opened, stored, finished, wholeAt, After}
+use Rattle.fast.specs.Receiver.{leaves, placing, placeFor, entered, entersAt, hearsFirst, keptAt, expecting}
+use Rattle.fast.specs.Receiver.{advanced, frameAt, hearsLater, byMeaning, heard}
 use Rattle.fast.specs.Promises.{toldAnswer, LeftBy}
 use Rattle.fast.specs.Private.{Live}
 use Rattle.fast.specs.declared.Place.{Place}
@@ -81,18 +86,18 @@ place-for-below pair ps j h e = go (place-for-at pair ps j e)
 
 module _ (p : Place) (bytes : List ℕ) (r : Receiver) (s : List ℕ) where
   pub begins-at : (i : ℕ) → placeFor (pairOf (p .sender) (p .dgn)) (r .places) ≡ At i
-      → begins p bytes r s ≡ entersAt i p bytes r s
-  unfolding begins
+      → hearsFirst p bytes r s ≡ entersAt i p bytes r s
+  unfolding hearsFirst
   begins-at i e = rw e
 
   pub begins-nowhere : placeFor (pairOf (p .sender) (p .dgn)) (r .places) ≡ Nowhere
-      → begins p bytes r s ≡ leaves r s (refused 8)
-  unfolding begins
+      → hearsFirst p bytes r s ≡ leaves r s (refused 8)
+  unfolding hearsFirst
   begins-nowhere e = rw e
 
 module _ (i : ℕ) (p : Place) (r : Receiver) (s : List ℕ) where
   pub entered-short : p .length ≤ firstBytes
-      → entered i p r s ≡ leaves (placing r i freePlace) s (gives (finished i (p .sender) (p .dgn) (p .length)))
+      → entered i p r s ≡ leaves (placing r i freePlace) s (gives (finished (wholeAt i p)))
   unfolding entered
   entered-short h = rw (le-leb _ _ h)
 
@@ -111,7 +116,7 @@ module _ (i : ℕ) (p : Place) (r : Receiver) (s : List ℕ) where
 
 module _ (i : ℕ) (p : Place) (r : Receiver) (s : List ℕ) where
   pub advanced-last : p .expected ≡ lastFrame (p .length)
-      → advanced i p r s ≡ leaves (placing r i freePlace) s (gives (finished i (p .sender) (p .dgn) (p .length)))
+      → advanced i p r s ≡ leaves (placing r i freePlace) s (gives (finished (wholeAt i p)))
   unfolding advanced
   advanced-last e = rw (eq-eqb _ _ e)
 
@@ -144,13 +149,13 @@ module _ (i : ℕ) (p : Place) (r : Receiver) (s : List ℕ) where
 
 module _ (pair sequence number : ℕ) (bytes : List ℕ) (r : Receiver) (s : List ℕ) where
   pub continues-at : (i : ℕ) → first (isOpenBy pair) (r .places) ≡ At i
-      → continues pair sequence number bytes r s ≡ frameAt i (getD (r .places) i freePlace) sequence number bytes r s
-  unfolding continues
+      → hearsLater pair sequence number bytes r s ≡ frameAt i (getD (r .places) i freePlace) sequence number bytes r s
+  unfolding hearsLater
   continues-at i e = rw e
 
   pub continues-nowhere : first (isOpenBy pair) (r .places) ≡ Nowhere
-      → continues pair sequence number bytes r s ≡ leaves r s (refused 9)
-  unfolding continues
+      → hearsLater pair sequence number bytes r s ≡ leaves r s (refused 9)
+  unfolding hearsLater
   continues-nowhere e = rw e
 
 -- the rules of a state, one by one

@@ -35,7 +35,7 @@ abbrev pub StatisticsJoined : Type 0
 StatisticsJoined =
     solo (fastPackets (0x1F001 ∷ [])) none (map fromBattery statisticsFrames)
     ≡ gives opened ∷ gives stored ∷ gives stored ∷ gives stored ∷ gives stored ∷ gives stored
-    ∷ gives (finished 0x0E 0x1F001 statistics) ∷ []
+    ∷ gives (finished (record { sender = 0x0E; dgn = 0x1F001; bytes = statistics })) ∷ []
 
 -- and there is no frame 7
 abbrev pub StatisticsSplit : Type 0

@@ -60,21 +60,43 @@ pairOf sender dgn = dgn * 256 + sender
 abbrev pub byteAt : ℕ → List ℕ → ℕ
 byteAt at bytes = getD bytes at 0
 
--- What a frame means to the receiver.
+-- What a frame means to the receiver: frame 0 of a message, a later frame by its number, or anything else.
+
+pub record NewMessage : Type 0 where
+  pub sender : ℕ
+  pub dgn : ℕ
+  pub sequence : ℕ
+  pub size : ℕ
+
+pub record LaterFrame : Type 0 where
+  pub sender : ℕ
+  pub dgn : ℕ
+  pub sequence : ℕ
+  pub number : ℕ
+
 pub data Meaning : Type 0 where
   other : Meaning
-  begins : ℕ → ℕ → ℕ → ℕ → Meaning  -- frame 0: sender, DGN, sequence number and length of the message
-  continues : ℕ → ℕ → ℕ → ℕ → Meaning  -- any other: sender, DGN, sequence number, and the frame's number
+  begins : NewMessage → Meaning
+  continues : LaterFrame → Meaning
 
 unfoldable pub begun : ℕ → ℕ → ℕ → ℕ → Told Meaning
 begun sender dgn sequence size =
-    if (1 ≤? size) and (size ≤? longest) then gives (begins sender dgn sequence size) else refused 7
+    if (1 ≤? size) and (size ≤? longest)
+    then gives (begins (record { sender = sender; dgn = dgn; sequence = sequence; size = size }))
+    else refused 7
 
 -- a frame of a DGN that is named
 unfoldable pub carried : ℕ → ℕ → List ℕ → Told Meaning
 carried sender dgn bytes =
     if frameNumberOf (byteAt 0 bytes) =? 0 then begun sender dgn (sequenceOf (byteAt 0 bytes)) (byteAt 1 bytes) else
-    gives (continues sender dgn (sequenceOf (byteAt 0 bytes)) (frameNumberOf (byteAt 0 bytes)))
+    gives
+    (continues
+    (record {
+      sender = sender;
+      dgn = dgn;
+      sequence = sequenceOf (byteAt 0 bytes);
+      number = frameNumberOf (byteAt 0 bytes);
+    }))
 
 -- a frame that has passed refusals 3 to 6
 unfoldable pub meant : List ℕ → ℕ → ℕ → List ℕ → Told Meaning

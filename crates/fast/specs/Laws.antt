@@ -15,11 +15,15 @@ use Rattle.frame.specs.Standard.{announcementDgn, packetDgn}
 use Rattle.frame.specs.declared.Parts.{Parts}
 use Rattle.places.specs.Places.{placeCount}
 use Rattle.words.specs.declared.Found.the-variants.{At}
-use Rattle.fast.specs.FastPacket.{frameNumberOf, sequenceOf, firstByteOf, greatestSequence, firstBytes, laterBytes, longest, offsetOf, lastFrame, neededFirst, needed, pairOf, byteAt, begins, continues, meaningOf}
+use Rattle.fast.specs.FastPacket.{frameNumberOf, sequenceOf, firstByteOf, greatestSequence, firstBytes}
+use Rattle.fast.specs.FastPacket.{laterBytes, longest, offsetOf, lastFrame, neededFirst, needed, pairOf, byteAt}
+use Rattle.fast.specs.FastPacket.{NewMessage, LaterFrame, begins, continues, meaningOf}
 use Rattle.fast.specs.Names.{mostNamed, mayBeNamed, isNamed}
 use Rattle.fast.specs.Receiver.{room, freePlace, isOpenBy, namesOf, keepsRules, placing, placeFor, nothingToDo}
 use Rattle.fast.specs.Splitter.{frameBytesOf}
-use Rattle.fast.specs.Promises.{startingNumber, namingNone, toldAnswer, toldPausing, cuttingNumber, Start, Hear, Pause, Message, FrameOf, StartingRefusal, AnswerRefusal, PausingRefusal, CuttingRefusal}
+use Rattle.fast.specs.Promises.{startingNumber, namingNone, toldAnswer, toldPausing, splittingNumber, Start, Hear}
+use Rattle.fast.specs.Promises.{Pause, Message, FrameOf, StartingRefusal, AnswerRefusal, PausingRefusal}
+use Rattle.fast.specs.Promises.{SplittingRefusal}
 use Rattle.fast.specs.declared.Place.{Place}
 use Rattle.fast.specs.declared.Receiver.{Receiver}
 use Rattle.fast.specs.declared.Starting.{Starting}
@@ -30,9 +34,9 @@ use Rattle.fast.specs.declared.Answer.the-variants.{UnexpectedFrame}
 use Rattle.fast.specs.declared.Heard.{Heard}
 use Rattle.fast.specs.declared.Pausing.{Pausing}
 use Rattle.fast.specs.declared.Paused.{Paused}
-use Rattle.fast.specs.declared.Cutting.{Cutting}
-use Rattle.fast.specs.declared.Cutting.the-variants as Cutting
-use Rattle.fast.specs.declared.Cut.{Cut}
+use Rattle.fast.specs.declared.Splitting.{Splitting}
+use Rattle.fast.specs.declared.Splitting.the-variants as Splitting
+use Rattle.fast.specs.declared.Split.{Split}
 
 -- An answer read as number and values loses nothing (RULES 2.10).
 
@@ -45,8 +49,8 @@ ToldAnswerSame = (r s : Answer) → toldAnswer r ≡ toldAnswer s → r ≡ s
 abbrev pub ToldPausingSame : Type 0
 ToldPausingSame = (r s : Pausing) → toldPausing r ≡ toldPausing s → r ≡ s
 
-abbrev pub CuttingNumberSame : Type 0
-CuttingNumberSame = (r s : Cutting) → cuttingNumber r ≡ cuttingNumber s → r ≡ s
+abbrev pub SplittingNumberSame : Type 0
+SplittingNumberSame = (r s : Splitting) → splittingNumber r ≡ splittingNumber s → r ≡ s
 
 -- No second answer, state and storage keep a promise.
 
@@ -67,7 +71,7 @@ MessageOnly =
 
 abbrev pub FrameOfOnly : Type 0
 FrameOfOnly =
-    (message : List ℕ) (sequence number : ℕ) (r s : Cut)
+    (message : List ℕ) (sequence number : ℕ) (r s : Split)
     → FrameOf message sequence number r → FrameOf message sequence number s → r ≡ s
 
 abbrev pub StartingRefusalOnly : Type 0
@@ -79,8 +83,8 @@ AnswerRefusalOnly = (answer : Answer) (r s : ℕ) → AnswerRefusal answer r →
 abbrev pub PausingRefusalOnly : Type 0
 PausingRefusalOnly = (answer : Pausing) (r s : ℕ) → PausingRefusal answer r → PausingRefusal answer s → r ≡ s
 
-abbrev pub CuttingRefusalOnly : Type 0
-CuttingRefusalOnly = (answer : Cutting) (r s : ℕ) → CuttingRefusal answer r → CuttingRefusal answer s → r ≡ s
+abbrev pub SplittingRefusalOnly : Type 0
+SplittingRefusalOnly = (answer : Splitting) (r s : ℕ) → SplittingRefusal answer r → SplittingRefusal answer s → r ≡ s
 
 -- Two pairs of sender and DGN with one number are one pair.
 abbrev pub PairSame : Type 0
@@ -156,9 +160,9 @@ abbrev pub TenCloses : Type 0
 TenCloses =
     (id : ℕ) (bytes : List ℕ) (state : Receiver) (storage : List ℕ) (r : Heard) (exit : List ℕ)
     → Hear id bytes state storage r exit → r .answer ≡ UnexpectedFrame
-    → (sender dgn sequence number i : ℕ)
-    × (meaningOf (namesOf state) id bytes ≡ gives (continues sender dgn sequence number))
-    × OutOfTurn state i sequence number × ClosedAt state storage (r .receiver) exit (pairOf sender dgn) i
+    → (f : LaterFrame) × (i : ℕ) × (meaningOf (namesOf state) id bytes ≡ gives (continues f))
+    × OutOfTurn state i (f .sequence) (f .number)
+    × ClosedAt state storage (r .receiver) exit (pairOf (f .sender) (f .dgn)) i
 
 abbrev pub PauseRefusedKeeps : Type 0
 PauseRefusedKeeps =
@@ -196,12 +200,12 @@ pub record ItsOwn (i from count k : ℕ) : Type 0 where
 abbrev pub WritesFrameZero : Type 0
 WritesFrameZero =
     (id : ℕ) (bytes : List ℕ) (state : Receiver) (storage : List ℕ) (r : Heard) (exit : List ℕ)
-    (sender dgn sequence size i k : ℕ)
+    (m : NewMessage) (i k : ℕ)
     → length (state .places) ≡ placeCount → room ≤ length storage → keepsRules state ≡ true
     → Hear id bytes state storage r exit
-    → meaningOf (namesOf state) id bytes ≡ gives (begins sender dgn sequence size)
-    → placeFor (pairOf sender dgn) (state .places) ≡ At i
-    → ItsOwn i 0 (neededFirst size) k
+    → meaningOf (namesOf state) id bytes ≡ gives (begins m)
+    → placeFor (pairOf (m .sender) (m .dgn)) (state .places) ≡ At i
+    → ItsOwn i 0 (neededFirst (m .size)) k
     → getD exit k 0 ≡ getD bytes (2 + (k - (longest * i + 0))) 0
 
 -- a later frame that is expected, its bytes after the first;
@@ -212,7 +216,8 @@ WritesTheFrame =
     → length (state .places) ≡ placeCount → room ≤ length storage → keepsRules state ≡ true
     → Hear id bytes state storage r exit
     → p ≡ getD (state .places) i freePlace
-    → meaningOf (namesOf state) id bytes ≡ gives (continues sender dgn (p .sequence) (p .expected))
+    → meaningOf (namesOf state) id bytes
+    ≡ gives (continues (record { sender = sender; dgn = dgn; sequence = p .sequence; number = p .expected }))
     → first (isOpenBy (pairOf sender dgn)) (state .places) ≡ At i
     → ItsOwn i (offsetOf (p .expected)) (needed (p .length) (p .expected)) k
     → getD exit k 0 ≡ getD bytes (1 + (k - (longest * i + offsetOf (p .expected)))) 0
@@ -222,13 +227,11 @@ abbrev pub WritesItsOwn : Type 0
 WritesItsOwn =
     (id : ℕ) (bytes : List ℕ) (state : Receiver) (storage : List ℕ) (r : Heard) (exit : List ℕ) (k : ℕ)
     → length (state .places) ≡ placeCount → Hear id bytes state storage r exit
-    → ((sender dgn sequence size i : ℕ)
-    → meaningOf (namesOf state) id bytes ≡ gives (begins sender dgn sequence size)
-    → placeFor (pairOf sender dgn) (state .places) ≡ At i → ItsOwn i 0 (neededFirst size) k → ⊥)
-    → ((sender dgn sequence number i : ℕ)
-    → meaningOf (namesOf state) id bytes ≡ gives (continues sender dgn sequence number)
-    → first (isOpenBy (pairOf sender dgn)) (state .places) ≡ At i
-    → ItsOwn i (offsetOf number) (needed (getD (state .places) i freePlace .length) number) k → ⊥)
+    → ((m : NewMessage) (i : ℕ) → meaningOf (namesOf state) id bytes ≡ gives (begins m)
+    → placeFor (pairOf (m .sender) (m .dgn)) (state .places) ≡ At i → ItsOwn i 0 (neededFirst (m .size)) k → ⊥)
+    → ((f : LaterFrame) (i : ℕ) → meaningOf (namesOf state) id bytes ≡ gives (continues f)
+    → first (isOpenBy (pairOf (f .sender) (f .dgn))) (state .places) ≡ At i
+    → ItsOwn i (offsetOf (f .number)) (needed (getD (state .places) i freePlace .length) (f .number)) k → ⊥)
     → getD exit k 0 ≡ getD storage k 0
 
 -- Its own bytes lie within the message's length: none beyond it is ever written.
@@ -239,18 +242,18 @@ NotBeyond =
 
 -- What frame `number` of a message answers: 12 for a sequence above 7, else 13 for a length outside 1 to 223, else 15
 -- for a number past the last frame, and zeros beside each; otherwise the bytes.
-pub record FrameAnswers (message : List ℕ) (sequence number : ℕ) (r : Cut) : Type 0 where
-  pub twelve : greatestSequence < sequence → cuttingNumber (r .answer) ≡ 12
+pub record FrameAnswers (message : List ℕ) (sequence number : ℕ) (r : Split) : Type 0 where
+  pub twelve : greatestSequence < sequence → splittingNumber (r .answer) ≡ 12
   pub thirteen :
-      sequence ≤ greatestSequence → (length message < 1) ⊎ (longest < length message) → cuttingNumber (r .answer) ≡ 13
+      sequence ≤ greatestSequence → (length message < 1) ⊎ (longest < length message) → splittingNumber (r .answer) ≡ 13
   pub fifteen : sequence ≤ greatestSequence → 1 ≤ length message → length message ≤ longest
-      → lastFrame (length message) < number → cuttingNumber (r .answer) ≡ 15
-  pub zeros : r .answer ≢ Cutting.Bytes → r .bytes ≡ replicate frameBytes 0
+      → lastFrame (length message) < number → splittingNumber (r .answer) ≡ 15
+  pub zeros : r .answer ≢ Splitting.Bytes → r .bytes ≡ replicate frameBytes 0
   pub given : sequence ≤ greatestSequence → 1 ≤ length message → length message ≤ longest
       → number ≤ lastFrame (length message)
-      → (r .answer ≡ Cutting.Bytes) × (r .bytes ≡ frameBytesOf message sequence number)
+      → (r .answer ≡ Splitting.Bytes) × (r .bytes ≡ frameBytesOf message sequence number)
 
-abbrev pub SplitterCuts : Type 0
-SplitterCuts =
-    (message : List ℕ) (sequence number : ℕ) (r : Cut)
+abbrev pub SplitterSplits : Type 0
+SplitterSplits =
+    (message : List ℕ) (sequence number : ℕ) (r : Split)
     → FrameOf message sequence number r → FrameAnswers message sequence number r

@@ -1,10 +1,10 @@
 -- The DGNs that a caller names at the start: those whose messages are carried as fast packets (RULES 12.2 to 12.4).
-use mathlib.Core.Bool.{Bool, true, not}
-use mathlib.Core.List.{List, [], _∷_, _++_}
-use Prim.Native.Nat.{ℕ, _-_}
-use lib.ListN.{length, replicate}
+use mathlib.Core.Bool.{Bool, not}
+use mathlib.Core.List.{List}
+use Prim.Native.Nat.{ℕ}
+use lib.ListN.{length}
 use Rattle.words.specs.Words.{_≤?_, _=?_, _and_, bits}
-use Rattle.words.specs.Lists.{any, every}
+use Rattle.words.specs.Lists.{any, every, noTwo}
 use Rattle.frame.specs.Identifier.{greatestDgn}
 use Rattle.frame.specs.Standard.{announcementDgn, packetDgn}
 
@@ -20,16 +20,8 @@ mayBeNamed dgn =
 
 -- all 17 bits count, a destination included
 abbrev pub isNamed : ℕ → List ℕ → Bool
-isNamed dgn names = any (λ name. name =? dgn) names
+isNamed dgn names = any (_=?_ dgn) names
 
-unfoldable pub noneTwice : List ℕ → Bool
-noneTwice [] = true
-noneTwice (dgn ∷ names) = not (isNamed dgn names) and noneTwice names
-
--- up to 16 of them, and none at all is a list too; any other list is refused with 16
+-- up to 16 of them, no two the same, and none at all is a list too; any other list is refused with 16
 unfoldable pub isWellFormed : List ℕ → Bool
-isWellFormed names = (length names ≤? mostNamed) and every mayBeNamed names and noneTwice names
-
--- the list as a state keeps it: filled up with zeros
-unfoldable pub padded : List ℕ → List ℕ
-padded names = names ++ replicate (mostNamed - length names) 0
+isWellFormed names = (length names ≤? mostNamed) and every mayBeNamed names and noTwo _=?_ names

@@ -8,7 +8,8 @@ use Rattle.words.specs.Words.{if_then_else_, _<?_, _≤?_, _=?_, _and_, Told, r
 use Rattle.frame.specs.Identifier.{sourceOf, dgnOf}
 use Rattle.frame.specs.Standard.{Frame}
 use Rattle.places.specs.Format.{Asks, fixed, opens, finishes, feeds, Fed, goes, ends, Format}
-use Rattle.fast.specs.FastPacket.{firstBytes, lastFrame, needed, idleLimit, pairOf, Meaning, other, begins, continues, meaningOf}
+use Rattle.fast.specs.FastPacket.{firstBytes, lastFrame, needed, idleLimit, pairOf, Meaning, other, begins}
+use Rattle.fast.specs.FastPacket.{continues, meaningOf}
 
 -- An open message.
 pub record Open : Type 0 where
@@ -25,12 +26,18 @@ pub record Part : Type 0 where
   pub number : ℕ
   pub seven : List ℕ
 
+-- A whole message.
+pub record Whole : Type 0 where
+  pub sender : ℕ
+  pub dgn : ℕ
+  pub bytes : List ℕ
+
 -- What the caller is told of a frame that is not refused.
 pub data Tells : Type 0 where
   nothingToDo : Tells
   opened : Tells
   stored : Tells
-  finished : ℕ → ℕ → List ℕ → Tells  -- sender, DGN and bytes of the message
+  finished : Whole → Tells
 
 -- Frame 0 opens the message with its six bytes: frame 1 is expected.
 abbrev pub begunBy : ℕ → ℕ → ℕ → ℕ → List ℕ → Open
@@ -40,6 +47,9 @@ begunBy sender dgn sequence size six =
 -- Of a later frame only the bytes are kept that the length still needs.
 abbrev pub joined : Open → List ℕ → List ℕ
 joined m seven = m .collected ++ take (needed (m .size) (m .expected)) seven
+
+abbrev pub wholeOf : Open → List ℕ → Whole
+wholeOf m bytes = record { sender = m .sender; dgn = m .dgn; bytes = bytes }
 
 abbrev pub expectingNext : Open → List ℕ → Open
 expectingNext m collected =
@@ -59,7 +69,7 @@ abbrev pub fedBy : Open → Part → Fed Open (Told Tells)
 fedBy m part =
     if (part .sequence =? m .sequence) and (part .number =? m .expected) then
     if m .expected =? lastFrame (m .size)
-    then ends (gives (finished (m .sender) (m .dgn) (joined m (part .seven))))
+    then ends (gives (finished (wholeOf m (joined m (part .seven)))))
     else goes (expectingNext m (joined m (part .seven))) (gives stored)
     else ends (refused 10)
 
@@ -83,12 +93,13 @@ waits ms m =
 abbrev pub asksBy : Told Meaning → List ℕ → Asks Open Part (Told Tells)
 asksBy (refused n) bytes = fixed (refused n)
 asksBy (gives other) bytes = fixed (gives nothingToDo)
-asksBy (gives (begins sender dgn sequence size)) bytes =
-    if size ≤? firstBytes
-    then finishes (gives (finished sender dgn (take size (drop 2 bytes))))
-    else opens (begunBy sender dgn sequence size (take firstBytes (drop 2 bytes))) (gives opened)
-asksBy (gives (continues sender dgn sequence number)) bytes =
-    feeds (record { sequence = sequence; number = number; seven = drop 1 bytes }) (refused 9)
+asksBy (gives (begins m)) bytes =
+    if m .size ≤? firstBytes
+    then
+    finishes (gives (finished (record { sender = m .sender; dgn = m .dgn; bytes = take (m .size) (drop 2 bytes) })))
+    else opens (begunBy (m .sender) (m .dgn) (m .sequence) (m .size) (take firstBytes (drop 2 bytes))) (gives opened)
+asksBy (gives (continues f)) bytes =
+    feeds (record { sequence = f .sequence; number = f .number; seven = drop 1 bytes }) (refused 9)
 
 -- Fast packets as a format, for the DGNs that are named: the key is the pair, and a frame is checked first,
 -- which is refusals 3 to 6.

@@ -15,8 +15,10 @@ use Rattle.fast.specs.declared.meaning.Meant.the-variants.{Malformed, Be
 
 abbrev pub toldMeant : Meant → Told Meaning
 toldMeant Malformed = refused 7
-toldMeant (Begins sender dgn sequence size) = gives (begins sender dgn sequence size)
-toldMeant (Continues sender dgn sequence number) = gives (continues sender dgn sequence number)
+toldMeant (Begins sender dgn sequence size) =
+    gives (begins (record { sender = sender; dgn = dgn; sequence = sequence; size = size }))
+toldMeant (Continues sender dgn sequence number) =
+    gives (continues (record { sender = sender; dgn = dgn; sequence = sequence; number = number }))
 
 -- what an open place's message still needs
 pub record Live (p : Place) : Type 0 where

@@ -5,26 +5,30 @@ use mathlib.Core.List.{List, []}
 use Prim.Native.Nat.{ℕ, _*_}
 use lib.ListN.{length, take, drop, replicate}
 use Rattle.words.specs.Words.{if_then_else_, _<?_, _≤?_, _or_, Told, refused, gives, numberIn}
+use Rattle.words.specs.Lists.{filledTo}
 use Rattle.frame.specs.Frame.{frameBytes}
 use Rattle.frame.specs.Promises.{refusalOf}
 use Rattle.places.specs.Places.{placeCount}
 use Rattle.fast.specs.FastPacket.{longest}
-use Rattle.fast.specs.Names.{mostNamed, isWellFormed, padded}
-use Rattle.fast.specs.Receiver.{room, freePlace, Outcome, nothingToDo, opened, stored, finished, After, heard, pausedState, pausedAnswer}
+use Rattle.fast.specs.Names.{mostNamed, isWellFormed}
+use Rattle.fast.specs.Receiver.{room, freePlace, Outcome, nothingToDo, opened, stored, finished, After, heard}
+use Rattle.fast.specs.Receiver.{pausedState, pausedAnswer}
 use Rattle.fast.specs.Splitter.{frameOf}
 use Rattle.fast.specs.declared.Receiver.{Receiver}
 use Rattle.fast.specs.declared.Starting.{Starting}
 use Rattle.fast.specs.declared.Starting.the-variants as Starting
 use Rattle.fast.specs.declared.Started.{Started}
 use Rattle.fast.specs.declared.Answer.{Answer}
-use Rattle.fast.specs.declared.Answer.the-variants.{StorageTooShort, BrokenState, BadFrame, MalformedLength, NoPlaceFree, NoOpenMessage, UnexpectedFrame, NothingToDo, Opened, Stored, Finished}
+use Rattle.fast.specs.declared.Answer.the-variants.{StorageTooShort, BrokenState, BadFrame, MalformedLength}
+use Rattle.fast.specs.declared.Answer.the-variants.{NoPlaceFree, NoOpenMessage, UnexpectedFrame, NothingToDo}
+use Rattle.fast.specs.declared.Answer.the-variants.{Opened, Stored, Finished}
 use Rattle.fast.specs.declared.Heard.{Heard}
 use Rattle.fast.specs.declared.Pausing.{Pausing}
 use Rattle.fast.specs.declared.Pausing.the-variants as Pausing
 use Rattle.fast.specs.declared.Paused.{Paused}
-use Rattle.fast.specs.declared.Cutting.{Cutting}
-use Rattle.fast.specs.declared.Cutting.the-variants as Cutting
-use Rattle.fast.specs.declared.Cut.{Cut}
+use Rattle.fast.specs.declared.Splitting.{Splitting}
+use Rattle.fast.specs.declared.Splitting.the-variants as Splitting
+use Rattle.fast.specs.declared.Split.{Split}
 
 -- Receiver::start
 
@@ -36,9 +40,10 @@ startingNumber Starting.ListMalformed = 16
 pub record StartingRefusal (answer : Starting) (r : ℕ) : Type 0 where
   pub number : r ≡ startingNumber answer
 
--- a receiver with eight free places, for these DGNs
+-- a receiver with eight free places, for these DGNs: it keeps the list filled up with zeros
 abbrev pub naming : List ℕ → Receiver
-naming names = record { dgns = padded names; named = length names; places = replicate placeCount freePlace }
+naming names =
+    record { dgns = filledTo mostNamed 0 names; named = length names; places = replicate placeCount freePlace }
 
 -- one that names none, beside a refused start
 abbrev pub namingNone : Receiver
@@ -61,7 +66,8 @@ toldAnswer UnexpectedFrame = refused 10
 toldAnswer NothingToDo = gives nothingToDo
 toldAnswer Opened = gives opened
 toldAnswer Stored = gives stored
-toldAnswer (Finished place sender dgn size) = gives (finished place sender dgn size)
+toldAnswer (Finished place sender dgn size) =
+    gives (finished (record { place = place; sender = sender; dgn = dgn; size = size }))
 
 -- state, storage and answer are those
 pub record LeftBy (after : After) (r : Heard) (storage : List ℕ) : Type 0 where
@@ -100,7 +106,7 @@ messageIn storage (refused n) = []
 messageIn storage (gives nothingToDo) = []
 messageIn storage (gives opened) = []
 messageIn storage (gives stored) = []
-messageIn storage (gives (finished place sender dgn size)) = partOf storage place size
+messageIn storage (gives (finished m)) = partOf storage (m .place) (m .size)
 
 pub record Message (storage : List ℕ) (answer : Answer) (r : List ℕ) : Type 0 where
   pub bytes : r ≡ (if length storage <? room then [] else messageIn storage (toldAnswer answer))
@@ -108,23 +114,23 @@ pub record Message (storage : List ℕ) (answer : Answer) (r : List ℕ) : Type 
 -- frame_of
 
 -- 0 where the bytes are given
-abbrev pub cuttingNumber : Cutting → ℕ
-cuttingNumber Cutting.Bytes = 0
-cuttingNumber Cutting.SequenceTooLarge = 12
-cuttingNumber Cutting.LengthNotSplit = 13
-cuttingNumber Cutting.NoSuchFrame = 15
+abbrev pub splittingNumber : Splitting → ℕ
+splittingNumber Splitting.Bytes = 0
+splittingNumber Splitting.NoCode = 12
+splittingNumber Splitting.LengthNotSplit = 13
+splittingNumber Splitting.NoSuchFrame = 15
 
-pub record CuttingRefusal (answer : Cutting) (r : ℕ) : Type 0 where
-  pub number : r ≡ cuttingNumber answer
+pub record SplittingRefusal (answer : Splitting) (r : ℕ) : Type 0 where
+  pub number : r ≡ splittingNumber answer
 
 -- the eight bytes that a definition tells: zeros beside a refusal
 abbrev pub bytesIn : Told (List ℕ) → List ℕ
 bytesIn (gives bytes) = bytes
 bytesIn (refused n) = replicate frameBytes 0
 
-pub record CutBy (told : Told (List ℕ)) (r : Cut) : Type 0 where
-  pub number : cuttingNumber (r .answer) ≡ numberIn told
+pub record SplitBy (told : Told (List ℕ)) (r : Split) : Type 0 where
+  pub number : splittingNumber (r .answer) ≡ numberIn told
   pub bytes : r .bytes ≡ bytesIn told
 
-abbrev pub FrameOf : List ℕ → ℕ → ℕ → Cut → Type 0
-FrameOf message sequence number r = CutBy (frameOf message sequence number) r
+abbrev pub FrameOf : List ℕ → ℕ → ℕ → Split → Type 0
+FrameOf message sequence number r = SplitBy (frameOf message sequence number) r

@@ -12,8 +12,8 @@ use Rattle.words.specs.declared.Found.{Found}
 use Rattle.words.specs.declared.Found.the-variants.{At, Nowhere}
 use Rattle.places.specs.Places.{placeCount}
 use Rattle.places.specs.Layout.{Layout, openBy, oneEach}
-use Rattle.fast.specs.FastPacket as FastPacket
-use Rattle.fast.specs.FastPacket.{greatestSequence, firstBytes, longest, offsetOf, lastFrame, neededFirst, needed, idleLimit, pairOf, Meaning, other, meaningOf}
+use Rattle.fast.specs.FastPacket.{greatestSequence, firstBytes, longest, offsetOf, lastFrame, neededFirst, needed}
+use Rattle.fast.specs.FastPacket.{idleLimit, pairOf, Meaning, other, begins, continues, meaningOf}
 use Rattle.fast.specs.Names.{mostNamed, isNamed, isWellFormed}
 use Rattle.fast.specs.OnePair.{Open}
 use Rattle.fast.specs.declared.Place.{Place}
@@ -87,11 +87,21 @@ keepsRules r = holdsNames r and every (placeKeepsRules (namesOf r)) (r .places) 
 
 -- What a frame leaves: the state, the storage, and the answer.
 
+-- a finished message: the place in whose stretch it stands, and what it is
+pub record WholeAt : Type 0 where
+  pub place : ℕ
+  pub sender : ℕ
+  pub dgn : ℕ
+  pub size : ℕ
+
 pub data Outcome : Type 0 where
   nothingToDo : Outcome
   opened : Outcome
   stored : Outcome
-  finished : ℕ → ℕ → ℕ → ℕ → Outcome  -- place, sender, DGN and length of the message
+  finished : WholeAt → Outcome
+
+abbrev pub wholeAt : ℕ → Place → WholeAt
+wholeAt i p = record { place = i; sender = p .sender; dgn = p .dgn; size = p .length }
 
 pub record After : Type 0 where
   pub receiver : Receiver
@@ -128,7 +138,7 @@ firstKept i p bytes storage = paste storage (longest * i + 0) (drop 2 bytes) (ne
 unfoldable pub entered : ℕ → Place → Receiver → List ℕ → After
 entered i p r storage =
     if p .length ≤? firstBytes
-    then leaves (placing r i freePlace) storage (gives (finished i (p .sender) (p .dgn) (p .length)))
+    then leaves (placing r i freePlace) storage (gives (finished (wholeAt i p)))
     else leaves (placing r i p) storage (gives opened)
 
 abbrev pub entersAt : ℕ → Place → List ℕ → Receiver → List ℕ → After
@@ -138,8 +148,8 @@ abbrev pub entersIn : Found → Place → List ℕ → Receiver → List ℕ →
 entersIn (At i) p bytes r storage = entersAt i p bytes r storage
 entersIn Nowhere p bytes r storage = leaves r storage (refused 8)
 
-unfoldable pub begins : Place → List ℕ → Receiver → List ℕ → After
-begins p bytes r storage = entersIn (placeFor (pairOf (p .sender) (p .dgn)) (r .places)) p bytes r storage
+unfoldable pub hearsFirst : Place → List ℕ → Receiver → List ℕ → After
+hearsFirst p bytes r storage = entersIn (placeFor (pairOf (p .sender) (p .dgn)) (r .places)) p bytes r storage
 
 -- A later frame: the expected one of the same sequence is stored in its place's own stretch, from 6 + 7 (number - 1)
 -- on, and only what the length still needs.
@@ -163,7 +173,7 @@ expecting number p =
 unfoldable pub advanced : ℕ → Place → Receiver → List ℕ → After
 advanced i p r storage =
     if p .expected =? lastFrame (p .length)
-    then leaves (placing r i freePlace) storage (gives (finished i (p .sender) (p .dgn) (p .length)))
+    then leaves (placing r i freePlace) storage (gives (finished (wholeAt i p)))
     else leaves (placing r i (expecting (p .expected + 1) p)) storage (gives stored)
 
 unfoldable pub frameAt : ℕ → Place → ℕ → ℕ → List ℕ → Receiver → List ℕ → After
@@ -177,8 +187,8 @@ frameIn (At i) sequence number bytes r storage =
     frameAt i (getD (r .places) i freePlace) sequence number bytes r storage
 frameIn Nowhere sequence number bytes r storage = leaves r storage (refused 9)
 
-unfoldable pub continues : ℕ → ℕ → ℕ → List ℕ → Receiver → List ℕ → After
-continues pair sequence number bytes r storage =
+unfoldable pub hearsLater : ℕ → ℕ → ℕ → List ℕ → Receiver → List ℕ → After
+hearsLater pair sequence number bytes r storage =
     frameIn (first (isOpenBy pair) (r .places)) sequence number bytes r storage
 
 -- A frame.
@@ -186,10 +196,10 @@ continues pair sequence number bytes r storage =
 abbrev pub byMeaning : Told Meaning → List ℕ → Receiver → List ℕ → After
 byMeaning (refused n) bytes r storage = leaves r storage (refused n)
 byMeaning (gives other) bytes r storage = leaves r storage (gives nothingToDo)
-byMeaning (gives (FastPacket.begins sender dgn sequence size)) bytes r storage =
-    begins (newPlace sender dgn sequence size) bytes r storage
-byMeaning (gives (FastPacket.continues sender dgn sequence number)) bytes r storage =
-    continues (pairOf sender dgn) sequence number bytes r storage
+byMeaning (gives (begins m)) bytes r storage =
+    hearsFirst (newPlace (m .sender) (m .dgn) (m .sequence) (m .size)) bytes r storage
+byMeaning (gives (continues f)) bytes r storage =
+    hearsLater (pairOf (f .sender) (f .dgn)) (f .sequence) (f .number) bytes r storage
 
 unfoldable pub heard : ℕ → List ℕ → Receiver → List ℕ → After
 heard id bytes r storage =

@@ -12,11 +12,12 @@ use Rattle.frame.specs.Identifier.{identifierOf, lowestPriority}
 use Rattle.frame.specs.Standard.{Frame, greatestAddress}
 use Rattle.places.specs.Format.{Event, frame, pause}
 use Rattle.places.specs.OneKey.{solo}
-use Rattle.fast.specs.FastPacket.{greatestSequence, firstBytes, longest, lastFrame, idleLimit, Meaning, other, begins, continues, meaningOf}
+use Rattle.fast.specs.FastPacket.{greatestSequence, firstBytes, longest, lastFrame, idleLimit, Meaning, other}
+use Rattle.fast.specs.FastPacket.{begins, continues, meaningOf}
 use Rattle.fast.specs.Names.{isNamed, isWellFormed}
 use Rattle.fast.specs.OnePair.{Open, Tells, finished, fastPackets}
 use Rattle.fast.specs.Promises.{FrameOf}
-use Rattle.fast.specs.declared.Cut.{Cut}
+use Rattle.fast.specs.declared.Split.{Split}
 
 -- a frame of the message, as its sender puts it on the bus
 abbrev pub sent : ℕ → ℕ → ℕ → List ℕ → Frame
@@ -26,8 +27,8 @@ sent priority dgn sender bytes = record { id = identifierOf priority dgn sender;
 abbrev pub isApart : Told Meaning → Bool
 isApart (refused n) = true
 isApart (gives other) = true
-isApart (gives (begins sender dgn sequence size)) = false
-isApart (gives (continues sender dgn sequence number)) = false
+isApart (gives (begins m)) = false
+isApart (gives (continues f)) = false
 
 -- a message, a DGN that is named, a sender and a sequence number within the limits
 pub record Sendable (names message : List ℕ) (dgn sender sequence : ℕ) : Type 0 where
@@ -48,20 +49,20 @@ module _ (names message : List ℕ) (dgn sender sequence : ℕ) where
         → isApart (meaningOf names (f .id) (f .bytes)) ≡ true
         → Sending number sum events
         → Sending number sum (frame f ∷ events)
-    next : {number sum : ℕ} {events : List (Event Frame)} (priority : ℕ) (r : Cut) → priority ≤ lowestPriority
+    next : {number sum : ℕ} {events : List (Event Frame)} (priority : ℕ) (r : Split) → priority ≤ lowestPriority
         → FrameOf message sequence number r → number < lastFrame (length message)
         → Sending (number + 1) 0 events
         → Sending number sum (frame (sent priority dgn sender (r .bytes)) ∷ events)
-    last : {number sum : ℕ} (priority : ℕ) (r : Cut) → priority ≤ lowestPriority
+    last : {number sum : ℕ} (priority : ℕ) (r : Split) → priority ≤ lowestPriority
         → FrameOf message sequence number r → number ≡ lastFrame (length message)
         → Sending number sum (frame (sent priority dgn sender (r .bytes)) ∷ [])
 
   -- The whole message: its frame 0, which is all of a short one, and then the others.
   pub data Sent : List (Event Frame) → Type 0 where
-    at-once : (priority : ℕ) (r : Cut) → priority ≤ lowestPriority → FrameOf message sequence 0 r
+    at-once : (priority : ℕ) (r : Split) → priority ≤ lowestPriority → FrameOf message sequence 0 r
         → length message ≤ firstBytes
         → Sent (frame (sent priority dgn sender (r .bytes)) ∷ [])
-    in-frames : {events : List (Event Frame)} (priority : ℕ) (r : Cut) → priority ≤ lowestPriority
+    in-frames : {events : List (Event Frame)} (priority : ℕ) (r : Split) → priority ≤ lowestPriority
         → FrameOf message sequence 0 r → firstBytes < length message
         → Sending 1 0 events
         → Sent (frame (sent priority dgn sender (r .bytes)) ∷ events)
@@ -73,4 +74,5 @@ JoinedByRules =
     → Sendable names message dgn sender sequence → Sent names message dgn sender sequence events
     → (before : Option Open)
     → (answers : List (Told Tells))
-    × (solo (fastPackets names) before events ≡ answers ++ (gives (finished sender dgn message) ∷ []))
+    × (solo (fastPackets names) before events
+    ≡ answers ++ (gives (finished (record { sender = sender; dgn = dgn; bytes = message })) ∷ []))

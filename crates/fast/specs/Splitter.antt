@@ -4,7 +4,8 @@ use Prim.Native.Nat.{ℕ}
 use lib.ListN.{length, take, drop, replicate}
 use Rattle.words.specs.Words.{if_then_else_, _<?_, _=?_, Told, refused, gives}
 use Rattle.frame.specs.Standard.{unused}
-use Rattle.fast.specs.FastPacket.{firstByteOf, greatestSequence, firstBytes, laterBytes, longest, offsetOf, lastFrame}
+use Rattle.fast.specs.FastPacket.{firstByteOf, greatestSequence, firstBytes, laterBytes, longest, offsetOf}
+use Rattle.fast.specs.FastPacket.{lastFrame}
 
 -- why a message of this size has no such frame; 0 where it has one
 unfoldable pub refusalIn : ℕ → ℕ → ℕ → ℕ

@@ -6,7 +6,8 @@ ghost use Prim.Native.Nat.{ℕ, _<_, _≤_};
 ghost use lib.ListN.{length, getD};
 ghost use Rattle.words.specs.Lists.{first};
 ghost use Rattle.fast.specs.FastPacket.{meant, meaningOf};
-ghost use Rattle.fast.specs.Receiver.{room, freePlace, isFree, isOpenBy, namesOf, keepsRules, placing, placeFor, begins, entersAt, entered, frameAt, continues, byMeaning, advanced};
+ghost use Rattle.fast.specs.Receiver.{room, freePlace, isFree, isOpenBy, namesOf, keepsRules, placing, placeFor};
+ghost use Rattle.fast.specs.Receiver.{hearsFirst, entersAt, entered, frameAt, hearsLater, byMeaning, advanced};
 ghost use Rattle.fast.specs.Promises.{LeftBy};
 ghost use Rattle.fast.specs.Private.{PausedBy, Live};
 use crate::Answer;
@@ -39,7 +40,9 @@ pub fn keeps(r: Receiver, answer: Answer) -> Heard
 // A frame.
 pub fn hear(r: Receiver, storage: &mut [u8], id: u32, bytes: &[u8]) -> Heard
     requires { ⌜ (keepsRules r ≡ true) × (room ≤ length (now storage)) ⌝ }
-    ensures { λ h. ⌜ LeftBy (byMeaning (meaningOf (namesOf r) id (now (bytes .entry))) (now (bytes .entry)) r (now (storage .entry))) h (now (storage .exit)) ⌝ }
+    ensures { λ h. ⌜ LeftBy
+        (byMeaning (meaningOf (namesOf r) id (now (bytes .entry))) (now (bytes .entry)) r (now (storage .entry)))
+        h (now (storage .exit)) ⌝ }
 {
     let checked = frame::check(id, bytes);
     let eight = checked.bytes;
@@ -53,7 +56,9 @@ pub fn hear(r: Receiver, storage: &mut [u8], id: u32, bytes: &[u8]) -> Heard
 // A frame that passed refusals 3 to 6.
 fn heed(r: Receiver, storage: &mut [u8], sender: u8, dgn: u32, bytes: [u8; 8]) -> Heard
     requires { ⌜ (keepsRules r ≡ true) × (room ≤ length (now storage)) ⌝ }
-    ensures { λ h. ⌜ LeftBy (byMeaning (meant (namesOf r) sender dgn bytes) bytes r (now (storage .entry))) h (now (storage .exit)) ⌝ }
+    ensures { λ h. ⌜ LeftBy
+        (byMeaning (meant (namesOf r) sender dgn bytes) bytes r (now (storage .entry)))
+        h (now (storage .exit)) ⌝ }
 {
     if !names::named_by(r, dgn) {
         return keeps(r, Answer::NothingToDo);
@@ -95,7 +100,7 @@ fn heed(r: Receiver, storage: &mut [u8], sender: u8, dgn: u32, bytes: [u8; 8]) -
 // A frame 0 whose message, in place p, takes its pair's place or else the lowest free one.
 fn begins(r: Receiver, storage: &mut [u8], p: Place, bytes: [u8; 8]) -> Heard
     requires { ⌜ room ≤ length (now storage) ⌝ }
-    ensures { λ h. ⌜ LeftBy (begins p bytes r (now (storage .entry))) h (now (storage .exit)) ⌝ }
+    ensures { λ h. ⌜ LeftBy (hearsFirst p bytes r (now (storage .entry))) h (now (storage .exit)) ⌝ }
 {
     match place_for(r, one_place::pair_of(p.sender, p.dgn)) {
         Found::At(at) => enters_at(r, storage, at, p, bytes),
@@ -199,7 +204,7 @@ fn continues(
     bytes: [u8; 8],
 ) -> Heard
     requires { ⌜ (keepsRules r ≡ true) × (room ≤ length (now storage)) ⌝ }
-    ensures { λ h. ⌜ LeftBy (continues pair sequence number bytes r (now (storage .entry))) h (now (storage .exit)) ⌝ }
+    ensures { λ h. ⌜ LeftBy (hearsLater pair sequence number bytes r (now (storage .entry))) h (now (storage .exit)) ⌝ }
 {
     match open_by(r, pair) {
         Found::At(at) => frame_at(r, storage, at, sequence, number, bytes),
@@ -217,7 +222,9 @@ fn frame_at(
     bytes: [u8; 8],
 ) -> Heard
     requires { ⌜ (at < 8) × (room ≤ length (now storage)) × Live (getD (r .places) at freePlace) ⌝ }
-    ensures { λ h. ⌜ LeftBy (frameAt at (getD (r .places) at freePlace) sequence number bytes r (now (storage .entry))) h (now (storage .exit)) ⌝ }
+    ensures { λ h. ⌜ LeftBy
+        (frameAt at (getD (r .places) at freePlace) sequence number bytes r (now (storage .entry)))
+        h (now (storage .exit)) ⌝ }
 {
     let p = r.places[at];
     if sequence != p.sequence {

@@ -1,19 +1,19 @@
 // Fast packets (RULES 12; NMEA 2000's format, as AEBus batteries send it): the receiver of eight pairs of sender and
 // DGN over lent storage, and the splitter. It has its places and its storage to itself, beside those of long messages.
-ghost use Rattle.fast.specs.Promises.{Start, Hear, Pause, Message, FrameOf, StartingRefusal, AnswerRefusal, PausingRefusal, CuttingRefusal};
-
 mod eight_places;
 pub mod limits;
 mod meaning;
 mod names;
 mod one_place;
 mod rules;
-mod split;
+mod splitter;
 mod storage;
 
 use frame::BadFrame;
 use limits::DGNS;
 use limits::STORAGE_BYTES;
+ghost use Rattle.fast.specs.Promises.{Start, Hear, Pause, Message, FrameOf};
+ghost use Rattle.fast.specs.Promises.{StartingRefusal, AnswerRefusal, PausingRefusal, SplittingRefusal};
 
 // An open message's place: its pair of sender and DGN, its sequence number and length, the frame expected next, and the
 // pauses since its last frame, in milliseconds. A free place is all zeros.
@@ -66,6 +66,7 @@ pub enum Answer {
     },
 }
 
+// The state to go on with, and what the frame did.
 pub struct Heard {
     pub receiver: Receiver,
     pub answer: Answer,
@@ -77,22 +78,24 @@ pub enum Pausing {
     BrokenState,
 }
 
+// The state to go on with, and how many messages the pause closed.
 pub struct Paused {
     pub receiver: Receiver,
     pub answer: Pausing,
 }
 
-// A frame of a message, or refusal 12, 13 or 15.
-pub enum Cutting {
+// A frame of a message is given; or a sequence number above 7 has no code in three bits (12), the message has not 1 to
+// 223 bytes (13), or it has no frame of that number (15).
+pub enum Splitting {
     Bytes,
-    SequenceTooLarge,
+    NoCode,
     LengthNotSplit,
     NoSuchFrame,
 }
 
 // A frame's eight bytes; zeros where it is refused.
-pub struct Cut {
-    pub answer: Cutting,
+pub struct Split {
+    pub answer: Splitting,
     pub bytes: [u8; 8],
 }
 
@@ -149,25 +152,26 @@ impl Pausing {
     }
 }
 
-impl Cutting {
+impl Splitting {
     // The number of the refusal; 0 where the frame is given.
     pub fn refusal(self) -> u8
-        ensures { λ r. ⌜ CuttingRefusal self r ⌝ }
+        ensures { λ r. ⌜ SplittingRefusal self r ⌝ }
     {
         let answer = self;
         match answer {
-            Cutting::Bytes => 0,
-            Cutting::SequenceTooLarge => 12,
-            Cutting::LengthNotSplit => 13,
-            Cutting::NoSuchFrame => 15,
+            Splitting::Bytes => 0,
+            Splitting::NoCode => 12,
+            Splitting::LengthNotSplit => 13,
+            Splitting::NoSuchFrame => 15,
         }
     }
 }
 
 impl Receiver {
-    // A receiver with eight free places, for the DGNs of the list; 16 for a list of more than 16, with a repeat, or
-    // with a DGN that is not carried this way: above 1FFFFh, ECFFh, EBFFh, and any whose upper nine bits are EAh or
-    // EEh.
+    // A receiver with eight free places, for the DGNs of the list. Refusal 16, for a list of more than 16, with a
+    // repeat, or with a DGN that is not carried this way: above 1FFFFh, ECFFh, EBFFh, and any whose upper nine bits are
+    // EAh or EEh; the receiver then names no DGN. Lend its `hear` a storage of at least 1784 bytes, the same at every
+    // call.
     pub fn start(dgns: &[u32]) -> Started
         ensures { λ r. ⌜ Start (now (dgns .entry)) r ⌝ }
     {
@@ -191,8 +195,9 @@ impl Receiver {
         }
     }
 
-    // A frame of the bus: 1 to 10, or what it did. A refusal keeps state and storage, but 10 closes the message of the
-    // frame's pair.
+    // Hears one frame. Refusals 1 to 10; only 10 changes anything: it closes the message of the frame's pair. What is
+    // heard changes at most one place, and in the storage no bytes but those of that place. Go on with the receiver
+    // that is answered, and read a finished message with `message` before the next frame is heard.
     pub fn hear(self, storage: &mut [u8], id: u32, bytes: &[u8]) -> Heard
         ensures { λ r. ⌜ Hear id (now (bytes .entry)) self (now (storage .entry)) r (now (storage .exit)) ⌝ }
     {
@@ -205,7 +210,9 @@ impl Receiver {
         eight_places::hear(self, storage, id, bytes)
     }
 
-    // A pause on the bus, in milliseconds: how many messages it closed; or 2, and the state is kept.
+    // Hears that the bus was silent for so many milliseconds: how many messages that closed, each idle for more than
+    // 750 by now. Refusal 2, which changes nothing. Call it for the time between two frames before the second is heard;
+    // a longer time may be given in parts, which add up.
     pub fn pause(self, ms: u16) -> Paused
         ensures { λ r. ⌜ Pause ms self r ⌝ }
     {
@@ -220,7 +227,8 @@ impl Receiver {
 }
 
 // The finished message that `answer` tells of: that part of the storage, to be read before the next frame is heard.
-// Empty for any other answer.
+// Refuses nothing and changes nothing: the part is empty for any other answer, for one that `hear` never gives, and for
+// a storage of less than 1784 bytes.
 pub fn message(storage: &[u8], answer: Answer) -> &[u8]
     ensures { λ r. ⌜ Message (now (storage .entry)) answer (now r) ⌝ }
 {
@@ -238,17 +246,18 @@ pub fn message(storage: &[u8], answer: Answer) -> &[u8]
     }
 }
 
-// Any one frame of a message, by its number from 0: 12 where three bits cannot hold the sequence number, 13 for a
-// message that has not 1 to 223 bytes, 15 for a number past its last frame.
-pub fn frame_of(message: &[u8], sequence: u8, number: u32) -> Cut
+// Any one frame of a message, by its number from 0, to be sent as the message's DGN. Refusals 12, 13 and 15. A message
+// has a seventh of its length, rounded down, of frames after frame 0; send them in their order, all with one sequence
+// number, and the next message of the DGN with the next one.
+pub fn frame_of(message: &[u8], sequence: u8, number: u32) -> Split
     ensures { λ r. ⌜ FrameOf (now (message .entry)) sequence number r ⌝ }
 {
-    match split::splittable(message.len(), sequence, number) {
-        Cutting::Bytes => Cut {
-            answer: Cutting::Bytes,
-            bytes: split::frame_bytes(message, sequence, number as u8),
+    match splitter::splittable(message.len(), sequence, number) {
+        Splitting::Bytes => Split {
+            answer: Splitting::Bytes,
+            bytes: splitter::frame_bytes(message, sequence, number as u8),
         },
-        answer => Cut {
+        answer => Split {
             answer,
             bytes: [0u8; 8],
         },

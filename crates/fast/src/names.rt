@@ -2,8 +2,9 @@
 ghost use mathlib.Core.Path.{_≡_};
 ghost use Prim.Native.Nat.{_≤_};
 ghost use lib.ListN.{length, drop};
-ghost use Rattle.words.specs.Lists.{every};
-ghost use Rattle.fast.specs.Names.{mayBeNamed, isNamed, noneTwice, isWellFormed, padded};
+ghost use Rattle.words.specs.Words.{_=?_};
+ghost use Rattle.words.specs.Lists.{every, noTwo, filledTo};
+ghost use Rattle.fast.specs.Names.{mostNamed, mayBeNamed, isNamed, isWellFormed};
 ghost use Rattle.fast.specs.Receiver.{namesOf};
 use crate::Receiver;
 use crate::limits::DGNS;
@@ -56,7 +57,7 @@ fn may_be_named(dgn: u32) -> bool
 }
 
 fn none_twice(names: &[u32]) -> bool
-    ensures { λ r. ⌜ r ≡ noneTwice (now (names .entry)) ⌝ }
+    ensures { λ r. ⌜ r ≡ noTwo _=?_ (now (names .entry)) ⌝ }
 {
     let mut i: usize = 0;
     while i < names.len() {
@@ -96,7 +97,7 @@ pub fn named_by(r: Receiver, dgn: u32) -> bool
 // The list filled up with zeros.
 pub fn filled(names: &[u32]) -> [u32; DGNS]
     requires { ⌜ length (now names) ≤ 16 ⌝ }
-    ensures { λ r. ⌜ r ≡ padded (now (names .entry)) ⌝ }
+    ensures { λ r. ⌜ r ≡ filledTo mostNamed 0 (now (names .entry)) ⌝ }
 {
     let mut out = [0u32; DGNS];
     let mut i: usize = 0;

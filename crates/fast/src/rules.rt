@@ -1,10 +1,12 @@
 // The rules that a state handed in has to keep.
 ghost use mathlib.Core.Path.{_≡_};
+ghost use mathlib.Core.Bool.{not};
 ghost use Prim.Native.Nat.{_+_, _<_, _≤_};
 ghost use lib.ListN.{drop, getD};
 ghost use Rattle.words.specs.Lists.{any, every};
-ghost use Rattle.places.specs.Layout.{alone, oneEach};
-ghost use Rattle.fast.specs.Receiver.{freePlace, isOpenBy, layout, namesOf, holdsNames, placeKeepsRules, keepsRules};
+ghost use Rattle.places.specs.Layout.{sameHolder, oneEach};
+ghost use Rattle.fast.specs.Receiver.{freePlace, isOpenBy, layout, namesOf, holdsNames, placeKeepsRules};
+ghost use Rattle.fast.specs.Receiver.{keepsRules};
 use crate::Place;
 use crate::Receiver;
 use crate::limits::DGNS;
@@ -83,7 +85,7 @@ fn one_each(r: Receiver) -> bool
 // Whether no place after `at` is open by the same pair.
 fn is_alone(r: Receiver, at: usize) -> bool
     requires { ⌜ at < 8 ⌝ }
-    ensures { λ b. ⌜ b ≡ alone layout (getD (r .places) at freePlace) (drop (at + 1) (r .places)) ⌝ }
+    ensures { λ b. ⌜ b ≡ not (any (sameHolder layout (getD (r .places) at freePlace)) (drop (at + 1) (r .places))) ⌝ }
 {
     let p = r.places[at];
     if p.length == 0 {

@@ -33,7 +33,8 @@ pub fn at_most(most: usize, left: usize) -> usize
 pub fn keep(storage: &mut [u8], at: usize, offset: usize, bytes: [u8; 8], from: usize, count: usize)
     requires { ⌜ (at < 8) × (room ≤ length (now storage)) ⌝ }
     requires { ⌜ (from + count ≤ 8) × (offset + count ≤ longest) ⌝ }
-    ensures { λ _. ⌜ now (storage .exit) ≡ paste (now (storage .entry)) (longest * at + offset) (drop from bytes) count ⌝ }
+    ensures { λ _. ⌜ now (storage .exit)
+        ≡ paste (now (storage .entry)) (longest * at + offset) (drop from bytes) count ⌝ }
 {
     let begin = STRETCH * at;
     copy(&mut storage[begin..], offset, &bytes, from, count)

@@ -75,10 +75,10 @@ pub record FieldsOfTwo : Type 0 where
   pub mark-writes : Catalogue.MarkWrites
   pub no-third-state : Catalogue.NoThirdState
   pub splitter-announces : Message.SplitterAnnounces
-  pub splitter-cuts : Message.SplitterCuts
+  pub splitter-splits : Message.SplitterSplits
   pub split-and-join : SplitAndJoin
   pub joined-by-rules : JoinedByRules
-  pub fast-splitter-cuts : Fast.SplitterCuts
+  pub fast-splitter-splits : Fast.SplitterSplits
   pub fast-split-and-join : FastSplitAndJoin.SplitAndJoin
   pub fast-joined-by-rules : FastSending.JoinedByRules
   pub claim-is-heard : ClaimIsHeard

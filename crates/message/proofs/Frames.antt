@@ -15,7 +15,8 @@ use Rattle.frame.specs.Frame.{sourceAllowed, checkedOf, frameBytes}
 use Rattle.frame.specs.Standard.{announcementDgn, packetDgn}
 use Rattle.frame.specs.declared.Parts.{Parts}
 use Rattle.words.proofs.Words.{both-true, by-test, not-flips, true-false}
-use Rattle.message.specs.LongMessage.{shortest, longest, packetsOf, toAll, byteAt, bytesTo, Meaning, other, announcement, packet, announced, meant, meaningOf}
+use Rattle.message.specs.LongMessage.{shortest, longest, packetsOf, toAll, byteAt, bytesTo, Meaning, other}
+use Rattle.message.specs.LongMessage.{announcement, packet, announced, meant, meaningOf}
 use Rattle.message.specs.Receiver.{greatestSender}
 
 by-if : {A : Type 0} (P : A → Type 0) (b : Bool) (x y : A) → (b ≡ true → P x) → (b ≡ false → P y) → P (if b then x else y)
@@ -51,9 +52,10 @@ sender-low source dgn h e f =
 abbrev pub Known : ℕ → List ℕ → Told Meaning → Type 0
 Known id bytes (refused n) = (2 < n) × (n < 8)
 Known id bytes (gives other) = Unit {0}
-Known id bytes (gives (announcement sender size dgn)) =
-    (sender ≡ sourceOf id) × (sender ≤ greatestSender) × (shortest ≤ size) × (size ≤ longest) × (dgn ≤ greatestDgn)
-Known id bytes (gives (packet sender number)) = (sender ≡ sourceOf id) × (length bytes ≡ frameBytes)
+Known id bytes (gives (announcement m)) =
+    (m .sender ≡ sourceOf id) × (m .sender ≤ greatestSender) × (shortest ≤ m .size) × (m .size ≤ longest)
+    × (m .dgn ≤ greatestDgn)
+Known id bytes (gives (packet p)) = (p .sender ≡ sourceOf id) × (length bytes ≡ frameBytes)
 
 announced-known : (id size count dgn : ℕ) (bytes : List ℕ) → sourceOf id ≤ greatestSender → Known id bytes (announced (sourceOf id) size count dgn)
 unfolding announced

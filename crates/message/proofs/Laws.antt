@@ -15,33 +15,47 @@ use Rattle.frame.specs.Identifier.{greatestDgn}
 use Rattle.frame.specs.Frame.{frameBytes}
 use Rattle.frame.specs.Promises.{refusalOf}
 use Rattle.frame.specs.declared.BadFrame as Frames
-use Rattle.frame.specs.declared.BadFrame.the-variants.{IdentifierTooLarge, NotEightBytes, ReservedBitSet, SourceNotAllowed}
+use Rattle.frame.specs.declared.BadFrame.the-variants.{IdentifierTooLarge, NotEightBytes, ReservedBitSet}
+use Rattle.frame.specs.declared.BadFrame.the-variants.{SourceNotAllowed}
 use Rattle.words.proofs.Words.{by-test}
 use Rattle.words.proofs.Tests.{tests}
 use Rattle.frame.proofs.Laws.{badBack, bad-back}
 use Rattle.words.specs.declared.Found.{Found}
 use Rattle.words.specs.declared.Found.the-variants.{At, Nowhere}
-use Rattle.message.specs.LongMessage.{shortest, longest, packetBytes, packetsOf, needed, Meaning, other, announcement, packet, meaningOf}
-use Rattle.message.specs.Receiver.{placeCount, room, freePlace, isOpenBy, keepsRules, Outcome, nothingToDo, opened, stored, finished, After, leaves, placeFor, openedAt, announces, keptAt, packetAt, carries, byMeaning, heard, pausedPlaces, pausedAnswer}
+use Rattle.message.specs.LongMessage.{shortest, longest, packetBytes, packetsOf, needed, Meaning, other}
+use Rattle.message.specs.LongMessage.{announcement, PacketFrom, packet, meaningOf}
+use Rattle.message.specs.Receiver.{placeCount, room, freePlace, isOpenBy, keepsRules, Outcome, nothingToDo}
+use Rattle.message.specs.Receiver.{opened, stored, finished, After, leaves, placeFor, openedAt, hearsAnnouncement}
+use Rattle.message.specs.Receiver.{keptAt, packetAt, carries, byMeaning, heard, pausedPlaces, pausedAnswer}
 use Rattle.message.specs.Receiver as Receiver
 use Rattle.message.specs.Splitter.{mostPackets, splits, numbered}
-use Rattle.message.specs.Promises.{toldAnswer, toldPausing, announcingNumber, cuttingNumber, bytesIn}
-use Rattle.message.specs.Laws.{ToldAnswerSame, ToldPausingSame, AnnouncingNumberSame, CuttingNumberSame, NewOnly, HearOnly, PauseOnly, MessageOnly, AnnouncementOnly, PacketOnly, AnswerRefusalOnly, PausingRefusalOnly, UnsplittableRefusalOnly, AnnouncingRefusalOnly, CuttingRefusalOnly, RefusedKeeps, ClosedAt, TenCloses, LowestWins, PauseRefusedKeeps, WritesThePacket, WritesItsOwn, NotBeyond, SplitterAnnounces, SplitterCuts}
+use Rattle.message.specs.Promises.{toldAnswer, toldPausing, announcingNumber, splittingNumber, bytesIn}
+use Rattle.message.specs.Laws.{ToldAnswerSame, ToldPausingSame, AnnouncingNumberSame, SplittingNumberSame}
+use Rattle.message.specs.Laws.{NewOnly, HearOnly, PauseOnly, MessageOnly, AnnouncementOnly, PacketOnly}
+use Rattle.message.specs.Laws.{AnswerRefusalOnly, PausingRefusalOnly, UnsplittableRefusalOnly}
+use Rattle.message.specs.Laws.{AnnouncingRefusalOnly, SplittingRefusalOnly, RefusedKeeps, ClosedAt, TenCloses}
+use Rattle.message.specs.Laws.{LowestWins, PauseRefusedKeeps, WritesThePacket, WritesItsOwn, NotBeyond}
+use Rattle.message.specs.Laws.{SplitterAnnounces, SplitterSplits}
 use Rattle.message.specs.declared.Place.{Place}
 use Rattle.message.specs.declared.Receiver.{Receiver}
 use Rattle.message.specs.declared.Answer.{Answer}
-use Rattle.message.specs.declared.Answer.the-variants.{StorageTooShort, BrokenState, BadFrame, MalformedAnnouncement, NoPlaceFree, NoOpenMessage, UnexpectedPacket, NothingToDo, Opened, Stored, Finished}
+use Rattle.message.specs.declared.Answer.the-variants.{StorageTooShort, BrokenState, BadFrame}
+use Rattle.message.specs.declared.Answer.the-variants.{MalformedAnnouncement, NoPlaceFree, NoOpenMessage}
+use Rattle.message.specs.declared.Answer.the-variants.{UnexpectedPacket, NothingToDo, Opened, Stored, Finished}
 use Rattle.message.specs.declared.Pausing.{Pausing}
 use Rattle.message.specs.declared.Pausing.the-variants as Pausing
 use Rattle.message.specs.declared.Unsplittable.{Unsplittable}
-use Rattle.message.specs.declared.Unsplittable.the-variants.{DgnTooLarge, LengthNotSplit, TooManyPackets}
+use Rattle.message.specs.declared.Unsplittable.the-variants.{NoCode, LengthNotSplit, TooManyPackets}
 use Rattle.message.specs.declared.Announcing.{Announcing}
 use Rattle.message.specs.declared.Announcing.the-variants as Announcing
-use Rattle.message.specs.declared.Cutting.{Cutting}
-use Rattle.message.specs.declared.Cutting.the-variants as Cutting
+use Rattle.message.specs.declared.Splitting.{Splitting}
+use Rattle.message.specs.declared.Splitting.the-variants as Splitting
 use Rattle.message.proofs.Frames.{Known, meaning-known}
-use Rattle.message.proofs.Steps.{found-below, OpenRules, rules-at, announces-at, announces-nowhere, advanced-last, advanced-next, advanced-storage, packet-expected, packet-other, carries-at, carries-nowhere, heard-short, heard-broken, heard-kept}
-use Rattle.message.proofs.Packets.{announcement-refused, announcement-given, packet-refused, packet-numbered, numbered-zero, numbered-above, numbered-given}
+use Rattle.message.proofs.Steps.{found-below, OpenRules, rules-at, announcing-at, announcing-nowhere}
+use Rattle.message.proofs.Steps.{advanced-last, advanced-next, advanced-storage, packet-expected, packet-other}
+use Rattle.message.proofs.Steps.{carries-at, carries-nowhere, heard-short, heard-broken, heard-kept}
+use Rattle.message.proofs.Packets.{announcement-refused, announcement-given, packet-refused, packet-numbered}
+use Rattle.message.proofs.Packets.{numbered-zero, numbered-above, numbered-given}
 
 -- an answer is read back from what it tells
 
@@ -57,7 +71,7 @@ answerBack (refused n) =
 answerBack (gives nothingToDo) = NothingToDo
 answerBack (gives opened) = Opened
 answerBack (gives stored) = Stored
-answerBack (gives (finished place sender dgn size)) = Finished place sender dgn size
+answerBack (gives (finished m)) = Finished (m .place) (m .sender) (m .dgn) (m .size)
 
 bad-answer : (w : Frames.BadFrame) → answerBack (refused (refusalOf w)) ≡ BadFrame w
 unfolding answerBack
@@ -96,7 +110,7 @@ pub told-pausing-same : ToldPausingSame
 told-pausing-same r s e = sym (pausing-back r) ∙ ap pausingBack e ∙ pausing-back s
 
 whyBack : ℕ → Unsplittable
-whyBack n = if n =? 12 then DgnTooLarge else if n =? 13 then LengthNotSplit else TooManyPackets
+whyBack n = if n =? 12 then NoCode else if n =? 13 then LengthNotSplit else TooManyPackets
 
 announcingBack : ℕ → Announcing
 announcingBack n = if n =? 0 then Announcing.Bytes else Announcing.Refused (whyBack n)
@@ -104,26 +118,29 @@ announcingBack n = if n =? 0 then Announcing.Bytes else Announcing.Refused (whyB
 announcing-back : (r : Announcing) → announcingBack (announcingNumber r) ≡ r
 unfolding announcingBack whyBack
 announcing-back Announcing.Bytes = refl
-announcing-back (Announcing.Refused DgnTooLarge) = refl
+announcing-back (Announcing.Refused NoCode) = refl
 announcing-back (Announcing.Refused LengthNotSplit) = refl
 announcing-back (Announcing.Refused TooManyPackets) = refl
 
 pub announcing-number-same : AnnouncingNumberSame
 announcing-number-same r s e = sym (announcing-back r) ∙ ap announcingBack e ∙ announcing-back s
 
-cuttingBack : ℕ → Cutting
-cuttingBack n = if n =? 0 then Cutting.Bytes else if n =? 15 then Cutting.NoSuchPacket else Cutting.Refused (whyBack n)
+splittingBack : ℕ → Splitting
+splittingBack n =
+    if n =? 0 then Splitting.Bytes else
+    if n =? 15 then Splitting.NoSuchPacket else
+    Splitting.Refused (whyBack n)
 
-cutting-back : (r : Cutting) → cuttingBack (cuttingNumber r) ≡ r
-unfolding cuttingBack whyBack
-cutting-back Cutting.Bytes = refl
-cutting-back (Cutting.Refused DgnTooLarge) = refl
-cutting-back (Cutting.Refused LengthNotSplit) = refl
-cutting-back (Cutting.Refused TooManyPackets) = refl
-cutting-back Cutting.NoSuchPacket = refl
+splitting-back : (r : Splitting) → splittingBack (splittingNumber r) ≡ r
+unfolding splittingBack whyBack
+splitting-back Splitting.Bytes = refl
+splitting-back (Splitting.Refused NoCode) = refl
+splitting-back (Splitting.Refused LengthNotSplit) = refl
+splitting-back (Splitting.Refused TooManyPackets) = refl
+splitting-back Splitting.NoSuchPacket = refl
 
-pub cutting-number-same : CuttingNumberSame
-cutting-number-same r s e = sym (cutting-back r) ∙ ap cuttingBack e ∙ cutting-back s
+pub splitting-number-same : SplittingNumberSame
+splitting-number-same r s e = sym (splitting-back r) ∙ ap splittingBack e ∙ splitting-back s
 
 -- no second answer
 
@@ -153,7 +170,7 @@ announcement-only message dgn r s p q =
 
 pub packet-only : PacketOnly
 packet-only message dgn number r s p q =
-    let a = cutting-number-same (r .answer) (s .answer) (p .number ∙ sym (q .number)) in
+    let a = splitting-number-same (r .answer) (s .answer) (p .number ∙ sym (q .number)) in
     let b = p .bytes ∙ sym (q .bytes) in
     λ i. record { answer = a i; bytes = b i }
 
@@ -169,8 +186,8 @@ unsplittable-refusal-only why r s p q = p .number ∙ sym (q .number)
 pub announcing-refusal-only : AnnouncingRefusalOnly
 announcing-refusal-only answer r s p q = p .number ∙ sym (q .number)
 
-pub cutting-refusal-only : CuttingRefusalOnly
-cutting-refusal-only answer r s p q = p .number ∙ sym (q .number)
+pub splitting-refusal-only : SplittingRefusalOnly
+splitting-refusal-only answer r s p q = p .number ∙ sym (q .number)
 
 -- A frame, by its outcomes: either a refusal or an announcement that leaves the storage, or a packet at its sender's place.
 
@@ -178,21 +195,25 @@ data Left (id : ℕ) (bytes : List ℕ) (ps : List Place) (s : List ℕ) : After
   refuses : {n : ℕ} → n ≢ 10 → Left id bytes ps s (leaves ps s (refused n))
   passes : Left id bytes ps s (leaves ps s (gives nothingToDo))
   opens : (i : ℕ) (p : Place) → Left id bytes ps s (openedAt (At i) p ps s)
-  closes : {sender number i : ℕ} → meaningOf id bytes ≡ gives (packet sender number) → first (isOpenBy sender) ps ≡ At i
-      → number ≢ getD ps i freePlace .expected → Left id bytes ps s (leaves (set ps i freePlace) s (refused 10))
-  stores : {sender number i : ℕ} {qs : List Place} {o : Outcome} → meaningOf id bytes ≡ gives (packet sender number) → first (isOpenBy sender) ps ≡ At i
+  closes : {p : PacketFrom} {i : ℕ} → meaningOf id bytes ≡ gives (packet p) → first (isOpenBy (p .sender)) ps ≡ At i
+      → p .number ≢ getD ps i freePlace .expected → Left id bytes ps s (leaves (set ps i freePlace) s (refused 10))
+  stores : {p : PacketFrom} {i : ℕ} {qs : List Place} {o : Outcome}
+      → meaningOf id bytes ≡ gives (packet p) → first (isOpenBy (p .sender)) ps ≡ At i
       → OpenRules (getD ps i freePlace) → room ≤ length s → length bytes ≡ frameBytes
       → Left id bytes ps s (leaves qs (keptAt i (getD ps i freePlace) bytes s) (gives o))
 
 module _ (id : ℕ) (bytes : List ℕ) (ps : List Place) (s : List ℕ) where
-  announces-left : (sender size dgn : ℕ) → Left id bytes ps s (announces sender size dgn ps s)
-  announces-left sender size dgn = go (placeFor sender ps) refl
+  announcing-left : (sender size dgn : ℕ) → Left id bytes ps s (hearsAnnouncement sender size dgn ps s)
+  announcing-left sender size dgn = go (placeFor sender ps) refl
     where
-      go : (g : Found) → placeFor sender ps ≡ g → Left id bytes ps s (announces sender size dgn ps s)
-      go (At i) e = subst⁻¹ (Left id bytes ps s) (announces-at sender size dgn ps s i e) (opens i _)
-      go Nowhere e = subst⁻¹ (Left id bytes ps s) (announces-nowhere sender size dgn ps s e) (refuses (λ x. omega arith))
+      go : (g : Found) → placeFor sender ps ≡ g → Left id bytes ps s (hearsAnnouncement sender size dgn ps s)
+      go (At i) e = subst⁻¹ (Left id bytes ps s) (announcing-at sender size dgn ps s i e) (opens i _)
+      go Nowhere e = subst⁻¹ (Left id bytes ps s) (announcing-nowhere sender size dgn ps s e)
+          (refuses (λ x. omega arith))
 
-  carries-left : (sender number : ℕ) → meaningOf id bytes ≡ gives (packet sender number) → keepsRules ps ≡ true → room ≤ length s → length bytes ≡ frameBytes
+  carries-left : (sender number : ℕ)
+      → meaningOf id bytes ≡ gives (packet (record { sender = sender; number = number }))
+      → keepsRules ps ≡ true → room ≤ length s → length bytes ≡ frameBytes
       → Left id bytes ps s (carries sender number bytes ps s)
   carries-left sender number m v enough l = go (first (isOpenBy sender) ps) refl
     where
@@ -216,8 +237,8 @@ module _ (id : ℕ) (bytes : List ℕ) (ps : List Place) (s : List ℕ) where
   meaning-left : (m : Told Meaning) → meaningOf id bytes ≡ m → Known id bytes m → keepsRules ps ≡ true → room ≤ length s → Left id bytes ps s (byMeaning m bytes ps s)
   meaning-left (refused n) e k v enough = let h : n < 8 = k .1 in let x : n ≡ 10 → ⊥ = λ y. omega arith in refuses x
   meaning-left (gives other) e k v enough = passes
-  meaning-left (gives (announcement sender size dgn)) e k v enough = announces-left sender size dgn
-  meaning-left (gives (packet sender number)) e k v enough = carries-left sender number e v enough (k .1)
+  meaning-left (gives (announcement m)) e k v enough = announcing-left (m .sender) (m .size) (m .dgn)
+  meaning-left (gives (packet p)) e k v enough = carries-left (p .sender) (p .number) e v enough (k .1)
 
   heard-left : Left id bytes ps s (heard id bytes ps s)
   heard-left =
@@ -252,13 +273,12 @@ ten-closes id bytes ps s r exit h e =
   where
     go : (a : After) → Left id bytes ps s a → a .answer ≡ refused 10
         → r .receiver .places ≡ a .places → exit ≡ a .storage
-        → (sender number i : ℕ) × (meaningOf id bytes ≡ gives (packet sender number))
-        × (number ≢ getD ps i freePlace .expected) × ClosedAt ps s (r .receiver .places) exit sender i
+        → (p : PacketFrom) × (i : ℕ) × (meaningOf id bytes ≡ gives (packet p))
+        × (p .number ≢ getD ps i freePlace .expected) × ClosedAt ps s (r .receiver .places) exit (p .sender) i
     go a (refuses x) y p q = absurd (x (refused-is y))
     go a passes y p q = given-refused y
     go a (opens i q₀) y p q = given-refused y
-    go a (closes {sender = sender} {number = number} {i = i} m f o) y p q =
-        (sender, number, i, m, o, record { held = f; closed = p; kept = q })
+    go a (closes {p = l} {i = i} m f o) y p q = (l, i, m, o, record { held = f; closed = p; kept = q })
     go a (stores m f o l b) y p q = given-refused y
 
 pub lowest-wins : (id : ℕ) (bytes : List ℕ) (ps : List Place) (s : List ℕ) → LowestWins id bytes ps s
@@ -329,7 +349,8 @@ packet-holds bytes p b = rw length-drop (omega arith)
 -- the expected packet is kept
 expected-kept : (id : ℕ) (bytes : List ℕ) (ps : List Place) (s : List ℕ) (sender i : ℕ)
     → room ≤ length s → keepsRules ps ≡ true
-    → meaningOf id bytes ≡ gives (packet sender (getD ps i freePlace .expected)) → first (isOpenBy sender) ps ≡ At i
+    → meaningOf id bytes ≡ gives (packet (record { sender = sender; number = getD ps i freePlace .expected }))
+    → first (isOpenBy sender) ps ≡ At i
     → heard id bytes ps s .storage ≡ keptAt i (getD ps i freePlace) bytes s
 expected-kept id bytes ps s sender i enough v m f =
     let p = getD ps i freePlace in
@@ -361,12 +382,12 @@ writes-its-own id bytes ps s r exit k eight h beside =
     go a passes = refl
     go a (opens i p) = refl
     go a (closes m f o) = refl
-    go a (stores {sender = sender} {number = number} {i = i} m f o enough b) =
+    go a (stores {p = l} {i = i} m f o enough b) =
         let p = getD ps i freePlace in
-        let below = found-below (isOpenBy sender) ps i eight f in
+        let below = found-below (isOpenBy (l .sender)) ps i eight f in
         copy-keeps s (longest * i + packetBytes * (p .expected - 1)) (drop 1 bytes) (needed (p .length) (p .expected)) k
         (stretch-holds s i p below enough o) (packet-holds bytes p b)
-        (λ x y. beside sender number i m f (record { from = x; below = y }))
+        (λ x y. beside l i m f (record { from = x; below = y }))
 
 pub not-beyond : NotBeyond
 not-beyond p i k one most own = omega (arith, own .below)
@@ -399,8 +420,8 @@ splitter-announces message dgn r p =
           (announcing-number-same (r .answer) Announcing.Bytes (p .number ∙ ap numberIn e), p .bytes ∙ ap bytesIn e);
     }
 
-pub splitter-cuts : SplitterCuts
-splitter-cuts message dgn number r p =
+pub splitter-splits : SplitterSplits
+splitter-splits message dgn number r p =
     let size = length message in
     record {
       twelve = λ d. p .number ∙ ap numberIn (packet-refused message dgn number (splits-above size dgn d));
@@ -411,7 +432,7 @@ splitter-cuts message dgn number r p =
       given = λ d l h one most.
           let e = packet-numbered message dgn number (splits-within size dgn d l h (omega arith)) in
           let g = e ∙ numbered-given message number (packetsOf size) (λ z. omega arith) most in
-          (cutting-number-same (r .answer) Cutting.Bytes (p .number ∙ ap numberIn g), p .bytes ∙ ap bytesIn g);
+          (splitting-number-same (r .answer) Splitting.Bytes (p .number ∙ ap numberIn g), p .bytes ∙ ap bytesIn g);
     }
   where
     numbered-outside : (number ≡ 0) ⊎ (packetsOf (length message) < number)

@@ -15,10 +15,11 @@ use Rattle.frame.specs.Identifier.{greatestDgn}
 use Rattle.frame.specs.Standard.{unused}
 use Rattle.words.proofs.Words.{by-test, past-refusal, gives-same}
 use Rattle.message.specs.LongMessage.{shortest, longest, packetBytes, packetsOf}
-use Rattle.message.specs.Splitter.{mostPackets, splits, numbered, announcementBytes, packetBytesOf, announcementOf, packetOf}
-use Rattle.message.specs.Promises.{CutBy, cuttingNumber}
-use Rattle.message.specs.declared.Cutting.{Cutting}
-use Rattle.message.specs.declared.Cut.{Cut}
+use Rattle.message.specs.Splitter.{mostPackets, splits, numbered, announcementBytes, packetBytesOf}
+use Rattle.message.specs.Splitter.{announcementOf, packetOf}
+use Rattle.message.specs.Promises.{SplitBy, splittingNumber}
+use Rattle.message.specs.declared.Splitting.{Splitting}
+use Rattle.message.specs.declared.Split.{Split}
 
 -- a message that is split keeps its limits, and the count is that of its packets
 pub record Splittable (size dgn count : ℕ) : Type 0 where
@@ -59,8 +60,9 @@ module _ (message : List ℕ) (dgn : ℕ) where
   packet-numbered number e = rw e
 
 -- a refusal with zeros beside it
-pub cut-refused : {t : Told (List ℕ)} {a : Cutting} {r : Cut} → t ≡ refused (cuttingNumber a) → (r .answer ≡ a) × (r .bytes ≡ replicate frameBytes 0) → CutBy t r
-cut-refused {r = r} e k = rw e (record { number = ap cuttingNumber (k .0); bytes = k .1 })
+pub split-refused : {t : Told (List ℕ)} {a : Splitting} {r : Split} → t ≡ refused (splittingNumber a)
+    → (r .answer ≡ a) × (r .bytes ≡ replicate frameBytes 0) → SplitBy t r
+split-refused {r = r} e k = rw e (record { number = ap splittingNumber (k .0); bytes = k .1 })
 
 module _ (message : List ℕ) (number count : ℕ) where
   pub numbered-zero : number ≡ 0 → numbered message number count ≡ refused 15

@@ -19,7 +19,10 @@ use Rattle.words.proofs.Lists.{found-at, every-at}
 use Rattle.words.specs.declared.Found.{Found}
 use Rattle.words.specs.declared.Found.the-variants.{At, Nowhere}
 use Rattle.message.specs.LongMessage.{shortest, longest, packetsOf, idleLimit, Meaning, meant, meaningOf}
-use Rattle.message.specs.Receiver.{greatestSender, room, freePlace, isFree, isOpenBy, layout, placeKeepsRules, keepsRules, Outcome, stored, finished, After, leaves, orElse, placeFor, openedAt, announces, keptAt, expecting, advanced, packetAt, carries, byMeaning, heard}
+use Rattle.message.specs.Receiver.{greatestSender, room, freePlace, isFree, isOpenBy, layout, placeKeepsRules}
+use Rattle.message.specs.Receiver.{keepsRules, Outcome, stored, finished, wholeAt, After, leaves, orElse}
+use Rattle.message.specs.Receiver.{placeFor, openedAt, hearsAnnouncement, keptAt, expecting, advanced, packetAt}
+use Rattle.message.specs.Receiver.{carries, byMeaning, heard}
 use Rattle.message.specs.Promises.{toldAnswer, LeftBy}
 use Rattle.message.specs.Private.{Live}
 use Rattle.message.specs.declared.Place.{Place}
@@ -54,20 +57,22 @@ place-for-below sender ps j h e = go (first (isOpenBy sender) ps) refl
     go Nowhere k = found-below isFree ps j h (rw k at e)
 
 module _ (sender size dgn : ℕ) (ps : List Place) (s : List ℕ) where
-  pub announces-at : (i : ℕ) → placeFor sender ps ≡ At i
-      → announces sender size dgn ps s
+  pub announcing-at : (i : ℕ) → placeFor sender ps ≡ At i
+      → hearsAnnouncement sender size dgn ps s
       ≡ openedAt (At i) (record { sender = sender; length = size; dgn = dgn; expected = 1; idle = 0 }) ps s
-  unfolding announces
-  announces-at i e = rw e
+  unfolding hearsAnnouncement
+  announcing-at i e = rw e
 
-  pub announces-nowhere : placeFor sender ps ≡ Nowhere → announces sender size dgn ps s ≡ leaves ps s (refused 8)
-  unfolding announces
-  announces-nowhere e = rw e
+  pub announcing-nowhere : placeFor sender ps ≡ Nowhere
+      → hearsAnnouncement sender size dgn ps s ≡ leaves ps s (refused 8)
+  unfolding hearsAnnouncement
+  announcing-nowhere e = rw e
 
 -- a packet
 
 module _ (i : ℕ) (p : Place) (ps : List Place) (s : List ℕ) where
-  pub advanced-last : p .expected ≡ packetsOf (p .length) → advanced i p ps s ≡ leaves (set ps i freePlace) s (gives (finished i (p .sender) (p .dgn) (p .length)))
+  pub advanced-last : p .expected ≡ packetsOf (p .length)
+      → advanced i p ps s ≡ leaves (set ps i freePlace) s (gives (finished (wholeAt i p)))
   unfolding advanced
   advanced-last e = rw (eq-eqb _ _ e)
 

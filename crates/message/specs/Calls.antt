@@ -42,7 +42,8 @@ tells message (refused n) = if n =? 8 then full else said (refused n)
 tells message (gives Receiver.nothingToDo) = said (gives nothingToDo)
 tells message (gives Receiver.opened) = said (gives opened)
 tells message (gives Receiver.stored) = said (gives stored)
-tells message (gives (Receiver.finished place sender dgn size)) = said (gives (finished sender dgn message))
+tells message (gives (Receiver.finished m)) =
+    said (gives (finished (record { sender = m .sender; dgn = m .dgn; bytes = message })))
 
 -- `hear`, and `message` directly after it
 pub record Hears (s : Held) (f : Frame) (told : Out (Told Tells)) (t : Held) : Type 0 where

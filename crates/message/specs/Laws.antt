@@ -12,10 +12,13 @@ use Rattle.words.specs.Lists.{first}
 use Rattle.frame.specs.Identifier.{greatestDgn}
 use Rattle.frame.specs.Frame.{checkedOf}
 use Rattle.words.specs.declared.Found.the-variants.{At}
-use Rattle.message.specs.LongMessage.{shortest, longest, packetBytes, packetsOf, needed, packet, meaningOf}
+use Rattle.message.specs.LongMessage.{shortest, longest, packetBytes, packetsOf, needed, PacketFrom, packet}
+use Rattle.message.specs.LongMessage.{meaningOf}
 use Rattle.message.specs.Receiver.{placeCount, room, freePlace, isOpenBy, keepsRules, heard}
 use Rattle.message.specs.Splitter.{announcementBytes, packetBytesOf}
-use Rattle.message.specs.Promises.{toldAnswer, toldPausing, announcingNumber, cuttingNumber, New, Hear, Pause, Message, Announcement, Packet, AnswerRefusal, PausingRefusal, UnsplittableRefusal, AnnouncingRefusal, CuttingRefusal}
+use Rattle.message.specs.Promises.{toldAnswer, toldPausing, announcingNumber, splittingNumber, New, Hear, Pause}
+use Rattle.message.specs.Promises.{Message, Announcement, Packet, AnswerRefusal, PausingRefusal}
+use Rattle.message.specs.Promises.{UnsplittableRefusal, AnnouncingRefusal, SplittingRefusal}
 use Rattle.message.specs.declared.Place.{Place}
 use Rattle.message.specs.declared.Receiver.{Receiver}
 use Rattle.message.specs.declared.Answer.{Answer}
@@ -27,9 +30,9 @@ use Rattle.message.specs.declared.Unsplittable.{Unsplittable}
 use Rattle.message.specs.declared.Announcing.{Announcing}
 use Rattle.message.specs.declared.Announcing.the-variants as Announcing
 use Rattle.message.specs.declared.Announced.{Announced}
-use Rattle.message.specs.declared.Cutting.{Cutting}
-use Rattle.message.specs.declared.Cutting.the-variants as Cutting
-use Rattle.message.specs.declared.Cut.{Cut}
+use Rattle.message.specs.declared.Splitting.{Splitting}
+use Rattle.message.specs.declared.Splitting.the-variants as Splitting
+use Rattle.message.specs.declared.Split.{Split}
 
 -- An answer read as number and values loses nothing (RULES 2.10).
 
@@ -42,8 +45,8 @@ ToldPausingSame = (r s : Pausing) → toldPausing r ≡ toldPausing s → r ≡ 
 abbrev pub AnnouncingNumberSame : Type 0
 AnnouncingNumberSame = (r s : Announcing) → announcingNumber r ≡ announcingNumber s → r ≡ s
 
-abbrev pub CuttingNumberSame : Type 0
-CuttingNumberSame = (r s : Cutting) → cuttingNumber r ≡ cuttingNumber s → r ≡ s
+abbrev pub SplittingNumberSame : Type 0
+SplittingNumberSame = (r s : Splitting) → splittingNumber r ≡ splittingNumber s → r ≡ s
 
 -- No second answer, state and storage keep a promise.
 
@@ -68,7 +71,8 @@ AnnouncementOnly =
 
 abbrev pub PacketOnly : Type 0
 PacketOnly =
-    (message : List ℕ) (dgn number : ℕ) (r s : Cut) → Packet message dgn number r → Packet message dgn number s → r ≡ s
+    (message : List ℕ) (dgn number : ℕ) (r s : Split)
+    → Packet message dgn number r → Packet message dgn number s → r ≡ s
 
 abbrev pub AnswerRefusalOnly : Type 0
 AnswerRefusalOnly = (answer : Answer) (r s : ℕ) → AnswerRefusal answer r → AnswerRefusal answer s → r ≡ s
@@ -80,10 +84,11 @@ abbrev pub UnsplittableRefusalOnly : Type 0
 UnsplittableRefusalOnly = (why : Unsplittable) (r s : ℕ) → UnsplittableRefusal why r → UnsplittableRefusal why s → r ≡ s
 
 abbrev pub AnnouncingRefusalOnly : Type 0
-AnnouncingRefusalOnly = (answer : Announcing) (r s : ℕ) → AnnouncingRefusal answer r → AnnouncingRefusal answer s → r ≡ s
+AnnouncingRefusalOnly =
+    (answer : Announcing) (r s : ℕ) → AnnouncingRefusal answer r → AnnouncingRefusal answer s → r ≡ s
 
-abbrev pub CuttingRefusalOnly : Type 0
-CuttingRefusalOnly = (answer : Cutting) (r s : ℕ) → CuttingRefusal answer r → CuttingRefusal answer s → r ≡ s
+abbrev pub SplittingRefusalOnly : Type 0
+SplittingRefusalOnly = (answer : Splitting) (r s : ℕ) → SplittingRefusal answer r → SplittingRefusal answer s → r ≡ s
 
 -- A refusal keeps state and storage; 10 closes the sender's place, and keeps every other place and all bytes.
 
@@ -93,7 +98,8 @@ RefusedKeeps =
     → Hear id bytes places storage r exit → toldAnswer (r .answer) ≡ refused n → n ≢ 10
     → (r .receiver .places ≡ places) × (exit ≡ storage)
 
-pub record ClosedAt (places : List Place) (storage : List ℕ) (after : List Place) (exit : List ℕ) (sender i : ℕ) : Type 0 where
+pub record ClosedAt (places : List Place) (storage : List ℕ) (after : List Place) (exit : List ℕ) (sender i : ℕ)
+    : Type 0 where
   pub held : first (isOpenBy sender) places ≡ At i
   pub closed : after ≡ set places i freePlace
   pub kept : exit ≡ storage
@@ -102,8 +108,9 @@ abbrev pub TenCloses : Type 0
 TenCloses =
     (id : ℕ) (bytes : List ℕ) (places : List Place) (storage : List ℕ) (r : Heard) (exit : List ℕ)
     → Hear id bytes places storage r exit → r .answer ≡ UnexpectedPacket
-    → (sender number i : ℕ) × (meaningOf id bytes ≡ gives (packet sender number))
-    × (number ≢ getD places i freePlace .expected) × ClosedAt places storage (r .receiver .places) exit sender i
+    → (p : PacketFrom) × (i : ℕ) × (meaningOf id bytes ≡ gives (packet p))
+    × (p .number ≢ getD places i freePlace .expected)
+    × ClosedAt places storage (r .receiver .places) exit (p .sender) i
 
 abbrev pub PauseRefusedKeeps : Type 0
 PauseRefusedKeeps =
@@ -136,7 +143,7 @@ WritesThePacket =
     (id : ℕ) (bytes : List ℕ) (places : List Place) (storage : List ℕ) (r : Heard) (exit : List ℕ) (sender i k : ℕ)
     → length places ≡ placeCount → room ≤ length storage → keepsRules places ≡ true
     → Hear id bytes places storage r exit
-    → meaningOf id bytes ≡ gives (packet sender (getD places i freePlace .expected))
+    → meaningOf id bytes ≡ gives (packet (record { sender = sender; number = getD places i freePlace .expected }))
     → first (isOpenBy sender) places ≡ At i
     → ItsOwn (getD places i freePlace) i k
     → getD exit k 0
@@ -147,7 +154,7 @@ abbrev pub WritesItsOwn : Type 0
 WritesItsOwn =
     (id : ℕ) (bytes : List ℕ) (places : List Place) (storage : List ℕ) (r : Heard) (exit : List ℕ) (k : ℕ)
     → length places ≡ placeCount → Hear id bytes places storage r exit
-    → ((sender number i : ℕ) → meaningOf id bytes ≡ gives (packet sender number) → first (isOpenBy sender) places ≡ At i
+    → ((p : PacketFrom) (i : ℕ) → meaningOf id bytes ≡ gives (packet p) → first (isOpenBy (p .sender)) places ≡ At i
     → ItsOwn (getD places i freePlace) i k → ⊥)
     → getD exit k 0 ≡ getD storage k 0
 
@@ -172,16 +179,16 @@ SplitterAnnounces =
 
 -- What packet `number` of a message answers: 12 and 13 as above, else 15 for a number that the message has no packet
 -- of, and otherwise the bytes.
-pub record PacketAnswers (message : List ℕ) (dgn number : ℕ) (r : Cut) : Type 0 where
-  pub twelve : greatestDgn < dgn → cuttingNumber (r .answer) ≡ 12
+pub record PacketAnswers (message : List ℕ) (dgn number : ℕ) (r : Split) : Type 0 where
+  pub twelve : greatestDgn < dgn → splittingNumber (r .answer) ≡ 12
   pub thirteen :
-      dgn ≤ greatestDgn → (length message < shortest) ⊎ (longest < length message) → cuttingNumber (r .answer) ≡ 13
+      dgn ≤ greatestDgn → (length message < shortest) ⊎ (longest < length message) → splittingNumber (r .answer) ≡ 13
   pub fifteen : dgn ≤ greatestDgn → shortest ≤ length message → length message ≤ longest
-      → (number ≡ 0) ⊎ (packetsOf (length message) < number) → cuttingNumber (r .answer) ≡ 15
+      → (number ≡ 0) ⊎ (packetsOf (length message) < number) → splittingNumber (r .answer) ≡ 15
   pub given : dgn ≤ greatestDgn → shortest ≤ length message → length message ≤ longest
       → 1 ≤ number → number ≤ packetsOf (length message)
-      → (r .answer ≡ Cutting.Bytes) × (r .bytes ≡ packetBytesOf message number)
+      → (r .answer ≡ Splitting.Bytes) × (r .bytes ≡ packetBytesOf message number)
 
-abbrev pub SplitterCuts : Type 0
-SplitterCuts =
-    (message : List ℕ) (dgn number : ℕ) (r : Cut) → Packet message dgn number r → PacketAnswers message dgn number r
+abbrev pub SplitterSplits : Type 0
+SplitterSplits =
+    (message : List ℕ) (dgn number : ℕ) (r : Split) → Packet message dgn number r → PacketAnswers message dgn number r

@@ -41,22 +41,32 @@ byteAt at bytes = getD bytes at 0
 unfoldable pub bytesTo : ℕ → ℕ → List ℕ → ℕ
 bytesTo from to bytes = numberOf (take (to + 1 - from) (drop from bytes))
 
--- What a frame means to the receiver.
+-- What a frame means to the receiver: the announcement of a message, a packet by its number, or anything else.
+
+pub record NewMessage : Type 0 where
+  pub sender : ℕ
+  pub size : ℕ
+  pub dgn : ℕ
+
+pub record PacketFrom : Type 0 where
+  pub sender : ℕ
+  pub number : ℕ
+
 pub data Meaning : Type 0 where
   other : Meaning
-  announcement : ℕ → ℕ → ℕ → Meaning  -- sender, length and DGN of the message
-  packet : ℕ → ℕ → Meaning  -- sender and number of the packet
+  announcement : NewMessage → Meaning
+  packet : PacketFrom → Meaning
 
 unfoldable pub announced : ℕ → ℕ → ℕ → ℕ → Told Meaning
 announced sender size count dgn =
     if (shortest ≤? size) and (size ≤? longest) and (count =? packetsOf size) and (dgn ≤? greatestDgn)
-    then gives (announcement sender size dgn)
+    then gives (announcement (record { sender = sender; size = size; dgn = dgn }))
     else refused 7
 
 -- A frame that has passed refusals 3 to 6. ECxxh and EBxxh to one destination are other DGNs.
 unfoldable pub meant : ℕ → ℕ → List ℕ → Told Meaning
 meant sender dgn bytes =
-    if dgn =? packetDgn then gives (packet sender (byteAt 0 bytes)) else
+    if dgn =? packetDgn then gives (packet (record { sender = sender; number = byteAt 0 bytes })) else
     if dgn =? announcementDgn then
     if byteAt 0 bytes =? toAll then announced sender (bytesTo 1 2 bytes) (byteAt 3 bytes) (bytesTo 5 7 bytes) else
     gives other

@@ -8,7 +8,8 @@ use Rattle.words.specs.Words.{if_then_else_, _<?_, _=?_, Told, refused, gives}
 use Rattle.frame.specs.Identifier.{sourceOf}
 use Rattle.frame.specs.Standard.{Frame}
 use Rattle.places.specs.Format.{Asks, fixed, opens, feeds, Fed, goes, ends, Format}
-use Rattle.message.specs.LongMessage.{packetsOf, idleLimit, needed, Meaning, other, announcement, packet, meaningOf}
+use Rattle.message.specs.LongMessage.{packetsOf, idleLimit, needed, Meaning, other, announcement, packet}
+use Rattle.message.specs.LongMessage.{meaningOf}
 
 -- An open message.
 pub record Open : Type 0 where
@@ -23,12 +24,18 @@ pub record Part : Type 0 where
   pub number : ℕ
   pub seven : List ℕ
 
+-- A whole message.
+pub record Whole : Type 0 where
+  pub sender : ℕ
+  pub dgn : ℕ
+  pub bytes : List ℕ
+
 -- What the caller is told of a frame that is not refused.
 pub data Tells : Type 0 where
   nothingToDo : Tells
   opened : Tells
   stored : Tells
-  finished : ℕ → ℕ → List ℕ → Tells  -- sender, DGN and bytes of the message
+  finished : Whole → Tells
 
 -- A valid announcement opens the message: packet 1 is expected, nothing is collected.
 abbrev pub announcedBy : ℕ → ℕ → ℕ → Open
@@ -38,16 +45,26 @@ announcedBy sender size dgn = record { sender = sender; size = size; dgn = dgn; 
 abbrev pub joined : Open → List ℕ → List ℕ
 joined m seven = m .collected ++ take (needed (m .size) (m .expected)) seven
 
+abbrev pub wholeOf : Open → List ℕ → Whole
+wholeOf m bytes = record { sender = m .sender; dgn = m .dgn; bytes = bytes }
+
 abbrev pub expectingNext : Open → List ℕ → Open
 expectingNext m collected =
-    record { sender = m .sender; size = m .size; dgn = m .dgn; expected = m .expected + 1; idle = 0; collected = collected }
+    record {
+      sender = m .sender;
+      size = m .size;
+      dgn = m .dgn;
+      expected = m .expected + 1;
+      idle = 0;
+      collected = collected;
+    }
 
 -- The expected packet is stored, and the last one hands the message over; any other number closes it.
 abbrev pub fedBy : Open → Part → Fed Open (Told Tells)
 fedBy m part =
     if part .number =? m .expected then
     if m .expected =? packetsOf (m .size)
-    then ends (gives (finished (m .sender) (m .dgn) (joined m (part .seven))))
+    then ends (gives (finished (wholeOf m (joined m (part .seven)))))
     else goes (expectingNext m (joined m (part .seven))) (gives stored)
     else ends (refused 10)
 
@@ -55,14 +72,22 @@ fedBy m part =
 abbrev pub waits : ℕ → Open → Option Open
 waits ms m =
     if idleLimit <? m .idle + ms then none else
-    some (record { sender = m .sender; size = m .size; dgn = m .dgn; expected = m .expected; idle = m .idle + ms; collected = m .collected })
+    some
+    (record {
+      sender = m .sender;
+      size = m .size;
+      dgn = m .dgn;
+      expected = m .expected;
+      idle = m .idle + ms;
+      collected = m .collected;
+    })
 
 -- What a frame asks for; a packet where no message is open is 9.
 abbrev pub asksBy : Told Meaning → List ℕ → Asks Open Part (Told Tells)
 asksBy (refused n) bytes = fixed (refused n)
 asksBy (gives other) bytes = fixed (gives nothingToDo)
-asksBy (gives (announcement sender size dgn)) bytes = opens (announcedBy sender size dgn) (gives opened)
-asksBy (gives (packet sender number)) bytes = feeds (record { number = number; seven = drop 1 bytes }) (refused 9)
+asksBy (gives (announcement m)) bytes = opens (announcedBy (m .sender) (m .size) (m .dgn)) (gives opened)
+asksBy (gives (packet p)) bytes = feeds (record { number = p .number; seven = drop 1 bytes }) (refused 9)
 
 -- Long messages as a format: the key is the sender, and a frame is checked first, which is refusals 3 to 6.
 abbrev pub longMessages : Format

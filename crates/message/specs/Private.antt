@@ -11,14 +11,14 @@ use Rattle.message.specs.declared.Place.{Place}
 use Rattle.message.specs.declared.Paused.{Paused}
 use Rattle.message.specs.declared.meaning.Meant.{Meant}
 use Rattle.message.specs.declared.meaning.Meant.the-variants.{Malformed, Other, Announcement, Packet}
-use Rattle.message.specs.declared.split.Splits.{Splits}
-use Rattle.message.specs.declared.split.Splits.the-variants.{Into, Refused}
+use Rattle.message.specs.declared.splitter.Splits.{Splits}
+use Rattle.message.specs.declared.splitter.Splits.the-variants.{Into, Refused}
 
 abbrev pub toldMeant : Meant → Told Meaning
 toldMeant Malformed = refused 7
 toldMeant Other = gives other
-toldMeant (Announcement sender size dgn) = gives (announcement sender size dgn)
-toldMeant (Packet sender number) = gives (packet sender number)
+toldMeant (Announcement sender size dgn) = gives (announcement (record { sender = sender; size = size; dgn = dgn }))
+toldMeant (Packet sender number) = gives (packet (record { sender = sender; number = number }))
 
 abbrev pub toldSplits : Splits → Told ℕ
 toldSplits (Into packets) = gives packets

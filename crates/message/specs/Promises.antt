@@ -9,24 +9,27 @@ use Rattle.words.specs.Words.{if_then_else_, _<?_, _≤?_, _or_, Told, refused,
 use Rattle.frame.specs.Frame.{frameBytes}
 use Rattle.frame.specs.Promises.{refusalOf}
 use Rattle.message.specs.LongMessage.{longest, packetsOf, Meaning, other, announcement, packet}
-use Rattle.message.specs.Receiver.{placeCount, room, freePlace, Outcome, nothingToDo, opened, stored, finished, After, heard, pausedPlaces, pausedAnswer}
+use Rattle.message.specs.Receiver.{placeCount, room, freePlace, Outcome, nothingToDo, opened, stored, finished}
+use Rattle.message.specs.Receiver.{After, heard, pausedPlaces, pausedAnswer}
 use Rattle.message.specs.Splitter.{announcementOf, packetOf}
 use Rattle.message.specs.declared.Place.{Place}
 use Rattle.message.specs.declared.Receiver.{Receiver}
 use Rattle.message.specs.declared.Answer.{Answer}
-use Rattle.message.specs.declared.Answer.the-variants.{StorageTooShort, BrokenState, BadFrame, MalformedAnnouncement, NoPlaceFree, NoOpenMessage, UnexpectedPacket, NothingToDo, Opened, Stored, Finished}
+use Rattle.message.specs.declared.Answer.the-variants.{StorageTooShort, BrokenState, BadFrame}
+use Rattle.message.specs.declared.Answer.the-variants.{MalformedAnnouncement, NoPlaceFree, NoOpenMessage}
+use Rattle.message.specs.declared.Answer.the-variants.{UnexpectedPacket, NothingToDo, Opened, Stored, Finished}
 use Rattle.message.specs.declared.Heard.{Heard}
 use Rattle.message.specs.declared.Pausing.{Pausing}
 use Rattle.message.specs.declared.Pausing.the-variants as Pausing
 use Rattle.message.specs.declared.Paused.{Paused}
 use Rattle.message.specs.declared.Unsplittable.{Unsplittable}
-use Rattle.message.specs.declared.Unsplittable.the-variants.{DgnTooLarge, LengthNotSplit, TooManyPackets}
+use Rattle.message.specs.declared.Unsplittable.the-variants.{NoCode, LengthNotSplit, TooManyPackets}
 use Rattle.message.specs.declared.Announcing.{Announcing}
 use Rattle.message.specs.declared.Announcing.the-variants as Announcing
 use Rattle.message.specs.declared.Announced.{Announced}
-use Rattle.message.specs.declared.Cutting.{Cutting}
-use Rattle.message.specs.declared.Cutting.the-variants as Cutting
-use Rattle.message.specs.declared.Cut.{Cut}
+use Rattle.message.specs.declared.Splitting.{Splitting}
+use Rattle.message.specs.declared.Splitting.the-variants as Splitting
+use Rattle.message.specs.declared.Split.{Split}
 
 -- Receiver::new
 
@@ -46,7 +49,8 @@ toldAnswer UnexpectedPacket = refused 10
 toldAnswer NothingToDo = gives nothingToDo
 toldAnswer Opened = gives opened
 toldAnswer Stored = gives stored
-toldAnswer (Finished place sender dgn size) = gives (finished place sender dgn size)
+toldAnswer (Finished place sender dgn size) =
+    gives (finished (record { place = place; sender = sender; dgn = dgn; size = size }))
 
 -- state, storage and answer are those
 pub record LeftBy (after : After) (r : Heard) (storage : List ℕ) : Type 0 where
@@ -77,14 +81,15 @@ pub record PausingRefusal (answer : Pausing) (r : ℕ) : Type 0 where
 -- is ever given
 
 abbrev pub partOf : List ℕ → ℕ → ℕ → List ℕ
-partOf storage place size = if (placeCount ≤? place) or (longest <? size) then [] else take size (drop (longest * place) storage)
+partOf storage place size =
+    if (placeCount ≤? place) or (longest <? size) then [] else take size (drop (longest * place) storage)
 
 abbrev pub messageIn : List ℕ → Told Outcome → List ℕ
 messageIn storage (refused n) = []
 messageIn storage (gives nothingToDo) = []
 messageIn storage (gives opened) = []
 messageIn storage (gives stored) = []
-messageIn storage (gives (finished place sender dgn size)) = partOf storage place size
+messageIn storage (gives (finished m)) = partOf storage (m .place) (m .size)
 
 pub record Message (storage : List ℕ) (answer : Answer) (r : List ℕ) : Type 0 where
   pub bytes : r ≡ (if length storage <? room then [] else messageIn storage (toldAnswer answer))
@@ -92,7 +97,7 @@ pub record Message (storage : List ℕ) (answer : Answer) (r : List ℕ) : Type 
 -- announcement
 
 abbrev pub refusalWhy : Unsplittable → ℕ
-refusalWhy DgnTooLarge = 12
+refusalWhy NoCode = 12
 refusalWhy LengthNotSplit = 13
 refusalWhy TooManyPackets = 14
 
@@ -121,17 +126,17 @@ Announcement message dgn r = AnnouncedBy (announcementOf message dgn) r
 
 -- packet
 
-abbrev pub cuttingNumber : Cutting → ℕ
-cuttingNumber Cutting.Bytes = 0
-cuttingNumber (Cutting.Refused why) = refusalWhy why
-cuttingNumber Cutting.NoSuchPacket = 15
+abbrev pub splittingNumber : Splitting → ℕ
+splittingNumber Splitting.Bytes = 0
+splittingNumber (Splitting.Refused why) = refusalWhy why
+splittingNumber Splitting.NoSuchPacket = 15
 
-pub record CuttingRefusal (answer : Cutting) (r : ℕ) : Type 0 where
-  pub number : r ≡ cuttingNumber answer
+pub record SplittingRefusal (answer : Splitting) (r : ℕ) : Type 0 where
+  pub number : r ≡ splittingNumber answer
 
-pub record CutBy (told : Told (List ℕ)) (r : Cut) : Type 0 where
-  pub number : cuttingNumber (r .answer) ≡ numberIn told
+pub record SplitBy (told : Told (List ℕ)) (r : Split) : Type 0 where
+  pub number : splittingNumber (r .answer) ≡ numberIn told
   pub bytes : r .bytes ≡ bytesIn told
 
-abbrev pub Packet : List ℕ → ℕ → ℕ → Cut → Type 0
-Packet message dgn number r = CutBy (packetOf message dgn number) r
+abbrev pub Packet : List ℕ → ℕ → ℕ → Split → Type 0
+Packet message dgn number r = SplitBy (packetOf message dgn number) r

@@ -12,7 +12,8 @@ use Rattle.words.specs.declared.Found.{Found}
 use Rattle.words.specs.declared.Found.the-variants.{At, Nowhere}
 use Rattle.places.specs.Layout.{Layout, openBy, oneEach}
 use Rattle.message.specs.OneSender.{Open}
-use Rattle.message.specs.LongMessage.{shortest, longest, packetBytes, packetsOf, idleLimit, needed, Meaning, other, announcement, packet, meaningOf}
+use Rattle.message.specs.LongMessage.{shortest, longest, packetBytes, packetsOf, idleLimit, needed, Meaning}
+use Rattle.message.specs.LongMessage.{other, announcement, packet, meaningOf}
 use Rattle.message.specs.declared.Place.{Place}
 
 -- eight places own the storage's first bytes, each as many as the longest message has
@@ -48,7 +49,15 @@ openMessage p stretch =
     }
 
 abbrev pub layout : Layout Place Open
-layout = record { isFree = isFree; keyOf = λ p. p .sender; stride = longest; session = openMessage; blank = freePlace; blank-free = refl }
+layout =
+    record {
+      isFree = isFree;
+      keyOf = λ p. p .sender;
+      stride = longest;
+      session = openMessage;
+      blank = freePlace;
+      blank-free = refl;
+    }
 
 abbrev pub isOpenBy : ℕ → Place → Bool
 isOpenBy sender p = openBy layout sender p
@@ -61,8 +70,9 @@ isZero p = (p .sender =? 0) and (p .dgn =? 0) and (p .expected =? 0) and (p .idl
 unfoldable pub placeKeepsRules : Place → Bool
 placeKeepsRules p =
     if isFree p then isZero p
-    else (p .sender ≤? greatestSender) and (shortest ≤? p .length) and (p .length ≤? longest) and (p .dgn ≤? greatestDgn)
-    and (p .idle ≤? idleLimit) and (1 ≤? p .expected) and (p .expected ≤? packetsOf (p .length))
+    else (p .sender ≤? greatestSender) and (shortest ≤? p .length) and (p .length ≤? longest)
+    and (p .dgn ≤? greatestDgn) and (p .idle ≤? idleLimit)
+    and (1 ≤? p .expected) and (p .expected ≤? packetsOf (p .length))
 
 -- each place keeps its own, and no sender is open in two
 unfoldable pub keepsRules : List Place → Bool
@@ -70,11 +80,21 @@ keepsRules places = every placeKeepsRules places and oneEach layout places
 
 -- What a frame leaves: the places, the storage, and the answer.
 
+-- a finished message: the place in whose stretch it stands, and what it is
+pub record WholeAt : Type 0 where
+  pub place : ℕ
+  pub sender : ℕ
+  pub dgn : ℕ
+  pub size : ℕ
+
 pub data Outcome : Type 0 where
   nothingToDo : Outcome
   opened : Outcome
   stored : Outcome
-  finished : ℕ → ℕ → ℕ → ℕ → Outcome  -- place, sender, DGN and length of the message
+  finished : WholeAt → Outcome
+
+abbrev pub wholeAt : ℕ → Place → WholeAt
+wholeAt i p = record { place = i; sender = p .sender; dgn = p .dgn; size = p .length }
 
 pub record After : Type 0 where
   pub places : List Place
@@ -97,9 +117,10 @@ abbrev pub openedAt : Found → Place → List Place → List ℕ → After
 openedAt (At i) p places storage = leaves (set places i p) storage (gives opened)
 openedAt Nowhere p places storage = leaves places storage (refused 8)
 
-unfoldable pub announces : ℕ → ℕ → ℕ → List Place → List ℕ → After
-announces sender size dgn places storage =
-    openedAt (placeFor sender places) (record { sender = sender; length = size; dgn = dgn; expected = 1; idle = 0 }) places storage
+unfoldable pub hearsAnnouncement : ℕ → ℕ → ℕ → List Place → List ℕ → After
+hearsAnnouncement sender size dgn places storage =
+    openedAt (placeFor sender places) (record { sender = sender; length = size; dgn = dgn; expected = 1; idle = 0 })
+    places storage
 
 -- A data packet: the expected one is stored in its place's own stretch, from 7 (number - 1) on, and only what the
 -- length still needs.
@@ -115,7 +136,7 @@ expecting number p = record { sender = p .sender; length = p .length; dgn = p .d
 unfoldable pub advanced : ℕ → Place → List Place → List ℕ → After
 advanced i p places storage =
     if p .expected =? packetsOf (p .length)
-    then leaves (set places i freePlace) storage (gives (finished i (p .sender) (p .dgn) (p .length)))
+    then leaves (set places i freePlace) storage (gives (finished (wholeAt i p)))
     else leaves (set places i (expecting (p .expected + 1) p)) storage (gives stored)
 
 unfoldable pub packetAt : ℕ → Place → ℕ → List ℕ → List Place → List ℕ → After
@@ -136,8 +157,9 @@ carries sender number bytes places storage = packetFor (first (isOpenBy sender) 
 abbrev pub byMeaning : Told Meaning → List ℕ → List Place → List ℕ → After
 byMeaning (refused n) bytes places storage = leaves places storage (refused n)
 byMeaning (gives other) bytes places storage = leaves places storage (gives nothingToDo)
-byMeaning (gives (announcement sender size dgn)) bytes places storage = announces sender size dgn places storage
-byMeaning (gives (packet sender number)) bytes places storage = carries sender number bytes places storage
+byMeaning (gives (announcement m)) bytes places storage =
+    hearsAnnouncement (m .sender) (m .size) (m .dgn) places storage
+byMeaning (gives (packet p)) bytes places storage = carries (p .sender) (p .number) bytes places storage
 
 unfoldable pub heard : ℕ → List ℕ → List Place → List ℕ → After
 heard id bytes places storage =

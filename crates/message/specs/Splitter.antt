@@ -26,13 +26,16 @@ announcementBytes size dgn = toAll ∷ (bytesOf 2 size ++ (packetsOf size ∷ un
 
 -- packet `number`'s eight bytes: its number, and the message's next seven or what is left of it
 unfoldable pub packetBytesOf : List ℕ → ℕ → List ℕ
-packetBytesOf message number = number ∷ take packetBytes (drop (packetBytes * (number - 1)) message ++ replicate packetBytes unused)
+packetBytesOf message number =
+    number ∷ take packetBytes (drop (packetBytes * (number - 1)) message ++ replicate packetBytes unused)
 
 unfoldable pub announcementOf : List ℕ → ℕ → Told (List ℕ)
-announcementOf message dgn = given splits (length message) dgn then λ count. gives (announcementBytes (length message) dgn)
+announcementOf message dgn =
+    given splits (length message) dgn then λ count. gives (announcementBytes (length message) dgn)
 
 unfoldable pub numbered : List ℕ → ℕ → ℕ → Told (List ℕ)
-numbered message number count = if (number =? 0) or (count <? number) then refused 15 else gives (packetBytesOf message number)
+numbered message number count =
+    if (number =? 0) or (count <? number) then refused 15 else gives (packetBytesOf message number)
 
 unfoldable pub packetOf : List ℕ → ℕ → ℕ → Told (List ℕ)
 packetOf message dgn number = given splits (length message) dgn then λ count. numbered message number count

@@ -6,7 +6,8 @@ ghost use Prim.Native.Nat.{ℕ, _<_, _≤_};
 ghost use lib.ListN.{length, getD, set};
 ghost use Rattle.words.specs.Lists.{first};
 ghost use Rattle.message.specs.LongMessage.{meant, meaningOf};
-ghost use Rattle.message.specs.Receiver.{room, freePlace, isFree, isOpenBy, keepsRules, placeFor, announces, packetAt, carries, byMeaning, advanced};
+ghost use Rattle.message.specs.Receiver.{room, freePlace, isFree, isOpenBy, keepsRules, placeFor};
+ghost use Rattle.message.specs.Receiver.{hearsAnnouncement, packetAt, carries, byMeaning, advanced};
 ghost use Rattle.message.specs.Promises.{LeftBy};
 ghost use Rattle.message.specs.Private.{PausedBy, Live};
 use crate::Answer;
@@ -37,7 +38,9 @@ pub fn keeps(r: Receiver, answer: Answer) -> Heard
 // A frame.
 pub fn hear(r: Receiver, storage: &mut [u8], id: u32, bytes: &[u8]) -> Heard
     requires { ⌜ (keepsRules (r .places) ≡ true) × (room ≤ length (now storage)) ⌝ }
-    ensures { λ h. ⌜ LeftBy (byMeaning (meaningOf id (now (bytes .entry))) (now (bytes .entry)) (r .places) (now (storage .entry))) h (now (storage .exit)) ⌝ }
+    ensures { λ h. ⌜ LeftBy
+        (byMeaning (meaningOf id (now (bytes .entry))) (now (bytes .entry)) (r .places) (now (storage .entry)))
+        h (now (storage .exit)) ⌝ }
 {
     let checked = frame::check(id, bytes);
     let eight = checked.bytes;
@@ -51,7 +54,9 @@ pub fn hear(r: Receiver, storage: &mut [u8], id: u32, bytes: &[u8]) -> Heard
 // A frame that passed refusals 3 to 6.
 fn heed(r: Receiver, storage: &mut [u8], sender: u8, dgn: u32, bytes: [u8; 8]) -> Heard
     requires { ⌜ (keepsRules (r .places) ≡ true) × (room ≤ length (now storage)) ⌝ }
-    ensures { λ h. ⌜ LeftBy (byMeaning (meant sender dgn bytes) bytes (r .places) (now (storage .entry))) h (now (storage .exit)) ⌝ }
+    ensures { λ h. ⌜ LeftBy
+        (byMeaning (meant sender dgn bytes) bytes (r .places) (now (storage .entry)))
+        h (now (storage .exit)) ⌝ }
 {
     match meaning::meaning_of(sender, dgn, bytes) {
         Meant::Malformed => keeps(r, Answer::MalformedAnnouncement),
@@ -63,7 +68,7 @@ fn heed(r: Receiver, storage: &mut [u8], sender: u8, dgn: u32, bytes: [u8; 8]) -
 
 // A well-formed announcement.
 fn announce(r: Receiver, sender: u8, size: u16, dgn: u32) -> Heard
-    ensures { λ h. ⌜ ((s : List ℕ) → LeftBy (announces sender size dgn (r .places) s) h s) ⌝ }
+    ensures { λ h. ⌜ ((s : List ℕ) → LeftBy (hearsAnnouncement sender size dgn (r .places) s) h s) ⌝ }
 {
     match place_for(r, sender) {
         Found::At(at) => {
@@ -151,7 +156,9 @@ fn packet(r: Receiver, storage: &mut [u8], sender: u8, number: u8, bytes: [u8; 8
 // A data packet for the open message in place `at`.
 fn packet_at(r: Receiver, storage: &mut [u8], at: usize, number: u8, bytes: [u8; 8]) -> Heard
     requires { ⌜ (at < 8) × (room ≤ length (now storage)) × Live (getD (r .places) at freePlace) ⌝ }
-    ensures { λ h. ⌜ LeftBy (packetAt at (getD (r .places) at freePlace) number bytes (r .places) (now (storage .entry))) h (now (storage .exit)) ⌝ }
+    ensures { λ h. ⌜ LeftBy
+        (packetAt at (getD (r .places) at freePlace) number bytes (r .places) (now (storage .entry)))
+        h (now (storage .exit)) ⌝ }
 {
     let p = r.places[at];
     if number != p.expected {

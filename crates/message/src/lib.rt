@@ -1,16 +1,17 @@
 // Long messages (RULES 4 and 5): the receiver of eight senders over lent storage, and the splitter.
-ghost use Rattle.message.specs.Promises.{New, Hear, Pause, Message, Announcement, Packet, AnswerRefusal, PausingRefusal, UnsplittableRefusal, AnnouncingRefusal, CuttingRefusal};
-
 mod eight_places;
 pub mod limits;
 mod meaning;
 mod one_place;
 mod rules;
-mod split;
+mod splitter;
 mod storage;
 
 use frame::BadFrame;
 use limits::STORAGE_BYTES;
+ghost use Rattle.message.specs.Promises.{New, Hear, Pause, Message, Announcement, Packet};
+ghost use Rattle.message.specs.Promises.{AnswerRefusal, PausingRefusal};
+ghost use Rattle.message.specs.Promises.{UnsplittableRefusal, AnnouncingRefusal, SplittingRefusal};
 
 // An open message's place: its sender, what was announced, the packet expected next, and the pauses since its last
 // frame, in milliseconds. A free place is all zeros.
@@ -47,6 +48,7 @@ pub enum Answer {
     },
 }
 
+// The state to go on with, and what the frame did.
 pub struct Heard {
     pub receiver: Receiver,
     pub answer: Answer,
@@ -58,39 +60,42 @@ pub enum Pausing {
     BrokenState,
 }
 
+// The state to go on with, and how many messages the pause closed.
 pub struct Paused {
     pub receiver: Receiver,
     pub answer: Pausing,
 }
 
-// Why a message cannot be split: refusals 12, 13 and 14.
+// Why a message cannot be split: a DGN above 1FFFFh has no code in the announcement (12), the message has not 9 to 1785
+// bytes (13), or it needs more than 255 packets (14, which no such length does).
 pub enum Unsplittable {
-    DgnTooLarge,
+    NoCode,
     LengthNotSplit,
     TooManyPackets,
 }
 
+// The announcement is given, or why not.
 pub enum Announcing {
     Bytes,
     Refused(Unsplittable),
 }
 
-// An announcement's eight bytes; zeros where it is refused.
+// The announcement's eight bytes; zeros where it is refused.
 pub struct Announced {
     pub answer: Announcing,
     pub bytes: [u8; 8],
 }
 
 // A packet, or why not; refusal 15 where the message has no packet of that number.
-pub enum Cutting {
+pub enum Splitting {
     Bytes,
     Refused(Unsplittable),
     NoSuchPacket,
 }
 
 // A data packet's eight bytes; zeros where it is refused.
-pub struct Cut {
-    pub answer: Cutting,
+pub struct Split {
+    pub answer: Splitting,
     pub bytes: [u8; 8],
 }
 
@@ -141,7 +146,7 @@ impl Unsplittable {
     {
         let why = self;
         match why {
-            Unsplittable::DgnTooLarge => 12,
+            Unsplittable::NoCode => 12,
             Unsplittable::LengthNotSplit => 13,
             Unsplittable::TooManyPackets => 14,
         }
@@ -161,22 +166,23 @@ impl Announcing {
     }
 }
 
-impl Cutting {
+impl Splitting {
     // The number of the refusal; 0 where the packet is given.
     pub fn refusal(self) -> u8
-        ensures { λ r. ⌜ CuttingRefusal self r ⌝ }
+        ensures { λ r. ⌜ SplittingRefusal self r ⌝ }
     {
         let answer = self;
         match answer {
-            Cutting::Bytes => 0,
-            Cutting::Refused(why) => why.refusal(),
-            Cutting::NoSuchPacket => 15,
+            Splitting::Bytes => 0,
+            Splitting::Refused(why) => why.refusal(),
+            Splitting::NoSuchPacket => 15,
         }
     }
 }
 
 impl Receiver {
-    // A receiver with eight free places.
+    // A receiver with eight free places. Refuses nothing. Lend its `hear` a storage of at least 14280 bytes, the same
+    // at every call.
     pub fn new() -> Receiver
         ensures { λ r. ⌜ New r ⌝ }
     {
@@ -185,7 +191,9 @@ impl Receiver {
         }
     }
 
-    // A frame of the bus.
+    // Hears one frame. Refusals 1 to 10; only 10 changes anything: it closes that sender's message. What is heard
+    // changes at most one place, and in the storage no bytes but those of that place. Go on with the receiver that is
+    // answered, and read a finished message with `message` before the next frame is heard.
     pub fn hear(self, storage: &mut [u8], id: u32, bytes: &[u8]) -> Heard
         ensures { λ r. ⌜ Hear id (now (bytes .entry)) (self .places) (now (storage .entry)) r (now (storage .exit)) ⌝ }
     {
@@ -198,7 +206,9 @@ impl Receiver {
         eight_places::hear(self, storage, id, bytes)
     }
 
-    // A pause on the bus, in milliseconds.
+    // Hears that the bus was silent for so many milliseconds: how many messages that closed, each idle for more than
+    // 750 by now. Refusal 2, which changes nothing. Call it for the time between two frames before the second is heard;
+    // a longer time may be given in parts, which add up.
     pub fn pause(self, ms: u16) -> Paused
         ensures { λ r. ⌜ Pause ms (self .places) r ⌝ }
     {
@@ -213,7 +223,8 @@ impl Receiver {
 }
 
 // The finished message that `answer` tells of: that part of the storage, to be read before the next frame is heard.
-// Empty for any other answer.
+// Refuses nothing and changes nothing: the part is empty for any other answer, for one that `hear` never gives, and for
+// a storage of less than 14280 bytes.
 pub fn message(storage: &[u8], answer: Answer) -> &[u8]
     ensures { λ r. ⌜ Message (now (storage .entry)) answer (now r) ⌝ }
 {
@@ -231,28 +242,29 @@ pub fn message(storage: &[u8], answer: Answer) -> &[u8]
     }
 }
 
-// The announcement of a message.
+// The announcement of a message, to be sent to all as DGN ECFFh before its packets. Refusals 12 to 14.
 pub fn announcement(message: &[u8], dgn: u32) -> Announced
     ensures { λ r. ⌜ Announcement (now (message .entry)) dgn r ⌝ }
 {
-    match split::splittable(message.len(), dgn) {
-        split::Splits::Refused(why) => Announced {
+    match splitter::splittable(message.len(), dgn) {
+        splitter::Splits::Refused(why) => Announced {
             answer: Announcing::Refused(why),
             bytes: [0u8; 8],
         },
-        split::Splits::Into(count) => Announced {
+        splitter::Splits::Into(count) => Announced {
             answer: Announcing::Bytes,
-            bytes: split::announcement_bytes(message.len() as u16, dgn, count),
+            bytes: splitter::announcement_bytes(message.len() as u16, dgn, count),
         },
     }
 }
 
-// Any one data packet of a message, by its number from 1.
-pub fn packet(message: &[u8], dgn: u32, number: u32) -> Cut
+// Any one data packet of a message, by its number from 1, to be sent to all as DGN EBFFh. Refusals 12 to 15. Byte 3 of
+// the announcement says how many packets there are; send them in their order.
+pub fn packet(message: &[u8], dgn: u32, number: u32) -> Split
     ensures { λ r. ⌜ Packet (now (message .entry)) dgn number r ⌝ }
 {
-    match split::splittable(message.len(), dgn) {
-        split::Splits::Refused(why) => split::refused(Cutting::Refused(why)),
-        split::Splits::Into(count) => split::cut(message, number, count),
+    match splitter::splittable(message.len(), dgn) {
+        splitter::Splits::Refused(why) => splitter::refused(Splitting::Refused(why)),
+        splitter::Splits::Into(count) => splitter::numbered(message, number, count),
     }
 }

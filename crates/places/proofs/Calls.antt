@@ -7,10 +7,15 @@ use Prim.Native.Nat.{ℕ}
 use Rattle.words.specs.Words.{Told, gives}
 use Rattle.places.specs.Format.{Format, Event, frame, pause}
 use Rattle.places.specs.OneKey.{solo}
-use Rattle.places.specs.Places.{said, heard, paused, lookup, hear, pass, closedBy, eightFree, after, History, run, eventsOf, toldTo, only, admitted}
+use Rattle.places.specs.Places.{said, heard, paused, lookup, hear, pass, closedBy, eightFree, after, History, run}
+use Rattle.places.specs.Places.{eventsOf, toldTo, only, admitted}
 use Rattle.places.specs.Statements.{EightOthersOpen, ClosedByRules}
-use Rattle.places.specs.Calls.{Calls, Ran, no-call, a-frame, a-pause, FromStart, BusyBus, OpenOnBus, ToldOnBus, NoPlaceFree, PauseCount, SumsOnBus, KeepsPlaces, StartKept, RulesKept, EveryRunRuns, FullAtAnyState, PauseAtAnyState}
-use Rattle.places.proofs.Statements.{never-full-answered, never-full-admitted, open-as-rules, told-as-rules, full-exactly-when, full-exactly-when-at, closes-as-rules, pause-closes, solo-sums}
+use Rattle.places.specs.Calls.{Calls, Ran, no-call, a-frame, a-pause, FromStart, BusyBus, OpenOnBus, ToldOnBus}
+use Rattle.places.specs.Calls.{NoPlaceFree, PauseCount, SumsOnBus, KeepsPlaces, StartKept, RulesKept}
+use Rattle.places.specs.Calls.{EveryRunRuns, FullAtAnyState, PauseAtAnyState}
+use Rattle.places.proofs.Statements.{never-full-answered, never-full-admitted, open-as-rules, told-as-rules}
+use Rattle.places.proofs.Statements.{full-exactly-when, full-exactly-when-at, closes-as-rules, pause-closes}
+use Rattle.places.proofs.Statements.{solo-sums}
 
 module _ {𝓕 : Format} (𝓒 : Calls 𝓕) (𝓚 : KeepsPlaces 𝓒) where
   pub start-kept : StartKept 𝓒

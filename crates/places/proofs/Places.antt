@@ -12,7 +12,9 @@ use borrow.Author.Tests.{eq-eqb, ne-eqb}
 use lib.ListN.{length}
 use Rattle.words.proofs.Words.{true-false}
 use Rattle.words.specs.Lists.{Absent}
-use Rattle.places.specs.Places.{Place, free, held, lookup, keyed, update, anyFree, takeLowest, keysOf, OnePlaceEach}
+use Rattle.words.proofs.Lists.{absent-cons, absent-head, absent-tail, distinct-cons, distinct-head, distinct-tail}
+use Rattle.places.specs.Places.{Place, free, held, lookup, keyed, update, anyFree, takeLowest, keysOf}
+use Rattle.places.specs.Places.{OnePlaceEach}
 
 -- the two cases of two numbers
 pub by-equal : {P : Type 0} (i k : ℕ) → (i ≡ k → P) → (i ≢ k → P) → P
@@ -31,15 +33,17 @@ module _ {S : Type 0} where
   pub absent-lookup : (k : ℕ) (ps : List (Place S)) → Absent k (keysOf ps) → lookup k ps ≡ none
   absent-lookup k [] h = refl
   absent-lookup k (free ∷ ps) h = absent-lookup k ps h
-  absent-lookup k (held j s ∷ ps) h = rw (ne-eqb j k (h .0)) (absent-lookup k ps (h .1))
+  absent-lookup k (held j s ∷ ps) h =
+      let n : j ≢ k = λ e. absent-head k j (keysOf ps) h (sym e) in
+      rw (ne-eqb j k n) (absent-lookup k ps (absent-tail k j (keysOf ps) h))
 
   pub lookup-absent : (k : ℕ) (ps : List (Place S)) → lookup k ps ≡ none → Absent k (keysOf ps)
-  lookup-absent k [] h = tt
+  lookup-absent k [] h = refl
   lookup-absent k (free ∷ ps) h = lookup-absent k ps h
   lookup-absent k (held j s ∷ ps) h =
       by-equal j k
       (λ e. some-none (rw (eq-eqb j k e) at h))
-      (λ n. (n, lookup-absent k ps (rw (ne-eqb j k n) at h)))
+      (λ n. absent-cons k j (keysOf ps) (λ e. n (sym e)) (lookup-absent k ps (rw (ne-eqb j k n) at h)))
 
   -- a first place that is k's, or free
 
@@ -53,7 +57,7 @@ module _ {S : Type 0} where
 
   pub keyed-each : (k : ℕ) (m : Option S) (ps : List (Place S)) → lookup k ps ≡ none → OnePlaceEach ps → OnePlaceEach (keyed k m ∷ ps)
   keyed-each k none ps h u = u
-  keyed-each k (some s) ps h u = (lookup-absent k ps h, u)
+  keyed-each k (some s) ps h u = distinct-cons k (keysOf ps) (lookup-absent k ps h) u
 
   -- an update of k's place
 
@@ -70,19 +74,22 @@ module _ {S : Type 0} where
   update-same k m t (free ∷ ps) u h = update-same k m t ps u h
   update-same k m t (held i s ∷ ps) u h =
       by-equal i k
-      (λ e. rw (eq-eqb i k e) (keyed-same k m ps (rw e at (absent-lookup i ps (u .0)))))
-      (λ n. rw (ne-eqb i k n) (rw (ne-eqb i k n) (update-same k m t ps (u .1) (rw (ne-eqb i k n) at h))))
+      (λ e. rw (eq-eqb i k e) (keyed-same k m ps (rw e at (absent-lookup i ps (distinct-head i (keysOf ps) u)))))
+      (λ n.
+      let others = distinct-tail i (keysOf ps) u in
+      rw (ne-eqb i k n) (rw (ne-eqb i k n) (update-same k m t ps others (rw (ne-eqb i k n) at h))))
 
   pub update-each : (k : ℕ) (m : Option S) (ps : List (Place S)) → OnePlaceEach ps → OnePlaceEach (update k m ps)
   update-each k m [] u = u
   update-each k m (free ∷ ps) u = update-each k m ps u
   update-each k m (held i s ∷ ps) u =
+      let alone = absent-lookup i ps (distinct-head i (keysOf ps) u) in
+      let others = distinct-tail i (keysOf ps) u in
       by-equal i k
-      (λ e. rw (eq-eqb i k e) (keyed-each k m ps (rw e at (absent-lookup i ps (u .0))) (u .1)))
-      (λ n. rw (ne-eqb i k n) (
-        lookup-absent i (update k m ps) (update-other i k m ps (λ p. n (sym p)) ∙ absent-lookup i ps (u .0)),
-        update-each k m ps (u .1),
-      ))
+      (λ e. rw (eq-eqb i k e) (keyed-each k m ps (rw e at alone) others))
+      (λ n.
+      let a = lookup-absent i (update k m ps) (update-other i k m ps (λ p. n (sym p)) ∙ alone) in
+      rw (ne-eqb i k n) (distinct-cons i (keysOf (update k m ps)) a (update-each k m ps others)))
 
   pub length-update : (k : ℕ) (m : Option S) (ps : List (Place S)) → length (update k m ps) ≡ length ps
   length-update k m [] = refl
@@ -106,14 +113,15 @@ module _ {S : Type 0} where
 
   pub take-each : (k : ℕ) (s : S) (ps : List (Place S)) → OnePlaceEach ps → lookup k ps ≡ none → OnePlaceEach (takeLowest k s ps)
   take-each k s [] u h = u
-  take-each k s (free ∷ ps) u h = (lookup-absent k ps h, u)
+  take-each k s (free ∷ ps) u h = distinct-cons k (keysOf ps) (lookup-absent k ps h) u
   take-each k s (held i t ∷ ps) u h =
       by-equal i k
       (λ e. some-none (rw (eq-eqb i k e) at h))
-      (λ n. (
-        lookup-absent i (takeLowest k s ps) (take-other i k s ps (λ p. n (sym p)) ∙ absent-lookup i ps (u .0)),
-        take-each k s ps (u .1) (rw (ne-eqb i k n) at h),
-      ))
+      (λ n.
+      let alone = absent-lookup i ps (distinct-head i (keysOf ps) u) in
+      let a = lookup-absent i (takeLowest k s ps) (take-other i k s ps (λ p. n (sym p)) ∙ alone) in
+      let others = distinct-tail i (keysOf ps) u in
+      distinct-cons i (keysOf (takeLowest k s ps)) a (take-each k s ps others (rw (ne-eqb i k n) at h)))
 
   pub length-lowest : (k : ℕ) (s : S) (ps : List (Place S)) → length (takeLowest k s ps) ≡ length ps
   length-lowest k s [] = refl

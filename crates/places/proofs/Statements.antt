@@ -13,11 +13,21 @@ use lib.ListN.{length, length-map}
 use Rattle.words.specs.Words.{if_then_else_, _=?_}
 use Rattle.words.specs.Lists.{count, Absent, Distinct}
 use Rattle.words.proofs.Words.{by-test}
-use Rattle.places.specs.Format.{Asks, fixed, opens, finishes, feeds, Fed, goes, ends, Format, Event, frame, pause, step}
-use Rattle.places.specs.OneKey.{fedAlone, packetAlone, askedAlone, hearAlone, pauseAlone, solo, openAfter}
-use Rattle.places.specs.Places.{free, held, Out, full, said, heard, paused, lookup, keyed, update, anyFree, keysOf, OnePlaceEach, isNone, placeCount, Places, opened, finished, fed, packet, asked, hear, rest, pass, closes, closedBy, eightFree, after, History, run, eventsOf, toldTo, only, admitted, NeverFull, answered}
-use Rattle.places.specs.Statements.{StepAgrees, PauseCloses, RunKeeps, onBusyBus, AsRulesFrom, AsRulesFromAny, OpenAsRules, ToldAsRules, BusyAsQuiet, EightOthersOpen, EightOthers, isOpening, FullExactlyWhen, FullExactlyWhenAt, ClosesAsRules, Pausing, spaced, spacing, SumsOfPauses, AllKept, PausesAdd}
-use Rattle.places.proofs.Places.{by-equal, some-none, absent-lookup, lookup-absent, update-other, update-each, freed-holders, holders-below, holders-full, full-holders}
+use Rattle.words.proofs.Lists.{absent-cons, absent-head, absent-tail, distinct-cons, distinct-head, distinct-tail}
+use Rattle.places.specs.Format.{Asks, fixed, opens, finishes, feeds, Fed, goes, ends, Format, isNone, Event}
+use Rattle.places.specs.Format.{frame, pause, step}
+use Rattle.places.specs.OneKey.{fedAlone, packetAlone, askedAlone, hearAlone, pauseAlone, closesAlone, solo}
+use Rattle.places.specs.OneKey.{openAfter}
+use Rattle.places.specs.Places.{free, held, Out, full, said, heard, paused, lookup, keyed, update, anyFree}
+use Rattle.places.specs.Places.{keysOf, OnePlaceEach, placeCount, Places, hearsOpening, hearsWhole, afterPacket}
+use Rattle.places.specs.Places.{hearsPacket, asked, hear, rest, pass, closes, closedBy, eightFree, after, History}
+use Rattle.places.specs.Places.{run, eventsOf, toldTo, only, admitted, NeverFull, answered}
+use Rattle.places.specs.Statements.{StepAgrees, PauseCloses, RunKeeps, onBusyBus, AsRulesFrom, AsRulesFromAny}
+use Rattle.places.specs.Statements.{OpenAsRules, ToldAsRules, BusyAsQuiet, EightOthersOpen, EightOthers}
+use Rattle.places.specs.Statements.{isOpening, FullExactlyWhen, FullExactlyWhenAt, ClosesAsRules, Pausing, spaced}
+use Rattle.places.specs.Statements.{spacing, SumsOfPauses, AllKept, PausesAdd}
+use Rattle.places.proofs.Places.{by-equal, some-none, absent-lookup, lookup-absent, update-other, update-each}
+use Rattle.places.proofs.Places.{freed-holders, holders-below, holders-full, full-holders}
 use Rattle.places.proofs.Steps.{said-full, no-place, one-step, pass-lookup, pass-each, closed-count}
 
 said-same : {A : Type 0} {a b : A} → said a ≡ said b → a ≡ b
@@ -88,10 +98,10 @@ module _ (𝓕 : Format) where
       }
 
   pub open-as-rules : OpenAsRules 𝓕
-  open-as-rules k events = as-rules-from-any (eightFree 𝓕) k events tt .open-as-rules
+  open-as-rules k events = as-rules-from-any (eightFree 𝓕) k events refl .open-as-rules
 
   pub told-as-rules : ToldAsRules 𝓕
-  told-as-rules k events = as-rules-from-any (eightFree 𝓕) k events tt .told-as-rules
+  told-as-rules k events = as-rules-from-any (eightFree 𝓕) k events refl .told-as-rules
 
   -- a busy bus: a key that never found all places held has all its frames admitted
 
@@ -127,34 +137,41 @@ module _ (𝓕 : Format) where
   -- full exactly when
 
   others-of : (k : ℕ) (ps : Places 𝓕) → length ps ≡ placeCount → OnePlaceEach ps → lookup k ps ≡ none → anyFree ps ≡ false → EightOthers k ps
-  others-of k ps h u e f = record { places = h; holders = full-holders ps f ∙ h; different = (lookup-absent k ps e, u) }
+  others-of k ps h u e f =
+      let apart = distinct-cons k (keysOf ps) (lookup-absent k ps e) u in
+      record { places = h; holders = full-holders ps f ∙ h; different = apart }
 
   others-full : (k : ℕ) (ps : Places 𝓕) → EightOthers k ps → (lookup k ps ≡ none) × (anyFree ps ≡ false)
-  others-full k ps o = (absent-lookup k ps (o .different .0), holders-full ps (o .holders ∙ sym (o .places)))
+  others-full k ps o = (
+    absent-lookup k ps (distinct-head k (keysOf ps) (o .different)),
+    holders-full ps (o .holders ∙ sym (o .places)),
+  )
 
-  full-opened : (k : ℕ) (s : 𝓕 .Session) (a : 𝓕 .Answer) (ps : Places 𝓕) (m : Option (𝓕 .Session)) → opened 𝓕 k s a ps m .answer ≡ full
+  full-opening : (k : ℕ) (s : 𝓕 .Session) (a : 𝓕 .Answer) (ps : Places 𝓕) (m : Option (𝓕 .Session))
+      → hearsOpening 𝓕 k s a ps m .answer ≡ full
       → (m ≡ none) × (anyFree ps ≡ false)
-  full-opened k s a ps none h = by-test (anyFree ps) (λ f. said-full (rw f at h)) (λ f. (refl, f))
-  full-opened k s a ps (some t) h = said-full h
+  full-opening k s a ps none h = by-test (anyFree ps) (λ f. said-full (rw f at h)) (λ f. (refl, f))
+  full-opening k s a ps (some t) h = said-full h
 
-  full-finished : (k : ℕ) (a : 𝓕 .Answer) (ps : Places 𝓕) (m : Option (𝓕 .Session)) → finished 𝓕 k a ps m .answer ≡ full
+  full-whole : (k : ℕ) (a : 𝓕 .Answer) (ps : Places 𝓕) (m : Option (𝓕 .Session)) → hearsWhole 𝓕 k a ps m .answer ≡ full
       → (m ≡ none) × (anyFree ps ≡ false)
-  full-finished k a ps none h = by-test (anyFree ps) (λ f. said-full (rw f at h)) (λ f. (refl, f))
-  full-finished k a ps (some t) h = said-full h
+  full-whole k a ps none h = by-test (anyFree ps) (λ f. said-full (rw f at h)) (λ f. (refl, f))
+  full-whole k a ps (some t) h = said-full h
 
-  not-fed : (k : ℕ) (ps : Places 𝓕) (r : Fed (𝓕 .Session) (𝓕 .Answer)) → fed 𝓕 k ps r .answer ≢ full
-  not-fed k ps (goes s a) h = said-full h
-  not-fed k ps (ends a) h = said-full h
+  not-after-packet : (k : ℕ) (ps : Places 𝓕) (r : Fed (𝓕 .Session) (𝓕 .Answer)) → afterPacket 𝓕 k ps r .answer ≢ full
+  not-after-packet k ps (goes s a) h = said-full h
+  not-after-packet k ps (ends a) h = said-full h
 
-  not-packet : (k : ℕ) (d : 𝓕 .Data) (a : 𝓕 .Answer) (ps : Places 𝓕) (m : Option (𝓕 .Session)) → packet 𝓕 k d a ps m .answer ≢ full
+  not-packet : (k : ℕ) (d : 𝓕 .Data) (a : 𝓕 .Answer) (ps : Places 𝓕) (m : Option (𝓕 .Session))
+      → hearsPacket 𝓕 k d a ps m .answer ≢ full
   not-packet k d a ps none h = said-full h
-  not-packet k d a ps (some s) h = not-fed k ps (𝓕 .feed s d) h
+  not-packet k d a ps (some s) h = not-after-packet k ps (𝓕 .feed s d) h
 
   full-asked : (k : ℕ) (q : Asks (𝓕 .Session) (𝓕 .Data) (𝓕 .Answer)) (ps : Places 𝓕) → asked 𝓕 k q ps .answer ≡ full
       → (isOpening q ≡ true) × (lookup k ps ≡ none) × (anyFree ps ≡ false)
   full-asked k (fixed a) ps h = said-full h
-  full-asked k (opens s a) ps h = let r = full-opened k s a ps (lookup k ps) h in (refl, r .0, r .1)
-  full-asked k (finishes a) ps h = let r = full-finished k a ps (lookup k ps) h in (refl, r .0, r .1)
+  full-asked k (opens s a) ps h = let r = full-opening k s a ps (lookup k ps) h in (refl, r .0, r .1)
+  full-asked k (finishes a) ps h = let r = full-whole k a ps (lookup k ps) h in (refl, r .0, r .1)
   full-asked k (feeds d a) ps h = absurd (not-packet k d a ps (lookup k ps) h)
 
   pub full-exactly-when-at : FullExactlyWhenAt 𝓕
@@ -167,15 +184,17 @@ module _ (𝓕 : Format) where
   holders-cover : (ps : Places 𝓕) (others : List ℕ) → OnePlaceEach ps → Distinct others → ((j : ℕ) → lookup j ps ≡ none → Absent j others)
       → length others ≤ length (keysOf ps)
   holders-cover ps [] u d c = omega arith
-  holders-cover ps (j ∷ js) u d c = go (λ rest v e. holders-cover rest js v (d .1) e) (lookup j ps) refl
+  holders-cover ps (j ∷ js) u d c = go (λ rest v e. holders-cover rest js v (distinct-tail j js d) e) (lookup j ps) refl
     where
       go : ((rest : Places 𝓕) → OnePlaceEach rest → ((i : ℕ) → lookup i rest ≡ none → Absent i js) → length js ≤ length (keysOf rest))
           → (m : Option (𝓕 .Session)) → lookup j ps ≡ m → length (j ∷ js) ≤ length (keysOf ps)
-      go later none e = absurd (c j e .0 refl)
+      go later none e = absurd (absent-head j j js (c j e) refl)
       go later (some s) e =
           let rest = update j none ps in
           let covers : (i : ℕ) → lookup i rest ≡ none → Absent i js = λ i f.
-          by-equal i j (λ x. rw x (d .0)) (λ n. c i (sym (update-other i j none ps (λ x. n (sym x))) ∙ f) .1)
+          by-equal i j
+          (λ x. rw x (distinct-head j js d))
+          (λ n. absent-tail i j js (c i (sym (update-other i j none ps (λ x. n (sym x))) ∙ f)))
           in
           omega (arith, later rest (update-each j none ps u) covers, freed-holders j s ps e)
 
@@ -186,16 +205,19 @@ module _ (𝓕 : Format) where
     where
       go : (m : Option (𝓕 .Session)) → lookup k ps ≡ m → EightOthers k ps
       go none e =
-          let all = holders-cover ps others u (d .1) c in
-          record { places = h; holders = omega (arith, all, holders-below ps); different = (lookup-absent k ps e, u) }
+          let all = holders-cover ps others u (distinct-tail k others d) c in
+          let apart = distinct-cons k (keysOf ps) (lookup-absent k ps e) u in
+          record { places = h; holders = omega (arith, all, holders-below ps); different = apart }
       go (some s) e =
-          let covers : (j : ℕ) → lookup j ps ≡ none → Absent j (k ∷ others) = λ j f. ((λ x. some-none (sym e ∙ ap (λ i. lookup i ps) x ∙ f)), c j f) in
+          let covers : (j : ℕ) → lookup j ps ≡ none → Absent j (k ∷ others) = λ j f.
+          absent-cons j k others (λ x. some-none (sym e ∙ ap (λ i. lookup i ps) (sym x) ∙ f)) (c j f)
+          in
           absurd (omega (arith, holders-cover ps (k ∷ others) u d covers, holders-below ps))
 
   -- eight others that the rules have open hold the eight places
   eight-hold : (k : ℕ) (events : List (Event (𝓕 .Frame))) → EightOthersOpen 𝓕 k (onBusyBus 𝓕 events) → EightOthers k (after 𝓕 (eightFree 𝓕) events)
   eight-hold k events o =
-      let r = run-keeps (eightFree 𝓕) events tt in
+      let r = run-keeps (eightFree 𝓕) events refl in
       others-hold k (after 𝓕 (eightFree 𝓕) events) (o .others) (r .0) (r .1) (o .eight) (o .different)
       (λ j n. o .all-open j (sym (open-as-rules j events) ∙ n))
 
@@ -212,7 +234,7 @@ module _ (𝓕 : Format) where
 
   pub full-exactly-when : FullExactlyWhen 𝓕
   full-exactly-when events f =
-      let r = run-keeps (eightFree 𝓕) events tt in
+      let r = run-keeps (eightFree 𝓕) events refl in
       let i = full-exactly-when-at (after 𝓕 (eightFree 𝓕) events) f (r .0) (r .1) in (
         (λ e. let o = i .0 e in (o .0, eight-open (𝓕 .key f) events (o .1))),
         (λ e. i .1 (e .0, eight-hold (𝓕 .key f) events (e .1))),
@@ -221,12 +243,12 @@ module _ (𝓕 : Format) where
   pub closes-as-rules : ClosesAsRules 𝓕
   closes-as-rules ms events =
       let ps = after 𝓕 (eightFree 𝓕) events in
-      let u = run-keeps (eightFree 𝓕) events tt .1 in
+      let u = run-keeps (eightFree 𝓕) events refl .1 in
       record {
         keys = keysOf ps;
         different = u;
         exactly = λ k. ((λ a. sym (open-as-rules k events) ∙ absent-lookup k ps a), (λ e. lookup-absent k ps (open-as-rules k events ∙ e)));
-        number = closed-count 𝓕 ms ps u ∙ count-same (λ k. ap (λ m. isNone (pauseAlone 𝓕 ms m)) (open-as-rules k events)) (keysOf ps);
+        number = closed-count 𝓕 ms ps u ∙ count-same (λ k. ap (closesAlone 𝓕 ms) (open-as-rules k events)) (keysOf ps);
       }
 
 module _ (𝓕 : Format) (𝓟 : Pausing 𝓕) where

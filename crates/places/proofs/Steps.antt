@@ -11,11 +11,15 @@ use borrow.Author.Tests.{eq-eqb, ne-eqb}
 use Rattle.words.specs.Words.{if_then_else_}
 use Rattle.words.specs.Lists.{count, Absent}
 use Rattle.words.proofs.Words.{by-test, true-false}
-use Rattle.places.specs.Format.{Asks, fixed, opens, finishes, feeds, Fed, goes, ends, Format, Step, step}
-use Rattle.places.specs.OneKey.{fedAlone, packetAlone, askedAlone, pauseAlone}
-use Rattle.places.specs.Places.{free, held, full, said, lookup, update, anyFree, keysOf, OnePlaceEach, isNone, Places, opened, finished, fed, packet, asked, pass, closedBy}
-use Rattle.places.specs.Statements.{StepAgrees, OneStep, isOpening}
-use Rattle.places.proofs.Places.{by-equal, some-none, absent-lookup, keyed-other, keyed-same, keyed-each, update-other, update-same, update-each, length-update, take-other, take-same, take-each, length-lowest}
+use Rattle.words.proofs.Lists.{absent-head, absent-tail, distinct-head, distinct-tail}
+use Rattle.places.specs.Format.{Asks, fixed, opens, finishes, feeds, Fed, goes, ends, Format, isNone, Step, step}
+use Rattle.places.specs.OneKey.{fedAlone, packetAlone, askedAlone, pauseAlone, closesAlone}
+use Rattle.places.specs.Places.{free, held, full, said, lookup, update, anyFree, keysOf, OnePlaceEach, Places}
+use Rattle.places.specs.Places.{hearsOpening, hearsWhole, afterPacket, hearsPacket, asked, pass, closedBy}
+use Rattle.places.specs.Statements.{StepAgrees, OneStep, closedAlone, isOpening}
+use Rattle.places.proofs.Places.{by-equal, some-none, absent-lookup, keyed-other, keyed-same, keyed-each}
+use Rattle.places.proofs.Places.{update-other, update-same, update-each, length-update, take-other, take-same}
+use Rattle.places.proofs.Places.{take-each, length-lowest}
 
 pub said-full : {A B : Type 0} {a : A} → said a ≡ full → B
 said-full p = let z : _≡_ {A = ℕ} 0 1 = cc in absurd (omega arith)
@@ -66,9 +70,10 @@ module _ (𝓕 : Format) where
         as-many = refl;
       }
 
-  opened-agrees : (k : ℕ) (s : 𝓕 .Session) (a : 𝓕 .Answer) (ps : Places 𝓕) (m : Option (𝓕 .Session)) → OnePlaceEach ps → lookup k ps ≡ m
-      → StepAgrees k ps (opened 𝓕 k s a ps m) (step (some s) a)
-  opened-agrees k s a ps none u e =
+  opening-agrees : (k : ℕ) (s : 𝓕 .Session) (a : 𝓕 .Answer) (ps : Places 𝓕) (m : Option (𝓕 .Session))
+      → OnePlaceEach ps → lookup k ps ≡ m
+      → StepAgrees k ps (hearsOpening 𝓕 k s a ps m) (step (some s) a)
+  opening-agrees k s a ps none u e =
       by-test (anyFree ps)
       (λ f. rw f (record {
         answered = λ _. refl;
@@ -79,28 +84,32 @@ module _ (𝓕 : Format) where
         as-many = length-lowest k s ps;
       }))
       (λ f. rw f (refused k (step (some s) a) ps u))
-  opened-agrees k s a ps (some t) u e = updated k (some s) a t ps u e
+  opening-agrees k s a ps (some t) u e = updated k (some s) a t ps u e
 
-  finished-agrees : (k : ℕ) (a : 𝓕 .Answer) (ps : Places 𝓕) (m : Option (𝓕 .Session)) → OnePlaceEach ps → lookup k ps ≡ m
-      → StepAgrees k ps (finished 𝓕 k a ps m) (step none a)
-  finished-agrees k a ps none u e = by-test (anyFree ps) (λ f. rw f (idle k a none ps u e)) (λ f. rw f (refused k (step none a) ps u))
-  finished-agrees k a ps (some t) u e = updated k none a t ps u e
+  whole-agrees : (k : ℕ) (a : 𝓕 .Answer) (ps : Places 𝓕) (m : Option (𝓕 .Session)) → OnePlaceEach ps → lookup k ps ≡ m
+      → StepAgrees k ps (hearsWhole 𝓕 k a ps m) (step none a)
+  whole-agrees k a ps none u e =
+      by-test (anyFree ps)
+      (λ f. rw f (idle k a none ps u e))
+      (λ f. rw f (refused k (step none a) ps u))
+  whole-agrees k a ps (some t) u e = updated k none a t ps u e
 
-  fed-agrees : (k : ℕ) (ps : Places 𝓕) (t : 𝓕 .Session) (r : Fed (𝓕 .Session) (𝓕 .Answer)) → OnePlaceEach ps → lookup k ps ≡ some t
-      → StepAgrees k ps (fed 𝓕 k ps r) (fedAlone 𝓕 r)
-  fed-agrees k ps t (goes s a) u e = updated k (some s) a t ps u e
-  fed-agrees k ps t (ends a) u e = updated k none a t ps u e
+  after-packet-agrees : (k : ℕ) (ps : Places 𝓕) (t : 𝓕 .Session) (r : Fed (𝓕 .Session) (𝓕 .Answer))
+      → OnePlaceEach ps → lookup k ps ≡ some t
+      → StepAgrees k ps (afterPacket 𝓕 k ps r) (fedAlone 𝓕 r)
+  after-packet-agrees k ps t (goes s a) u e = updated k (some s) a t ps u e
+  after-packet-agrees k ps t (ends a) u e = updated k none a t ps u e
 
   packet-agrees : (k : ℕ) (d : 𝓕 .Data) (a : 𝓕 .Answer) (ps : Places 𝓕) (m : Option (𝓕 .Session)) → OnePlaceEach ps → lookup k ps ≡ m
-      → StepAgrees k ps (packet 𝓕 k d a ps m) (packetAlone 𝓕 d a m)
+      → StepAgrees k ps (hearsPacket 𝓕 k d a ps m) (packetAlone 𝓕 d a m)
   packet-agrees k d a ps none u e = idle k a none ps u e
-  packet-agrees k d a ps (some s) u e = fed-agrees k ps s (𝓕 .feed s d) u e
+  packet-agrees k d a ps (some s) u e = after-packet-agrees k ps s (𝓕 .feed s d) u e
 
   asked-agrees : (k : ℕ) (q : Asks (𝓕 .Session) (𝓕 .Data) (𝓕 .Answer)) (ps : Places 𝓕) → OnePlaceEach ps
       → StepAgrees k ps (asked 𝓕 k q ps) (askedAlone 𝓕 q (lookup k ps))
   asked-agrees k (fixed a) ps u = idle k a (lookup k ps) ps u refl
-  asked-agrees k (opens s a) ps u = opened-agrees k s a ps (lookup k ps) u refl
-  asked-agrees k (finishes a) ps u = finished-agrees k a ps (lookup k ps) u refl
+  asked-agrees k (opens s a) ps u = opening-agrees k s a ps (lookup k ps) u refl
+  asked-agrees k (finishes a) ps u = whole-agrees k a ps (lookup k ps) u refl
   asked-agrees k (feeds d a) ps u = packet-agrees k d a ps (lookup k ps) u refl
 
   -- a frame
@@ -122,23 +131,31 @@ module _ (𝓕 : Format) where
   pass-lookup k ms (free ∷ ps) u = pass-lookup k ms ps u
   pass-lookup k ms (held j s ∷ ps) u =
       by-equal j k
-      (λ e. rw (eq-eqb j k e, e) (keyed-same k (𝓕 .wait ms s) (pass 𝓕 ms ps) (pass-none k ms ps (rw e at (absent-lookup j ps (u .0))))))
-      (λ n. rw (ne-eqb j k n) (keyed-other k j (𝓕 .wait ms s) (pass 𝓕 ms ps) n ∙ pass-lookup k ms ps (u .1)))
+      (λ e.
+      let alone = absent-lookup j ps (distinct-head j (keysOf ps) u) in
+      rw (eq-eqb j k e, e) (keyed-same k (𝓕 .wait ms s) (pass 𝓕 ms ps) (pass-none k ms ps (rw e at alone))))
+      (λ n.
+      let others = distinct-tail j (keysOf ps) u in
+      rw (ne-eqb j k n) (keyed-other k j (𝓕 .wait ms s) (pass 𝓕 ms ps) n ∙ pass-lookup k ms ps others))
 
   pub pass-each : (ms : ℕ) (ps : Places 𝓕) → OnePlaceEach ps → OnePlaceEach (pass 𝓕 ms ps)
   pass-each ms [] u = u
   pass-each ms (free ∷ ps) u = pass-each ms ps u
   pass-each ms (held j s ∷ ps) u =
-      keyed-each j (𝓕 .wait ms s) (pass 𝓕 ms ps) (pass-none j ms ps (absent-lookup j ps (u .0))) (pass-each ms ps (u .1))
+      let alone = absent-lookup j ps (distinct-head j (keysOf ps) u) in
+      let others = distinct-tail j (keysOf ps) u in
+      keyed-each j (𝓕 .wait ms s) (pass 𝓕 ms ps) (pass-none j ms ps alone) (pass-each ms ps others)
 
   -- a first place changes nothing of the keys that are not its own
   count-apart : (ms j : ℕ) (s : 𝓕 .Session) (ps : Places 𝓕) (ks : List ℕ) → Absent j ks
-      → count (λ k. isNone (pauseAlone 𝓕 ms (lookup k (held j s ∷ ps)))) ks ≡ count (λ k. isNone (pauseAlone 𝓕 ms (lookup k ps))) ks
+      → count (λ k. closesAlone 𝓕 ms (lookup k (held j s ∷ ps))) ks ≡ count (λ k. closesAlone 𝓕 ms (lookup k ps)) ks
   count-apart ms j s ps [] h = refl
-  count-apart ms j s ps (k ∷ ks) h = rw (ne-eqb j k (λ e. h .0 (sym e)), count-apart ms j s ps ks (h .1))
+  count-apart ms j s ps (k ∷ ks) h =
+      rw (ne-eqb j k (absent-head j k ks h), count-apart ms j s ps ks (absent-tail j k ks h))
 
-  pub closed-count : (ms : ℕ) (ps : Places 𝓕) → OnePlaceEach ps → closedBy 𝓕 ms ps ≡ count (λ k. isNone (pauseAlone 𝓕 ms (lookup k ps))) (keysOf ps)
+  pub closed-count : (ms : ℕ) (ps : Places 𝓕) → OnePlaceEach ps → closedBy 𝓕 ms ps ≡ closedAlone 𝓕 ms ps
   closed-count ms [] u = refl
   closed-count ms (free ∷ ps) u = zero-add _ ∙ closed-count ms ps u
   closed-count ms (held j s ∷ ps) u =
-      rw (eq-eqb j j refl, count-apart ms j s ps (keysOf ps) (u .0)) (ap (λ n. (if isNone (𝓕 .wait ms s) then 1 else 0) + n) (closed-count ms ps (u .1)))
+      rw (eq-eqb j j refl, count-apart ms j s ps (keysOf ps) (distinct-head j (keysOf ps) u))
+      (ap (λ n. (if isNone (𝓕 .wait ms s) then 1 else 0) + n) (closed-count ms ps (distinct-tail j (keysOf ps) u)))

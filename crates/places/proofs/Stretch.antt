@@ -9,9 +9,9 @@ use native.Mathlib.Numerals.{add-one}
 use native.Mathlib.Omega.{arith}
 use borrow.Rule.Slice.PartMut.{putMid}
 use lib.ListN.{length, take, drop, getD, set, take-append-drop, length-drop, drop-of-length-le}
-use lib.Seq.{paste, paste-suc, getD-drop, drop-append-le, take-append-le, take-take, drop-drop, drop-paste, take-add, take-all, length-take-le, drop-at, length-paste-head, take-append-add}
-use Rattle.places.specs.Layout.{stretch}
-use Rattle.places.specs.Laws.{StretchSame, StretchOther}
+use lib.Seq.{paste, paste-suc, getD-drop, drop-append-le, take-append-le, take-take, drop-drop, drop-paste, take-add}
+use lib.Seq.{take-all, length-take-le, drop-at, length-paste-head, take-append-add}
+use Rattle.places.specs.Layout.{stretch, AgreeBut}
 
 -- a copy into the part from a on that was lent, put back, is a copy into the whole
 pub paste-part : (xs s : List ℕ) (a o n : ℕ) → putMid a (length xs - a) xs (paste (take (length xs - a) (drop a xs)) o s n) ≡ paste xs (a + o) s n
@@ -73,13 +73,19 @@ take-copy x d m o c h l k =
     ∙ take-append-add p (drop (o + c) x) (m - (o + c))
     ∙ sym (rw (take-take o m x, drop-take x (o + c) m h l))
 
-pub stretch-same : StretchSame
+-- a copy into place j's stretch changes that one as it would change the stretch alone, and no other
+
+pub stretch-same : (stride j o n : ℕ) (storage bytes : List ℕ) → o + n ≤ stride → stride * j + o + n ≤ length storage
+    → n ≤ length bytes
+    → stretch stride j (paste storage (stride * j + o) bytes n) ≡ paste (stretch stride j storage) o bytes n
 stretch-same stride j o n s d h l k =
     let l₁ : stride * j ≤ length s = omega arith in
     let l₂ : o + n ≤ length (drop (stride * j) s) = rw length-drop (omega arith) in
     rw (drop-copy s d (stride * j) o n l₁) (take-copy (drop (stride * j) s) d stride o n h l₂ k)
 
-pub stretch-other : StretchOther
+pub stretch-other : (stride j o n : ℕ) (storage bytes : List ℕ) → o + n ≤ stride → stride * j + o + n ≤ length storage
+    → n ≤ length bytes
+    → AgreeBut stride j storage (paste storage (stride * j + o) bytes n)
 stretch-other stride j o n s d h l k i ne = go (decLt i j)
   where
     l₁ : stride * j + o ≤ length s

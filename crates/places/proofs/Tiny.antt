@@ -11,9 +11,12 @@ use Rattle.words.specs.Words.{_<?_, _≤?_, _=?_}
 use Rattle.words.proofs.Words.{by-test}
 use Rattle.places.specs.Format.{opens, goes}
 use Rattle.places.specs.OneKey.{pauseAlone}
-use Rattle.places.specs.Tiny.{Pile, Word, newPile, mostPackets, tinyIdleLimit, tinyAsks, tinyFeed, tinyWait, tiny, TinyBusyAsQuiet, TinyOpenAsRules, TinyToldAsRules, TinyFullExactlyWhen, TinyClosesAsRules, TinyPausing, TinySumsOfPauses}
+use Rattle.places.specs.Tiny.{Pile, Word, newPile, mostPackets, tinyIdleLimit, tinyAsks, tinyFeed, tinyWait, tiny}
+use Rattle.places.specs.Tiny.{TinyBusyAsQuiet, TinyOpenAsRules, TinyToldAsRules, TinyFullExactlyWhen}
+use Rattle.places.specs.Tiny.{TinyClosesAsRules, TinyPausing, TinySumsOfPauses}
 use Rattle.places.proofs.Places.{some-none}
-use Rattle.places.proofs.Statements.{busy-as-quiet, open-as-rules, told-as-rules, full-exactly-when, closes-as-rules, sums-of-pauses}
+use Rattle.places.proofs.Statements.{busy-as-quiet, open-as-rules, told-as-rules, full-exactly-when}
+use Rattle.places.proofs.Statements.{closes-as-rules, sums-of-pauses}
 
 abbrev Fresh : Pile → Type 0
 Fresh p = p .idle ≤ tinyIdleLimit

@@ -16,16 +16,21 @@ use Rattle.words.proofs.Words.{by-test, both-true}
 use Rattle.places.specs.Format.{finishes, opens, feeds, goes, ends}
 use Rattle.places.specs.Places.{Out, full, said, placeCount, rest, closes}
 use Rattle.places.specs.Layout.{stretch, AgreeBut, openBy, seat, view, oneEach}
-use Rattle.places.specs.Receiver.{Shows}
 use Rattle.places.specs.Calls.{KeepsPlaces}
-use Rattle.places.specs.Tiny.{Card, Pile, Word, opened, stored, unknown, finished, newPile, mostPackets, tinyIdleLimit, tinyAsks, tinyFeed, tinyWait, tiny}
-use Rattle.places.specs.TinyReceiver.{Slot, freeSlot, isFreeSlot, pileIn, tinyLayout, TinyHeld, slotKeepsRules, TinyKeeps, TinyAfter, tinyLeaves, written, handed, tinyFinishes, newSlot, tinyOpens, nextSlot, tinyStores, tinyFeeds, tinyHeard, slotCloses, slotIdled, TinyStarts, TinyHears, TinyPauses, tinyCalls, TinyKeepsPlaces}
+use Rattle.places.specs.Tiny.{Card, Pile, Word, opened, stored, unknown, finished, newPile, mostPackets}
+use Rattle.places.specs.Tiny.{tinyIdleLimit, tinyAsks, tinyFeed, tinyWait, tiny}
+use Rattle.places.specs.TinyReceiver.{Slot, freeSlot, isFreeSlot, pileIn, tinyLayout, TinyHeld, slotKeepsRules}
+use Rattle.places.specs.TinyReceiver.{TinyKeeps, TinyAfter, tinyLeaves, written, handed, tinyFinishes, newSlot}
+use Rattle.places.specs.TinyReceiver.{tinyOpens, nextSlot, tinyStores, tinyFeeds, tinyHeard, slotCloses}
+use Rattle.places.specs.TinyReceiver.{slotIdled, TinyStarts, TinyHears, TinyPauses, tinyCalls, TinyKeepsPlaces}
 use Rattle.words.specs.declared.Found.{Found}
 use Rattle.words.specs.declared.Found.the-variants.{At, Nowhere}
 use Rattle.words.proofs.Lists.{found-at, every-at, every-set, every-map, every-replicate}
 use Rattle.places.proofs.Stretch.{stretch-same, stretch-other}
 use Rattle.places.proofs.View.{one-each-view, length-view, blank-view, view-pass, view-closes}
-use Rattle.places.proofs.Receiver.{shows-opens-held, shows-opens-free, shows-finishes-held, shows-finishes-free, shows-full, shows-feeds-nowhere, shows-feeds-goes, shows-feeds-ends, shows-keeps, pass-keeps}
+use Rattle.places.proofs.Receiver.{Shows, shows-opens-held, shows-opens-free, shows-finishes-held}
+use Rattle.places.proofs.Receiver.{shows-finishes-free, shows-full, shows-feeds-nowhere, shows-feeds-goes}
+use Rattle.places.proofs.Receiver.{shows-feeds-ends, shows-keeps, pass-keeps}
 
 -- the rules of an open slot, one by one
 record OpenSlot (s : Slot) : Type 0 where

@@ -10,11 +10,13 @@ use mathlib.Core.Option.{none}
 use Prim.Native.Nat.{ℕ}
 use lib.ListN.{length}
 use Rattle.words.specs.Words.{Told, gives}
-use Rattle.words.specs.Lists.{count}
 use Rattle.places.specs.Format.{Format, Event}
 use Rattle.places.specs.OneKey.{pauseAlone, solo}
-use Rattle.places.specs.Places.{Out, full, Happened, heard, paused, lookup, keysOf, OnePlaceEach, isNone, placeCount, Places, hear, pass, closedBy, eightFree, History, eventsOf, toldTo, admitted, NeverFull, answered}
-use Rattle.places.specs.Statements.{onQuietBus, openByRules, isOpening, EightOthersOpen, ClosedByRules, EightOthers, Pausing, spacing}
+use Rattle.places.specs.Places.{Out, full, Happened, heard, paused, lookup, OnePlaceEach, placeCount}
+use Rattle.places.specs.Places.{Places, hear, pass, closedBy, eightFree, History, eventsOf, toldTo}
+use Rattle.places.specs.Places.{admitted, NeverFull, answered}
+use Rattle.places.specs.Statements.{onQuietBus, openByRules, isOpening, closedAlone}
+use Rattle.places.specs.Statements.{EightOthersOpen, ClosedByRules, EightOthers, Pausing, spacing}
 
 -- The calls of a receiver of a format: the states in which it starts, those that keep their rules, and which answer and
 -- which state after it the promise of a call allows.
@@ -66,7 +68,7 @@ module _ {𝓕 : Format} (𝓒 : Calls 𝓕) where
       (h : History 𝓕) (s t : 𝓒 .State) (f : 𝓕 .Frame) (o : Out (𝓕 .Answer)) → FromStart h s → 𝓒 .Hears s f o t
       → (o ≡ full) ↔ ((isOpening (𝓕 .asks f) ≡ true) × EightOthersOpen 𝓕 (𝓕 .key f) h)
 
-  -- After any run a pause is never refused, and answers how many keys the rules close in it.
+  -- After any run a pause is never refused: it answers a number, and that is how many keys the rules close in it.
   abbrev pub PauseCount : Type 0
   PauseCount =
       (h : History 𝓕) (s t : 𝓒 .State) (ms : ℕ) (told : Told ℕ) → FromStart h s → 𝓒 .Pauses s ms told t
@@ -104,10 +106,10 @@ module _ {𝓕 : Format} (𝓒 : Calls 𝓕) where
       (s t : 𝓒 .State) (f : 𝓕 .Frame) (o : Out (𝓕 .Answer)) → 𝓒 .Kept s → 𝓒 .Hears s f o t
       → (o ≡ full) ↔ ((isOpening (𝓕 .asks f) ≡ true) × EightOthers (𝓕 .key f) (𝓒 .seen s))
 
-  -- and a pause closes as many places as there are holders whose machine closes, and every other session is that
-  -- machine's after the pause.
+  -- and a pause answers how many of the keys that hold a place their own machine closes, and leaves each key the
+  -- session that its machine has after the pause.
   pub record PauseAt (s t : 𝓒 .State) (ms : ℕ) (told : Told ℕ) : Type 0 where
-    pub number : told ≡ gives (count (λ k. isNone (pauseAlone 𝓕 ms (lookup k (𝓒 .seen s)))) (keysOf (𝓒 .seen s)))
+    pub number : told ≡ gives (closedAlone 𝓕 ms (𝓒 .seen s))
     pub sessions : (k : ℕ) → lookup k (𝓒 .seen t) ≡ pauseAlone 𝓕 ms (lookup k (𝓒 .seen s))
 
   abbrev pub PauseAtAnyState : Type 0

@@ -1,6 +1,7 @@
 -- A packet format: messages that come in packets, as a receiver of several of them at once needs to know it (RULES 4
 -- and 12). Messages are told apart by a key: the sender's address, or a number for sender and DGN.
-use mathlib.Core.Option.{Option}
+use mathlib.Core.Bool.{Bool, true, false}
+use mathlib.Core.Option.{Option, some, none}
 use Prim.Native.Nat.{ℕ}
 
 -- What a frame asks for, read off the frame alone: S are sessions, D what a packet brings, A answers.
@@ -24,6 +25,11 @@ pub record Format : Type 1 where
   pub asks : Frame → Asks Session Data Answer
   pub feed : Session → Data → Fed Session Answer
   pub wait : ℕ → Session → Option Session  -- a pause: none where it closes the session
+
+-- whether a pause left nothing
+abbrev pub isNone : {A : Type 0} → Option A → Bool
+isNone none = true
+isNone (some a) = false
 
 -- What happens on the bus.
 pub data Event (F : Type 0) : Type 0 where

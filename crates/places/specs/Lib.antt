@@ -4,8 +4,6 @@ pub mod OneKey
 pub mod Places
 pub mod Statements
 pub mod Layout
-pub mod Laws
-pub mod Receiver
 pub mod Calls
 pub mod Tiny
 pub mod TinyReceiver

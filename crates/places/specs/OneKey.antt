@@ -1,8 +1,10 @@
 -- The machine of one key alone: no places, at most one open session (RULES 4.14 and 12.22).
+use mathlib.Core.Bool.{Bool, false}
 use mathlib.Core.List.{List, [], _∷_}
 use mathlib.Core.Option.{Option, some, none}
 use Prim.Native.Nat.{ℕ}
-use Rattle.places.specs.Format.{Asks, fixed, opens, finishes, feeds, Fed, goes, ends, Format, Event, frame, pause, Step, step}
+use Rattle.places.specs.Format.{Asks, fixed, opens, finishes, feeds, Fed, goes, ends, Format, isNone}
+use Rattle.places.specs.Format.{Event, frame, pause, Step, step}
 
 module _ (𝓕 : Format) where
   abbrev pub fedAlone : Fed (𝓕 .Session) (𝓕 .Answer) → Step (Option (𝓕 .Session)) (𝓕 .Answer)
@@ -15,7 +17,8 @@ module _ (𝓕 : Format) where
   packetAlone d a (some s) = fedAlone (𝓕 .feed s d)
 
   -- an opening drops what was open
-  abbrev pub askedAlone : Asks (𝓕 .Session) (𝓕 .Data) (𝓕 .Answer) → Option (𝓕 .Session) → Step (Option (𝓕 .Session)) (𝓕 .Answer)
+  abbrev pub askedAlone :
+      Asks (𝓕 .Session) (𝓕 .Data) (𝓕 .Answer) → Option (𝓕 .Session) → Step (Option (𝓕 .Session)) (𝓕 .Answer)
   askedAlone (fixed a) m = step m a
   askedAlone (opens s a) m = step (some s) a
   askedAlone (finishes a) m = step none a
@@ -27,6 +30,11 @@ module _ (𝓕 : Format) where
   abbrev pub pauseAlone : ℕ → Option (𝓕 .Session) → Option (𝓕 .Session)
   pauseAlone ms none = none
   pauseAlone ms (some s) = 𝓕 .wait ms s
+
+  -- the pause closes it: a session is open, and the pause leaves none
+  abbrev pub closesAlone : ℕ → Option (𝓕 .Session) → Bool
+  closesAlone ms none = false
+  closesAlone ms (some s) = isNone (𝓕 .wait ms s)
 
   -- every answer of a run
   abbrev pub solo : Option (𝓕 .Session) → List (Event (𝓕 .Frame)) → List (𝓕 .Answer)

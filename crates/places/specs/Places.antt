@@ -6,7 +6,8 @@ use Prim.Native.Nat.{ℕ, _+_}
 use lib.ListN.{replicate}
 use Rattle.words.specs.Words.{if_then_else_, _=?_, Told, gives}
 use Rattle.words.specs.Lists.{count, Distinct}
-use Rattle.places.specs.Format.{Asks, fixed, opens, finishes, feeds, Fed, goes, ends, Format, Event, frame, pause, Step, step}
+use Rattle.places.specs.Format.{Asks, fixed, opens, finishes, feeds, Fed, goes, ends, Format, isNone}
+use Rattle.places.specs.Format.{Event, frame, pause, Step, step}
 
 pub data Place (S : Type 0) : Type 0 where
   free : Place S
@@ -64,37 +65,35 @@ keysOf (held j s ∷ ps) = j ∷ keysOf ps
 abbrev pub OnePlaceEach : {S : Type 0} → List (Place S) → Type 0
 OnePlaceEach ps = Distinct (keysOf ps)
 
-abbrev pub isNone : {A : Type 0} → Option A → Bool
-isNone none = true
-isNone (some a) = false
-
 module _ (𝓕 : Format) where
   abbrev pub Places : Type 0
   Places = List (Place (𝓕 .Session))
 
   -- an opening takes its key's place, or else the lowest free one
-  abbrev pub opened : ℕ → 𝓕 .Session → 𝓕 .Answer → Places → Option (𝓕 .Session) → Step Places (Out (𝓕 .Answer))
-  opened k s a ps (some t) = step (update k (some s) ps) (said a)
-  opened k s a ps none = if anyFree ps then step (takeLowest k s ps) (said a) else step ps full
+  abbrev pub hearsOpening : ℕ → 𝓕 .Session → 𝓕 .Answer → Places → Option (𝓕 .Session) → Step Places (Out (𝓕 .Answer))
+  hearsOpening k s a ps (some t) = step (update k (some s) ps) (said a)
+  hearsOpening k s a ps none = if anyFree ps then step (takeLowest k s ps) (said a) else step ps full
 
   -- one that finishes at once needs a place too, and leaves it free
-  abbrev pub finished : ℕ → 𝓕 .Answer → Places → Option (𝓕 .Session) → Step Places (Out (𝓕 .Answer))
-  finished k a ps (some t) = step (update k none ps) (said a)
-  finished k a ps none = if anyFree ps then step ps (said a) else step ps full
+  abbrev pub hearsWhole : ℕ → 𝓕 .Answer → Places → Option (𝓕 .Session) → Step Places (Out (𝓕 .Answer))
+  hearsWhole k a ps (some t) = step (update k none ps) (said a)
+  hearsWhole k a ps none = if anyFree ps then step ps (said a) else step ps full
 
-  abbrev pub fed : ℕ → Places → Fed (𝓕 .Session) (𝓕 .Answer) → Step Places (Out (𝓕 .Answer))
-  fed k ps (goes s a) = step (update k (some s) ps) (said a)
-  fed k ps (ends a) = step (update k none ps) (said a)
+  -- a packet of a session does to the key's place what it does to the session
+  abbrev pub afterPacket : ℕ → Places → Fed (𝓕 .Session) (𝓕 .Answer) → Step Places (Out (𝓕 .Answer))
+  afterPacket k ps (goes s a) = step (update k (some s) ps) (said a)
+  afterPacket k ps (ends a) = step (update k none ps) (said a)
 
-  abbrev pub packet : ℕ → 𝓕 .Data → 𝓕 .Answer → Places → Option (𝓕 .Session) → Step Places (Out (𝓕 .Answer))
-  packet k d a ps none = step ps (said a)
-  packet k d a ps (some s) = fed k ps (𝓕 .feed s d)
+  -- a packet, where the key has no session open and where it has
+  abbrev pub hearsPacket : ℕ → 𝓕 .Data → 𝓕 .Answer → Places → Option (𝓕 .Session) → Step Places (Out (𝓕 .Answer))
+  hearsPacket k d a ps none = step ps (said a)
+  hearsPacket k d a ps (some s) = afterPacket k ps (𝓕 .feed s d)
 
   abbrev pub asked : ℕ → Asks (𝓕 .Session) (𝓕 .Data) (𝓕 .Answer) → Places → Step Places (Out (𝓕 .Answer))
   asked k (fixed a) ps = step ps (said a)
-  asked k (opens s a) ps = opened k s a ps (lookup k ps)
-  asked k (finishes a) ps = finished k a ps (lookup k ps)
-  asked k (feeds d a) ps = packet k d a ps (lookup k ps)
+  asked k (opens s a) ps = hearsOpening k s a ps (lookup k ps)
+  asked k (finishes a) ps = hearsWhole k a ps (lookup k ps)
+  asked k (feeds d a) ps = hearsPacket k d a ps (lookup k ps)
 
   abbrev pub hear : 𝓕 .Frame → Places → Step Places (Out (𝓕 .Answer))
   hear f ps = asked (𝓕 .key f) (𝓕 .asks f) ps

@@ -9,13 +9,16 @@ use mathlib.Core.Option.{Option, some, none}
 use Prim.Native.Nat.{ℕ, _+_}
 use lib.ListN.{length}
 use Rattle.places.specs.Format.{Asks, fixed, opens, finishes, feeds, goes, Format, Event, frame, pause, Step}
-use Rattle.places.specs.OneKey.{hearAlone, pauseAlone, solo, openAfter}
+use Rattle.places.specs.OneKey.{hearAlone, pauseAlone, closesAlone, solo, openAfter}
 use Rattle.words.specs.Lists.{count, Absent, Distinct}
-use Rattle.places.specs.Places.{Place, free, held, Out, full, said, lookup, keysOf, OnePlaceEach, isNone, placeCount, Places, hear, pass, closedBy, eightFree, after, History, run, toldTo, only, admitted, NeverFull, answered}
+use Rattle.places.specs.Places.{Place, free, held, Out, full, said, lookup, keysOf, OnePlaceEach, placeCount}
+use Rattle.places.specs.Places.{Places, hear, pass, closedBy, eightFree, after, History, run, toldTo}
+use Rattle.places.specs.Places.{only, admitted, NeverFull, answered}
 
 -- One step of the places, against the machine of k alone: the same answer and session, unless full; then nothing
 -- changes. No other key's session is touched, no key gets a second place, and there are as many places as before.
-pub record StepAgrees {S A : Type 0} (k : ℕ) (ps : List (Place S)) (busy : Step (List (Place S)) (Out A)) (quiet : Step (Option S) A) : Type 0 where
+pub record StepAgrees {S A : Type 0} (k : ℕ) (ps : List (Place S)) (busy : Step (List (Place S)) (Out A))
+    (quiet : Step (Option S) A) : Type 0 where
   pub answered : busy .answer ≢ full → busy .answer ≡ said (quiet .answer)
   pub session : busy .answer ≢ full → lookup k (busy .next) ≡ quiet .next
   pub full-keeps : busy .answer ≡ full → busy .next ≡ ps
@@ -28,11 +31,15 @@ OneStep 𝓕 =
     (f : 𝓕 .Frame) (ps : Places 𝓕) → OnePlaceEach ps
     → StepAgrees (𝓕 .key f) ps (hear 𝓕 f ps) (hearAlone 𝓕 f (lookup (𝓕 .key f) ps))
 
+-- of the keys that hold a place, as many as the machine of that key alone closes in a pause
+abbrev pub closedAlone : (𝓕 : Format) → ℕ → Places 𝓕 → ℕ
+closedAlone 𝓕 ms ps = count (λ k. closesAlone 𝓕 ms (lookup k ps)) (keysOf ps)
+
 -- One pause: each key's session is what the machine of that key alone has after it, and as many places are freed as
 -- there are keys whose machine closes.
 pub record PauseClosesAt (𝓕 : Format) (ms : ℕ) (ps : Places 𝓕) : Type 0 where
   pub session : (k : ℕ) → lookup k (pass 𝓕 ms ps) ≡ pauseAlone 𝓕 ms (lookup k ps)
-  pub closed : closedBy 𝓕 ms ps ≡ count (λ k. isNone (pauseAlone 𝓕 ms (lookup k ps))) (keysOf ps)
+  pub closed : closedBy 𝓕 ms ps ≡ closedAlone 𝓕 ms ps
 
 abbrev pub PauseCloses : Format → Type 0
 PauseCloses 𝓕 = (ms : ℕ) (ps : Places 𝓕) → OnePlaceEach ps → PauseClosesAt 𝓕 ms ps
@@ -104,12 +111,16 @@ FullExactlyWhen 𝓕 =
     → (hear 𝓕 f (after 𝓕 (eightFree 𝓕) events) .answer ≡ full)
     ↔ ((isOpening (𝓕 .asks f) ≡ true) × EightOthersOpen 𝓕 (𝓕 .key f) (onBusyBus 𝓕 events))
 
--- How many keys the rules close in a pause: `keys` are those that they have open, each once.
+-- whether the rules close k's session in a pause that follows a history
+abbrev pub closesByRules : (𝓕 : Format) → ℕ → History 𝓕 → ℕ → Bool
+closesByRules 𝓕 ms h k = closesAlone 𝓕 ms (openByRules 𝓕 k h)
+
+-- The rules close n keys in a pause: of the keys that they have open, each taken once, they close n.
 pub record ClosedByRules (𝓕 : Format) (ms n : ℕ) (h : History 𝓕) : Type 0 where
   pub keys : List ℕ
   pub different : Distinct keys
   pub exactly : (k : ℕ) → Absent k keys ↔ (openByRules 𝓕 k h ≡ none)
-  pub number : n ≡ count (λ k. isNone (pauseAlone 𝓕 ms (openByRules 𝓕 k h))) keys
+  pub number : n ≡ count (closesByRules 𝓕 ms h) keys
 
 -- A pause frees as many places as the rules close keys in it, at any time of a run.
 abbrev pub ClosesAsRules : Format → Type 0

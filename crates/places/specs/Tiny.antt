@@ -8,7 +8,8 @@ use Prim.Native.Nat.{ℕ, _+_, _-_}
 use Rattle.words.specs.Words.{if_then_else_, _<?_, _≤?_, _=?_}
 use Rattle.places.specs.Format.{Asks, opens, finishes, feeds, Fed, goes, ends, Format, Event, frame, pause}
 use Rattle.places.specs.Places.{free, held, Out, full, said, heard, paused, closedBy, eightFree, after, History}
-use Rattle.places.specs.Statements.{onBusyBus, OpenAsRules, ToldAsRules, BusyAsQuiet, FullExactlyWhen, ClosesAsRules, Pausing, SumsOfPauses}
+use Rattle.places.specs.Statements.{onBusyBus, OpenAsRules, ToldAsRules, BusyAsQuiet}
+use Rattle.places.specs.Statements.{FullExactlyWhen, ClosesAsRules, Pausing, SumsOfPauses}
 
 pub record Card : Type 0 where
   pub key : ℕ
@@ -70,8 +71,8 @@ card key number byte = frame (record { key = key; number = number; byte = byte }
 -- is heard; the place is left free.
 abbrev pub nineKeys : List (Event Card)
 nineKeys =
-    card 1 2 0 ∷ card 2 2 0 ∷ card 3 2 0 ∷ card 4 2 0 ∷ card 5 2 0 ∷ card 6 2 0 ∷ card 7 2 0 ∷ card 8 2 0 ∷ card 9 0 77 ∷
-    card 3 10 31 ∷ pause 60 ∷ card 3 10 32 ∷ card 9 0 90 ∷ card 6 0 60 ∷ card 9 4 0 ∷ []
+    card 1 2 0 ∷ card 2 2 0 ∷ card 3 2 0 ∷ card 4 2 0 ∷ card 5 2 0 ∷ card 6 2 0 ∷ card 7 2 0 ∷ card 8 2 0 ∷
+    card 9 0 77 ∷ card 3 10 31 ∷ pause 60 ∷ card 3 10 32 ∷ card 9 0 90 ∷ card 6 0 60 ∷ card 9 4 0 ∷ []
 
 -- the answers alone, each with the key that it is told to
 abbrev pub answersIn : History tiny → List (ℕ × Out Word)
@@ -97,7 +98,9 @@ NineKeysAfter =
     ∷ held 5 waited ∷ free ∷ held 7 waited ∷ held 8 waited ∷ []
 
 abbrev pub NineKeysPaused : Type 0
-NineKeysPaused = (closedBy tiny 40 (after tiny (eightFree tiny) nineKeys) ≡ 0) × (closedBy tiny 41 (after tiny (eightFree tiny) nineKeys) ≡ 6)
+NineKeysPaused =
+    (closedBy tiny 40 (after tiny (eightFree tiny) nineKeys) ≡ 0)
+    × (closedBy tiny 41 (after tiny (eightFree tiny) nineKeys) ≡ 6)
 
 -- The statements at this format.
 

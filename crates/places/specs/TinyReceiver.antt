@@ -12,7 +12,8 @@ use Rattle.words.specs.Lists.{every, count, first}
 use Rattle.places.specs.Places.{Place, Out, full, said, placeCount}
 use Rattle.places.specs.Layout.{stretch, Layout, openBy, view, oneEach}
 use Rattle.places.specs.Calls.{Calls, KeepsPlaces}
-use Rattle.places.specs.Tiny.{Card, Pile, Word, opened, stored, unknown, finished, mostPackets, tinyIdleLimit, tiny}
+use Rattle.places.specs.Tiny.{Card, Pile, Word, opened, stored, unknown, finished}
+use Rattle.places.specs.Tiny.{mostPackets, tinyIdleLimit, tiny}
 use Rattle.words.specs.declared.Found.{Found}
 use Rattle.words.specs.declared.Found.the-variants.{At, Nowhere}
 

@@ -2,13 +2,13 @@
 pub use message::Announced;
 pub use message::Announcing;
 pub use message::Answer;
-pub use message::Cut;
-pub use message::Cutting;
 pub use message::Heard;
 pub use message::Paused;
 pub use message::Pausing;
 pub use message::Place;
 pub use message::Receiver;
+pub use message::Split;
+pub use message::Splitting;
 pub use message::Unsplittable;
 pub use message::announcement;
 pub use message::limits;

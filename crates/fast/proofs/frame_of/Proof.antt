@@ -4,8 +4,8 @@ use Prim.Native.Nat.{_<_}
 use native.Mathlib.Omega.{arith}
 use borrow.Author.Needs.{needs}
 use lib.ListN.{length}
-use Rattle.fast.specs.Promises.{cuttingNumber}
-use Rattle.fast.proofs.Cuts.{splittable, frame-given, cut-refused}
+use Rattle.fast.specs.Promises.{splittingNumber}
+use Rattle.fast.proofs.Splits.{splittable, frame-given, split-refused}
 use Rattle.fast.proofs.frame_of.Statement.{statement}
 use Rattle.fast.proofs.frame_of.Tie as tie
 
@@ -19,7 +19,7 @@ cast-frame-bytes : tie.Need-cast-frame-bytes
 cast-frame-bytes c =
     let b = c .before .before in
     let a = b .before .before .args in
-    let e = sym (b .splittable .ensures) ∙ ap cuttingNumber (c .enum-told .given .1) in
+    let e = sym (b .splittable .ensures) ∙ ap splittingNumber (c .enum-told .given .1) in
     let k = splittable (length (a .message .now)) (a .sequence) (a .number) e in
     let h : a .number < 256 = omega (arith, k .short, k .within) in
     search (needs, h)
@@ -28,7 +28,7 @@ frame-bytes-requires : tie.Need-frame-bytes-requires
 frame-bytes-requires c κs =
     let b = c .before .before in
     let a = b .before .before .args in
-    let e = sym (b .splittable .ensures) ∙ ap cuttingNumber (c .enum-told .given .1) in
+    let e = sym (b .splittable .ensures) ∙ ap splittingNumber (c .enum-told .given .1) in
     let k = splittable (length (a .message .now)) (a .sequence) (a .number) e in
     (k .short, k .low, k .within)
 
@@ -36,7 +36,7 @@ returns : tie.Need-returns
 returns c =
     let b = c .before .before .before in
     let a = b .before .before .args in
-    let e = sym (b .splittable .ensures) ∙ ap cuttingNumber (c .before .enum-told .given .1) in
+    let e = sym (b .splittable .ensures) ∙ ap splittingNumber (c .before .enum-told .given .1) in
     rw (frame-given (a .message .now) (a .sequence) (a .number) e)
     (record { number = refl; bytes = c .frame-bytes .ensures })
 
@@ -44,7 +44,7 @@ returns-2 : tie.Need-returns-2
 returns-2 c =
     let b = c .before in
     let a = b .before .before .args in
-    cut-refused (a .message .now) (a .sequence) (a .number) (b .splittable .result) (c .match .keys2)
+    split-refused (a .message .now) (a .sequence) (a .number) (b .splittable .result) (c .match .keys2)
     (b .splittable .ensures)
 
 pub frame-of-spec : {M : Type 1} → statement M

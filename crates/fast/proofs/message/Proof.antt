@@ -4,7 +4,9 @@ use mathlib.Core.Path.{_≡_, refl, sym, _∙_}
 use Prim.Native.Nat.{ℕ}
 use borrow.Author.Tests.{le-ltb}
 use borrow.Author.Needs.{needs}
-use Rattle.fast.specs.declared.Answer.the-variants.{StorageTooShort, BrokenState, BadFrame, MalformedLength, NoPlaceFree, NoOpenMessage, UnexpectedFrame, NothingToDo, Opened, Stored, Finished}
+use Rattle.fast.specs.declared.Answer.the-variants.{StorageTooShort, BrokenState, BadFrame, MalformedLength}
+use Rattle.fast.specs.declared.Answer.the-variants.{NoPlaceFree, NoOpenMessage, UnexpectedFrame, NothingToDo}
+use Rattle.fast.specs.declared.Answer.the-variants.{Opened, Stored, Finished}
 use Rattle.fast.specs.declared.Answer.{Answer}
 use Rattle.fast.specs.Promises.{toldAnswer, messageIn}
 use denote.Enum.Declared.{tagOf}

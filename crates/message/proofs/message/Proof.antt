@@ -4,7 +4,9 @@ use mathlib.Core.Path.{_≡_, refl, sym, _∙_}
 use Prim.Native.Nat.{ℕ}
 use borrow.Author.Tests.{le-ltb}
 use borrow.Author.Needs.{needs}
-use Rattle.message.specs.declared.Answer.the-variants.{StorageTooShort, BrokenState, BadFrame, MalformedAnnouncement, NoPlaceFree, NoOpenMessage, UnexpectedPacket, NothingToDo, Opened, Stored, Finished}
+use Rattle.message.specs.declared.Answer.the-variants.{StorageTooShort, BrokenState, BadFrame}
+use Rattle.message.specs.declared.Answer.the-variants.{MalformedAnnouncement, NoPlaceFree, NoOpenMessage}
+use Rattle.message.specs.declared.Answer.the-variants.{UnexpectedPacket, NothingToDo, Opened, Stored, Finished}
 use Rattle.message.specs.declared.Answer.{Answer}
 use Rattle.message.specs.Promises.{toldAnswer, messageIn}
 use denote.Enum.Declared.{tagOf}

@@ -5,7 +5,7 @@ use borrow.Author.Tests.{not-true, not-false}
 use borrow.Author.Needs.{needs}
 use Rattle.words.specs.Words.{Told}
 use Rattle.fast.specs.FastPacket.{Meaning}
-use Rattle.fast.specs.Receiver.{namesOf, continues, byMeaning}
+use Rattle.fast.specs.Receiver.{namesOf, hearsLater, byMeaning}
 use Rattle.fast.specs.Private.{toldMeant}
 use Rattle.fast.specs.declared.Answer.the-variants.{MalformedLength, NothingToDo}
 use Rattle.fast.proofs.Steps.{left, left-as, rules-of, meant-other, meant-carried}
@@ -92,7 +92,7 @@ returns-4 c =
     let part = s .sender2 .given .0 .1 .1 in
     left-as
     (ap (λ (t : Told Meaning). byMeaning t (a .bytes) (a .r) (a .storage .now)) m
-    ∙ ap (λ (pair : ℕ). continues pair (part .0) (part .1 .0) (a .bytes) (a .r) (a .storage .now))
+    ∙ ap (λ (pair : ℕ). hearsLater pair (part .0) (part .1 .0) (a .bytes) (a .r) (a .storage .now))
     (sym (c .before .before .before .pair-of .ensures)))
     (c .before .before .continues .ensures)
 

@@ -5,7 +5,7 @@ use Prim.Native.Nat.{_≤_, _<_, _-_}
 use native.Mathlib.Omega.{arith}
 use borrow.Author.Needs.{needs}
 use lib.ListN.{length, take, replicate}
-use Rattle.fast.proofs.Dgns.{fill-turn, fill-end}
+use Rattle.words.proofs.Lists.{fill-turn, fill-end}
 use Rattle.fast.proofs.names.filled.Statement.{statement}
 use Rattle.fast.proofs.names.filled.Tie as tie
 
@@ -42,14 +42,15 @@ loop-again c =
     let l = c .before .before .loop in
     let s = c .before .before .before .args .names .now in
     let h : l .i < length s = omega arith in
-    (search needs, l .inv .1, search needs, fill-turn s (l .out) (l .i) h (l .inv .1) (l .inv .3))
+    let k : l .i < 16 = omega arith in
+    (search needs, l .inv .1, search needs, fill-turn s (l .out) (l .i) 16 0 0 h k (l .inv .3))
 
 returns : tie.Need-returns Inv-loop μ-loop
 returns c =
     let l = c .before .loop in
     let s = c .before .before .args .names .now in
     let h : l .i ≡ length s = omega arith in
-    fill-end s (l .out) (l .i) h (l .inv .3)
+    fill-end s (l .out) (l .i) 16 0 h (l .inv .3)
 
 pub filled-spec : {M : Type 1} → statement M
 filled-spec =

@@ -31,7 +31,7 @@ returns c =
     let l = c .before .before .before .loop in
     let a = c .before .before .before .before .args in
     let h : l .i < length (a .names .now) = omega arith in
-    sym (l .inv .1 ∙ any-stop (λ name. name =? a .dgn) (a .names .now) (l .i) 0 h (eq-eqb _ _ (c .if1 .taken)))
+    sym (l .inv .1 ∙ any-stop (_=?_ (a .dgn)) (a .names .now) (l .i) 0 h (eq-eqb _ _ (sym (c .if1 .taken))))
 
 add-i : tie.Need-add-i Inv-loop μ-loop
 add-i c = search needs
@@ -44,7 +44,7 @@ loop-again c =
     let l = c .before .before .before .loop in
     let a = c .before .before .before .before .args in
     let h : l .i < length (a .names .now) = omega arith in
-    let p = any-pass (λ name. name =? a .dgn) (a .names .now) (l .i) 0 h (ne-eqb _ _ (c .if1 .left)) in
+    let p = any-pass (_=?_ (a .dgn)) (a .names .now) (l .i) 0 h (ne-eqb _ _ (λ e. c .if1 .left (sym e))) in
     (search needs, l .inv .1 ∙ p)
 
 returns-2 : tie.Need-returns-2 Inv-loop μ-loop
@@ -52,7 +52,7 @@ returns-2 c =
     let l = c .before .loop in
     let a = c .before .before .args in
     let h : length (a .names .now) ≤ l .i = omega arith in
-    sym (l .inv .1 ∙ any-end (λ name. name =? a .dgn) (a .names .now) (l .i) h)
+    sym (l .inv .1 ∙ any-end (_=?_ (a .dgn)) (a .names .now) (l .i) h)
 
 pub is-named-spec : {M : Type 1} → statement M
 is-named-spec =

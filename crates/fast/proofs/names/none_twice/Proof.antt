@@ -4,13 +4,14 @@ use Prim.Native.Nat.{_≤_, _<_, _-_}
 use native.Mathlib.Omega.{arith}
 use borrow.Author.Needs.{needs}
 use lib.ListN.{length, drop}
-use Rattle.fast.specs.Names.{noneTwice}
-use Rattle.fast.proofs.Dgns.{twice-pass, twice-stop, twice-end}
+use Rattle.words.specs.Words.{_=?_}
+use Rattle.words.specs.Lists.{noTwo}
+use Rattle.words.proofs.Lists.{no-two-pass, no-two-stop, no-two-end}
 use Rattle.fast.proofs.names.none_twice.Statement.{statement}
 use Rattle.fast.proofs.names.none_twice.Tie as tie
 
 abbrev Inv-loop : tie.InvT-loop
-Inv-loop names i₀ i = (i ≤ length names) × (noneTwice names ≡ noneTwice (drop i names))
+Inv-loop names i₀ i = (i ≤ length names) × (noTwo _=?_ names ≡ noTwo _=?_ (drop i names))
 
 abbrev μ-loop : tie.MeasureT-loop
 μ-loop names i₀ i = length names - i
@@ -35,7 +36,7 @@ returns c =
     let l = c .before .before .before .before .loop in
     let s = c .before .before .before .before .before .before .args .names .now in
     let h : l .i < length s = omega arith in
-    sym (l .inv .1 ∙ twice-stop s (l .i) h (sym (c .before .is-named .ensures) ∙ c .if1 .taken))
+    sym (l .inv .1 ∙ no-two-stop _=?_ s (l .i) 0 h (sym (c .before .is-named .ensures) ∙ c .if1 .taken))
 
 add-i : tie.Need-add-i Inv-loop μ-loop
 add-i c = search needs
@@ -48,14 +49,14 @@ loop-again c =
     let l = c .before .before .before .before .loop in
     let s = c .before .before .before .before .before .before .args .names .now in
     let h : l .i < length s = omega arith in
-    (search needs, l .inv .1 ∙ twice-pass s (l .i) h (sym (c .before .is-named .ensures) ∙ c .if1 .left))
+    (search needs, l .inv .1 ∙ no-two-pass _=?_ s (l .i) 0 h (sym (c .before .is-named .ensures) ∙ c .if1 .left))
 
 returns-2 : tie.Need-returns-2 Inv-loop μ-loop
 returns-2 c =
     let l = c .before .loop in
     let s = c .before .before .before .args .names .now in
     let h : length s ≤ l .i = omega arith in
-    sym (l .inv .1 ∙ twice-end s (l .i) h)
+    sym (l .inv .1 ∙ no-two-end _=?_ s (l .i) h)
 
 pub none-twice-spec : {M : Type 1} → statement M
 none-twice-spec =

@@ -4,7 +4,7 @@ use borrow.Author.Needs.{needs}
 use lib.ListN.{length}
 use Rattle.message.specs.declared.Answer.the-variants.{NoPlaceFree}
 use Rattle.words.proofs.Lists.{length-field}
-use Rattle.message.proofs.Steps.{left, place-for-below, announces-at, announces-nowhere}
+use Rattle.message.proofs.Steps.{left, place-for-below, announcing-at, announcing-nowhere}
 use Rattle.message.proofs.eight_places.announce.Statement.{statement}
 use Rattle.message.proofs.eight_places.announce.Tie as tie
 
@@ -35,14 +35,16 @@ returns c =
     let b = c .before .before .before .before .before in
     let a = b .before .args in
     let e = sym (b .place-for .ensures) ∙ c .before .before .before .at .given .1 in
-    λ s. left _ s _ (announces-at (a .sender) (a .size) (a .dgn) (a .r .places) s _ e) (c .keeps .result)
+    λ s. left _ s _ (announcing-at (a .sender) (a .size) (a .dgn) (a .r .places) s _ e) (c .keeps .result)
     (c .before .replace .result) _ (c .keeps .ensures) (c .before .replace .ensures) refl
 
 returns-2 : tie.Need-returns-2
 returns-2 c =
     let b = c .before .before .before in
     let a = b .before .args in
-    λ s. left _ s _ (announces-nowhere (a .sender) (a .size) (a .dgn) (a .r .places) s (sym (b .place-for .ensures) ∙ c .before .enum-told .given .1)) (c .keeps2 .result) (a .r) NoPlaceFree (c .keeps2 .ensures) refl refl
+    let e = sym (b .place-for .ensures) ∙ c .before .enum-told .given .1 in
+    λ s. left _ s _ (announcing-nowhere (a .sender) (a .size) (a .dgn) (a .r .places) s e)
+    (c .keeps2 .result) (a .r) NoPlaceFree (c .keeps2 .ensures) refl refl
 
 pub announce-spec : {M : Type 1} → statement M
 announce-spec =

@@ -1,6 +1,12 @@
 -- `message::rules::is_alone` meets its contract. Assumes nothing.
+use mathlib.Core.Path.{sym, ap, _∙_}
+use mathlib.Core.Bool.{not}
+use Prim.Native.Nat.{_+_}
+use borrow.Author.Tests.{eq-eqb, ne-eqb}
 use borrow.Author.Needs.{needs}
-use Rattle.words.proofs.Tests.{tests}
+use lib.ListN.{drop, getD}
+use Rattle.places.proofs.View.{free-same, open-same}
+use Rattle.message.specs.Receiver.{freePlace, layout}
 use Rattle.message.proofs.rules.is_alone.Statement.{statement}
 use Rattle.message.proofs.rules.is_alone.Tie as tie
 
@@ -11,7 +17,10 @@ element-copy-out-p : tie.Need-element-copy-out-p
 element-copy-out-p c = search needs
 
 returns : tie.Need-returns
-returns c = search tests
+returns c =
+    let a = c .before .before .before .args in
+    let p = getD (a .t1 .places) (a .at) freePlace in
+    sym (ap not (free-same layout p (drop (a .at + 1) (a .t1 .places)) (eq-eqb _ _ (c .if1 .taken))))
 
 add-any-open-by : tie.Need-add-any-open-by
 add-any-open-by c = search needs
@@ -20,7 +29,11 @@ any-open-by-requires : tie.Need-any-open-by-requires
 any-open-by-requires c κs = search needs
 
 returns-2 : tie.Need-returns-2
-returns-2 c = rw (c .any-open-by .ensures) (search tests)
+returns-2 c =
+    let a = c .before .before .before .before .args in
+    let p = getD (a .t1 .places) (a .at) freePlace in
+    let e = open-same layout p (drop (a .at + 1) (a .t1 .places)) (ne-eqb _ _ (c .before .if1 .left)) in
+    ap not (c .any-open-by .ensures ∙ sym e)
 
 pub is-alone-spec : {M : Type 1} → statement M
 is-alone-spec =

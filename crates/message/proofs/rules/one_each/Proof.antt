@@ -1,14 +1,16 @@
 -- `message::rules::one_each` meets its contract. Assumes nothing.
 use mathlib.Core.Path.{_≡_, refl, sym, _∙_}
-use Prim.Native.Nat.{_≤_, _<_, _-_}
+use mathlib.Core.Bool.{true, false}
+use Prim.Native.Nat.{_+_, _≤_, _<_, _-_}
 use native.Mathlib.Omega.{arith}
 use borrow.Author.Tests.{not-true, not-false}
 use borrow.Author.Needs.{needs}
-use lib.ListN.{length, drop}
+use lib.ListN.{length, drop, getD}
 use Rattle.message.specs.Receiver.{freePlace, layout}
-use Rattle.places.specs.Layout.{oneEach}
-use Rattle.words.proofs.Lists.{length-field}
-use Rattle.places.proofs.View.{one-each-pass, one-each-stop, one-each-end}
+use Rattle.places.specs.Layout.{sameHolder, oneEach}
+use Rattle.words.specs.Lists.{any}
+use Rattle.words.proofs.Words.{not-flips}
+use Rattle.words.proofs.Lists.{length-field, no-two-pass, no-two-stop, no-two-end}
 use Rattle.message.proofs.rules.one_each.Statement.{statement}
 use Rattle.message.proofs.rules.one_each.Tie as tie
 
@@ -29,7 +31,9 @@ returns c =
     let l = c .before .before .before .loop in
     let ps = c .before .before .before .before .args .r .places in
     let h : l .i < length ps = omega arith in
-    sym (l .inv .2 ∙ one-each-stop layout ps (l .i) freePlace h (sym (c .before .is-alone .ensures) ∙ not-true (c .before .is-alone .result) (c .if1 .taken)))
+    let same = any (sameHolder layout (getD ps (l .i) freePlace)) (drop (l .i + 1) ps) in
+    let e : same ≡ true = not-flips same (sym (c .before .is-alone .ensures) ∙ not-true _ (c .if1 .taken)) in
+    sym (l .inv .2 ∙ no-two-stop (sameHolder layout) ps (l .i) freePlace h e)
 
 add-i : tie.Need-add-i Inv-loop μ-loop
 add-i c = search needs
@@ -42,12 +46,14 @@ loop-again c =
     let l = c .before .before .before .loop in
     let ps = c .before .before .before .before .args .r .places in
     let h : l .i < length ps = omega arith in
-    (search needs, l .inv .1, l .inv .2 ∙ one-each-pass layout ps (l .i) freePlace h (sym (c .before .is-alone .ensures) ∙ not-false (c .before .is-alone .result) (c .if1 .left)))
+    let same = any (sameHolder layout (getD ps (l .i) freePlace)) (drop (l .i + 1) ps) in
+    let e : same ≡ false = not-true same (sym (c .before .is-alone .ensures) ∙ not-false _ (c .if1 .left)) in
+    (search needs, l .inv .1, l .inv .2 ∙ no-two-pass (sameHolder layout) ps (l .i) freePlace h e)
 
 returns-2 : tie.Need-returns-2 Inv-loop μ-loop
 returns-2 c =
     let l = c .before .loop in
-    sym (l .inv .2 ∙ one-each-end layout (c .before .before .args .r .places) (l .i) (omega arith))
+    sym (l .inv .2 ∙ no-two-end (sameHolder layout) (c .before .before .args .r .places) (l .i) (omega arith))
 
 pub one-each-spec : {M : Type 1} → statement M
 one-each-spec =

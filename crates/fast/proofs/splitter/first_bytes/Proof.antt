@@ -1,8 +1,8 @@
--- `fast::split::first_bytes` meets its contract. Assumes nothing.
+-- `fast::splitter::first_bytes` meets its contract. Assumes nothing.
 use borrow.Author.Needs.{needs}
-use Rattle.fast.proofs.Cuts.{first-copied}
-use Rattle.fast.proofs.split.first_bytes.Statement.{statement}
-use Rattle.fast.proofs.split.first_bytes.Tie as tie
+use Rattle.fast.proofs.Splits.{first-copied}
+use Rattle.fast.proofs.splitter.first_bytes.Statement.{statement}
+use Rattle.fast.proofs.splitter.first_bytes.Tie as tie
 
 at-most-requires : tie.Need-at-most-requires
 at-most-requires c κs = search needs

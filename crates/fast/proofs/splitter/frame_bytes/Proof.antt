@@ -1,9 +1,9 @@
--- `fast::split::frame_bytes` meets its contract. Assumes nothing.
+-- `fast::splitter::frame_bytes` meets its contract. Assumes nothing.
 use borrow.Author.Tests.{eq-eqb, ne-eqb}
 use borrow.Author.Needs.{needs}
 use Rattle.fast.specs.Splitter.{frameBytesOf}
-use Rattle.fast.proofs.split.frame_bytes.Statement.{statement}
-use Rattle.fast.proofs.split.frame_bytes.Tie as tie
+use Rattle.fast.proofs.splitter.frame_bytes.Statement.{statement}
+use Rattle.fast.proofs.splitter.frame_bytes.Tie as tie
 
 first-bytes-requires : tie.Need-first-bytes-requires
 first-bytes-requires c κs = search needs

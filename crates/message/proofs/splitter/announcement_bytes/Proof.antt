@@ -1,9 +1,9 @@
--- `message::split::announcement_bytes` meets its contract. Assumes nothing.
+-- `message::splitter::announcement_bytes` meets its contract. Assumes nothing.
 use borrow.Author.Needs.{needs}
 use Rattle.frame.specs.Bytes.{bytesOf}
 use Rattle.message.specs.Splitter.{announcementBytes}
-use Rattle.message.proofs.split.announcement_bytes.Statement.{statement}
-use Rattle.message.proofs.split.announcement_bytes.Tie as tie
+use Rattle.message.proofs.splitter.announcement_bytes.Statement.{statement}
+use Rattle.message.proofs.splitter.announcement_bytes.Tie as tie
 
 cast-t5 : tie.Need-cast-t5
 cast-t5 c = search needs

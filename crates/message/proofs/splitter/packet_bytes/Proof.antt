@@ -1,9 +1,9 @@
--- `message::split::packet_bytes` meets its contract. Assumes nothing.
+-- `message::splitter::packet_bytes` meets its contract. Assumes nothing.
 use mathlib.Core.Path.{_∙_}
 use borrow.Author.Needs.{needs}
 use Rattle.message.proofs.Packets.{packet-copied}
-use Rattle.message.proofs.split.packet_bytes.Statement.{statement}
-use Rattle.message.proofs.split.packet_bytes.Tie as tie
+use Rattle.message.proofs.splitter.packet_bytes.Statement.{statement}
+use Rattle.message.proofs.splitter.packet_bytes.Tie as tie
 
 sub-from : tie.Need-sub-from
 sub-from c = search needs

@@ -1,10 +1,10 @@
--- `message::split::cut` meets its contract. Assumes nothing.
+-- `message::splitter::numbered` meets its contract. Assumes nothing.
 use mathlib.Core.Path.{refl}
 use borrow.Author.Needs.{needs}
-use Rattle.message.specs.declared.Cutting.the-variants.{NoSuchPacket}
-use Rattle.message.proofs.Packets.{cut-refused, numbered-zero, numbered-above, numbered-given}
-use Rattle.message.proofs.split.cut.Statement.{statement}
-use Rattle.message.proofs.split.cut.Tie as tie
+use Rattle.message.specs.declared.Splitting.the-variants.{NoSuchPacket}
+use Rattle.message.proofs.Packets.{split-refused, numbered-zero, numbered-above, numbered-given}
+use Rattle.message.proofs.splitter.numbered.Statement.{statement}
+use Rattle.message.proofs.splitter.numbered.Tie as tie
 
 refused-requires : tie.Need-refused-requires
 refused-requires c κs = search needs
@@ -12,7 +12,8 @@ refused-requires c κs = search needs
 returns : tie.Need-returns
 returns c =
     let a = c .before .before .before .args in
-    cut-refused {a = NoSuchPacket} (numbered-zero (a .message .now) (a .number) (a .count) (c .before .if1 .taken)) (c .refused .ensures)
+    split-refused {a = NoSuchPacket} (numbered-zero (a .message .now) (a .number) (a .count) (c .before .if1 .taken))
+    (c .refused .ensures)
 
 refused-requires-2 : tie.Need-refused-requires-2
 refused-requires-2 c κs = search needs
@@ -20,7 +21,9 @@ refused-requires-2 c κs = search needs
 returns-2 : tie.Need-returns-2
 returns-2 c =
     let a = c .before .before .before .before .args in
-    cut-refused {a = NoSuchPacket} (numbered-above (a .message .now) (a .number) (a .count) (c .before .before .if1 .left) (c .before .if2 .taken)) (c .refused2 .ensures)
+    split-refused {a = NoSuchPacket}
+    (numbered-above (a .message .now) (a .number) (a .count) (c .before .before .if1 .left) (c .before .if2 .taken))
+    (c .refused2 .ensures)
 
 cast-packet-bytes : tie.Need-cast-packet-bytes
 cast-packet-bytes c = search needs
@@ -33,8 +36,8 @@ returns-3 c =
     let a = c .before .before .before .before .args in
     rw (numbered-given (a .message .now) (a .number) (a .count) (c .before .before .if1 .left) (c .before .if2 .left)) (record { number = refl; bytes = c .packet-bytes .ensures })
 
-pub cut-spec : {M : Type 1} → statement M
-cut-spec =
+pub numbered-spec : {M : Type 1} → statement M
+numbered-spec =
     tie.close
     (tie.spec
     refused-requires

@@ -4,8 +4,8 @@ ghost use Prim.Native.Nat.{_<_, _≤_};
 ghost use lib.ListN.{length};
 ghost use Rattle.fast.specs.FastPacket.{longest, lastFrame, greatestSequence};
 ghost use Rattle.fast.specs.Splitter.{refusalIn, frameBytesOf, firstBytesOf, laterBytesOf};
-ghost use Rattle.fast.specs.Promises.{cuttingNumber};
-use crate::Cutting;
+ghost use Rattle.fast.specs.Promises.{splittingNumber};
+use crate::Splitting;
 use crate::limits::FIRST_BYTES;
 use crate::limits::GREATEST_SEQUENCE;
 use crate::limits::LATER_BYTES;
@@ -14,27 +14,28 @@ use crate::storage;
 use frame::standard;
 
 // Whether a message of this size has such a frame, or why not.
-pub fn splittable(size: usize, sequence: u8, number: u32) -> Cutting
-    ensures { λ r. ⌜ cuttingNumber r ≡ refusalIn size sequence number ⌝ }
+pub fn splittable(size: usize, sequence: u8, number: u32) -> Splitting
+    ensures { λ r. ⌜ splittingNumber r ≡ refusalIn size sequence number ⌝ }
 {
     if GREATEST_SEQUENCE < sequence {
-        return Cutting::SequenceTooLarge;
+        return Splitting::NoCode;
     }
     if size < 1 {
-        return Cutting::LengthNotSplit;
+        return Splitting::LengthNotSplit;
     }
     if (LONGEST as usize) < size {
-        return Cutting::LengthNotSplit;
+        return Splitting::LengthNotSplit;
     }
     if ((size / 7) as u32) < number {
-        return Cutting::NoSuchFrame;
+        return Splitting::NoSuchFrame;
     }
-    Cutting::Bytes
+    Splitting::Bytes
 }
 
 // A frame's eight bytes.
 pub fn frame_bytes(message: &[u8], sequence: u8, number: u8) -> [u8; 8]
-    requires { ⌜ (length (now message) ≤ longest) × (sequence ≤ greatestSequence) × (number ≤ lastFrame (length (now message))) ⌝ }
+    requires { ⌜ (length (now message) ≤ longest) × (sequence ≤ greatestSequence)
+        × (number ≤ lastFrame (length (now message))) ⌝ }
     ensures { λ r. ⌜ r ≡ frameBytesOf (now (message .entry)) sequence number ⌝ }
 {
     if number == 0 {
@@ -58,7 +59,8 @@ fn first_bytes(message: &[u8], sequence: u8) -> [u8; 8]
 
 // Any other frame: the sequence number and its own, its part of the message, and FFh for what is left.
 fn later_bytes(message: &[u8], sequence: u8, number: u8) -> [u8; 8]
-    requires { ⌜ (length (now message) ≤ longest) × (sequence ≤ greatestSequence) × (1 ≤ number) × (number ≤ lastFrame (length (now message))) ⌝ }
+    requires { ⌜ (length (now message) ≤ longest) × (sequence ≤ greatestSequence) × (1 ≤ number)
+        × (number ≤ lastFrame (length (now message))) ⌝ }
     ensures { λ r. ⌜ r ≡ laterBytesOf (now (message .entry)) sequence number ⌝ }
 {
     let from = FIRST_BYTES + LATER_BYTES * (number as usize - 1);

@@ -1,8 +1,8 @@
--- `fast::split::later_bytes` meets its contract. Assumes nothing.
+-- `fast::splitter::later_bytes` meets its contract. Assumes nothing.
 use borrow.Author.Needs.{needs}
-use Rattle.fast.proofs.Cuts.{later-copied}
-use Rattle.fast.proofs.split.later_bytes.Statement.{statement}
-use Rattle.fast.proofs.split.later_bytes.Tie as tie
+use Rattle.fast.proofs.Splits.{later-copied}
+use Rattle.fast.proofs.splitter.later_bytes.Statement.{statement}
+use Rattle.fast.proofs.splitter.later_bytes.Tie as tie
 
 sub-from : tie.Need-sub-from
 sub-from c = search needs

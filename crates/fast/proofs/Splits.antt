@@ -15,12 +15,13 @@ use Rattle.words.specs.Words.{if_then_else_, _≤?_, _<?_, gives}
 use Rattle.frame.specs.Frame.{frameBytes}
 use Rattle.frame.specs.Standard.{unused}
 use Rattle.words.proofs.Words.{by-test}
-use Rattle.fast.specs.FastPacket.{firstByteOf, greatestSequence, firstBytes, laterBytes, longest, offsetOf, lastFrame, neededFirst, needed}
+use Rattle.fast.specs.FastPacket.{firstByteOf, greatestSequence, firstBytes, laterBytes, longest, offsetOf}
+use Rattle.fast.specs.FastPacket.{lastFrame, neededFirst, needed}
 use Rattle.fast.specs.Splitter.{refusalIn, firstBytesOf, laterBytesOf, frameBytesOf, frameOf}
-use Rattle.fast.specs.Promises.{cuttingNumber, FrameOf}
-use Rattle.fast.specs.declared.Cutting.{Cutting}
-use Rattle.fast.specs.declared.Cutting.the-variants.{Bytes, SequenceTooLarge, LengthNotSplit, NoSuchFrame}
-use Rattle.fast.proofs.Cutting.{the-type}
+use Rattle.fast.specs.Promises.{splittingNumber, FrameOf}
+use Rattle.fast.specs.declared.Splitting.{Splitting}
+use Rattle.fast.specs.declared.Splitting.the-variants.{Bytes, NoCode, LengthNotSplit, NoSuchFrame}
+use Rattle.fast.proofs.Splitting.{the-type}
 
 -- parts of a filling
 drop-filling : (n k f : ℕ) → drop n (replicate k f) ≡ replicate (k - n) f
@@ -109,11 +110,11 @@ module _ (message : List ℕ) (sequence number : ℕ) where
   frame-given e = rw e
 
   -- the answers beside the bytes, each with zeros
-  pub cut-refused : (a : Cutting) → OneOf (1 ∷ 2 ∷ 3 ∷ []) (tagOf the-type a)
-      → cuttingNumber a ≡ refusalIn (length message) sequence number
+  pub split-refused : (a : Splitting) → OneOf (1 ∷ 2 ∷ 3 ∷ []) (tagOf the-type a)
+      → splittingNumber a ≡ refusalIn (length message) sequence number
       → FrameOf message sequence number (record { answer = a; bytes = replicate frameBytes 0 })
   unfolding frameOf
-  cut-refused Bytes h e = absurd (miss (1 ∷ 2 ∷ 3 ∷ []) 0 tt h)
-  cut-refused SequenceTooLarge h e = rw (← e) (record { number = refl; bytes = refl })
-  cut-refused LengthNotSplit h e = rw (← e) (record { number = refl; bytes = refl })
-  cut-refused NoSuchFrame h e = rw (← e) (record { number = refl; bytes = refl })
+  split-refused Bytes h e = absurd (miss (1 ∷ 2 ∷ 3 ∷ []) 0 tt h)
+  split-refused NoCode h e = rw (← e) (record { number = refl; bytes = refl })
+  split-refused LengthNotSplit h e = rw (← e) (record { number = refl; bytes = refl })
+  split-refused NoSuchFrame h e = rw (← e) (record { number = refl; bytes = refl })

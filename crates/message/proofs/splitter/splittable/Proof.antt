@@ -1,9 +1,9 @@
--- `message::split::splittable` meets its contract. Assumes nothing.
+-- `message::splitter::splittable` meets its contract. Assumes nothing.
 use borrow.Author.Needs.{needs}
 use Rattle.message.specs.Splitter.{splits}
 use Rattle.words.proofs.Tests.{tests}
-use Rattle.message.proofs.split.splittable.Statement.{statement}
-use Rattle.message.proofs.split.splittable.Tie as tie
+use Rattle.message.proofs.splitter.splittable.Statement.{statement}
+use Rattle.message.proofs.splitter.splittable.Tie as tie
 
 returns : tie.Need-returns
 unfolding splits

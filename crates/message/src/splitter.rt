@@ -5,10 +5,10 @@ ghost use lib.ListN.{length, replicate};
 ghost use Rattle.frame.specs.Frame.{frameBytes};
 ghost use Rattle.message.specs.LongMessage.{longest, packetsOf};
 ghost use Rattle.message.specs.Splitter.{splits, announcementBytes, packetBytesOf, numbered};
-ghost use Rattle.message.specs.Promises.{CutBy};
+ghost use Rattle.message.specs.Promises.{SplitBy};
 ghost use Rattle.message.specs.Private.{toldSplits};
-use crate::Cut;
-use crate::Cutting;
+use crate::Split;
+use crate::Splitting;
 use crate::Unsplittable;
 use crate::limits::LONGEST;
 use crate::limits::MOST_PACKETS;
@@ -28,7 +28,7 @@ pub fn splittable(size: usize, dgn: u32) -> Splits
     ensures { λ r. ⌜ toldSplits r ≡ splits size dgn ⌝ }
 {
     if standard::GREATEST_DGN < dgn {
-        return Splits::Refused(Unsplittable::DgnTooLarge);
+        return Splits::Refused(Unsplittable::NoCode);
     }
     if size < SHORTEST as usize {
         return Splits::Refused(Unsplittable::LengthNotSplit);
@@ -61,28 +61,28 @@ pub fn announcement_bytes(size: u16, dgn: u32, count: u8) -> [u8; 8]
 }
 
 // A refusal of a packet, with zeros beside it.
-pub fn refused(answer: Cutting) -> Cut
+pub fn refused(answer: Splitting) -> Split
     ensures { λ r. ⌜ (r .answer ≡ answer) × (r .bytes ≡ replicate frameBytes 0) ⌝ }
 {
-    Cut {
+    Split {
         answer,
         bytes: [0u8; 8],
     }
 }
 
 // Packet `number` of a message of `count` packets.
-pub fn cut(message: &[u8], number: u32, count: u8) -> Cut
+pub fn numbered(message: &[u8], number: u32, count: u8) -> Split
     requires { ⌜ (count ≡ packetsOf (length (now message))) × (length (now message) ≤ longest) ⌝ }
-    ensures { λ r. ⌜ CutBy (numbered (now (message .entry)) number count) r ⌝ }
+    ensures { λ r. ⌜ SplitBy (numbered (now (message .entry)) number count) r ⌝ }
 {
     if number == 0 {
-        return refused(Cutting::NoSuchPacket);
+        return refused(Splitting::NoSuchPacket);
     }
     if (count as u32) < number {
-        return refused(Cutting::NoSuchPacket);
+        return refused(Splitting::NoSuchPacket);
     }
-    Cut {
-        answer: Cutting::Bytes,
+    Split {
+        answer: Splitting::Bytes,
         bytes: packet_bytes(message, number as u8),
     }
 }

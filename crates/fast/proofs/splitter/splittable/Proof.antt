@@ -1,9 +1,9 @@
--- `fast::split::splittable` meets its contract. Assumes nothing.
+-- `fast::splitter::splittable` meets its contract. Assumes nothing.
 use borrow.Author.Needs.{needs}
 use Rattle.fast.specs.Splitter.{refusalIn}
 use Rattle.words.proofs.Tests.{tests}
-use Rattle.fast.proofs.split.splittable.Statement.{statement}
-use Rattle.fast.proofs.split.splittable.Tie as tie
+use Rattle.fast.proofs.splitter.splittable.Statement.{statement}
+use Rattle.fast.proofs.splitter.splittable.Tie as tie
 
 returns : tie.Need-returns
 unfolding refusalIn
