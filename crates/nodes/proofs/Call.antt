@@ -13,23 +13,23 @@ use Rattle.frame.specs.Standard.{greatestAddress}
 use Rattle.frame.specs.declared.Parts.{Parts}
 use Rattle.nodes.specs.Table.{addresses, absent, replacedIn, keepsRules}
 use Rattle.nodes.specs.Call.{Asked, nothing, claims, pauses, askedBy, askedOf, pauseAsked, claimOutcome, answerOf, replaced, nobody, holderOf, lookedUpOf, addressFrom, foundOf, noRival, rivalOf, challengerOf}
-use Rattle.nodes.specs.Promises.{toldHeard, toldPausing}
+use Rattle.nodes.specs.Promises.{toldHearing, toldPausing}
 use Rattle.nodes.specs.Inside.{turnsOf, changeOf, unaskedAs, JudgedAs, unpausedAs, JudgedPauseAs}
 use Rattle.nodes.specs.declared.Node.{Node}
 use Rattle.nodes.specs.declared.Claim.{Claim}
 use Rattle.nodes.specs.declared.Change.the-variants.{Claims, Pauses}
 use Rattle.nodes.specs.declared.Judged.{Judged}
 use Rattle.nodes.specs.declared.JudgedPause.{JudgedPause}
-use Rattle.nodes.specs.declared.Heard.{Heard}
-use Rattle.nodes.specs.declared.Heard.the-variants.{NothingToDo}
+use Rattle.nodes.specs.declared.Hearing.{Hearing}
+use Rattle.nodes.specs.declared.Hearing.the-variants.{NothingToDo}
 use Rattle.nodes.specs.declared.Pausing.{Pausing}
 
 module _ (records : List Node) (told : Told Asked) (r : Judged) where
-  pub judged-refused : (n : ℕ) (h : Heard) → told ≡ refused n → toldHeard h ≡ refused n → r ≡ unaskedAs h
+  pub judged-refused : (n : ℕ) (h : Hearing) → told ≡ refused n → toldHearing h ≡ refused n → r ≡ unaskedAs h
       → JudgedAs records told r
   judged-refused n h t e u =
       record {
-        answer = ap (λ (j : Judged). toldHeard (j .answer)) u ∙ e ∙ sym (ap (answerOf records) t);
+        answer = ap (λ (j : Judged). toldHearing (j .answer)) u ∙ e ∙ sym (ap (answerOf records) t);
         turns = ap (λ (j : Judged). j .turns) u ∙ sym (ap turnsOf t);
         change = ap (λ (j : Judged). j .change) u ∙ sym (ap changeOf t);
       }
@@ -37,13 +37,13 @@ module _ (records : List Node) (told : Told Asked) (r : Judged) where
   pub judged-nothing : told ≡ gives nothing → r ≡ unaskedAs NothingToDo → JudgedAs records told r
   judged-nothing t u =
       record {
-        answer = ap (λ (j : Judged). toldHeard (j .answer)) u ∙ sym (ap (answerOf records) t);
+        answer = ap (λ (j : Judged). toldHearing (j .answer)) u ∙ sym (ap (answerOf records) t);
         turns = ap (λ (j : Judged). j .turns) u ∙ sym (ap turnsOf t);
         change = ap (λ (j : Judged). j .change) u ∙ sym (ap changeOf t);
       }
 
   pub judged-claim : (claim : Claim) → told ≡ gives (claims claim)
-      → toldHeard (r .answer) ≡ gives (claimOutcome records claim)
+      → toldHearing (r .answer) ≡ gives (claimOutcome records claim)
       → r .turns ≡ addresses → r .change ≡ Claims claim → JudgedAs records told r
   judged-claim claim t a n e =
       record {

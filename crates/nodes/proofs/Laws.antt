@@ -17,12 +17,12 @@ use Rattle.words.proofs.Words.{refused-gives, gives-same, by-test}
 use Rattle.frame.proofs.Laws.{badBack, bad-back, priority-ignored as frame-priority}
 use Rattle.nodes.specs.Table.{addresses, givesWay, mayChallenge, claimedAt, pausedAt, eachFrom, keepsRules}
 use Rattle.nodes.specs.Call.{Asked, nothing, claims, pauses, askedBy, askedOf, pauseAsked, tableOr, Outcome, nothingToDo, taken, challenges, heldByLower, silent, replaced, sourceRecord, claimOutcome, answerOf, leftBy, Holder, nobody, holder, lookedUpOf, Whereabouts, nowhere, there, foundOf, Rival, noRival, rival, challengerOf}
-use Rattle.nodes.specs.Promises.{toldHeard, toldPausing, toldLookedUp, toldFoundAddress, toldFoundChallenger}
-use Rattle.nodes.specs.Laws.{ToldHeardSame, ToldPausingSame, ToldLookedUpSame, ToldFoundAddressSame, ToldFoundChallengerSame, EmptyOnly, HearOnly, PauseOnly, LookUpOnly, FindAddressOnly, FindChallengerOnly, HeardRefusalOnly, PausingRefusalOnly, LookedUpRefusalOnly, FoundAddressRefusalOnly, FoundChallengerRefusalOnly, HearRefusedKeeps, PauseRefusedKeeps, HearNothingKeeps, LowestWins, PauseLowestWins, PriorityIgnored, PastUntouched, PausePastUntouched, PastUnread, LengthKept, PauseLengthKept, RulesRead, RulesKept, PauseRulesKept}
+use Rattle.nodes.specs.Promises.{toldHearing, toldPausing, toldLookedUp, toldFoundAddress, toldFoundChallenger}
+use Rattle.nodes.specs.Laws.{ToldHearingSame, ToldPausingSame, ToldLookedUpSame, ToldFoundAddressSame, ToldFoundChallengerSame, EmptyOnly, HearOnly, PauseOnly, LookUpOnly, FindAddressOnly, FindChallengerOnly, HearingRefusalOnly, PausingRefusalOnly, LookedUpRefusalOnly, FoundAddressRefusalOnly, FoundChallengerRefusalOnly, HearRefusedKeeps, PauseRefusedKeeps, HearNothingKeeps, LowestWins, PauseLowestWins, PriorityIgnored, PastUntouched, PausePastUntouched, PastUnread, LengthKept, PauseLengthKept, RulesRead, RulesKept, PauseRulesKept}
 use Rattle.nodes.specs.declared.Node.{Node}
 use Rattle.nodes.specs.declared.Claim.{Claim}
-use Rattle.nodes.specs.declared.Heard.{Heard}
-use Rattle.nodes.specs.declared.Heard.the-variants as Heard
+use Rattle.nodes.specs.declared.Hearing.{Hearing}
+use Rattle.nodes.specs.declared.Hearing.the-variants as Hearing
 use Rattle.nodes.specs.declared.Pausing.{Pausing}
 use Rattle.nodes.specs.declared.Pausing.the-variants as Pausing
 use Rattle.nodes.specs.declared.LookedUp.{LookedUp}
@@ -46,32 +46,32 @@ pub use Rattle.nodes.proofs.Challenge.{challenge-waits, challenge-takes
 
 -- an answer is read back from what it tells
 
-heardBack : Told Outcome → Heard
-heardBack (gives nothingToDo) = Heard.NothingToDo
-heardBack (gives (taken address)) = Heard.Taken address
-heardBack (gives (heldByLower address)) = Heard.HeldByLower address
-heardBack (gives silent) = Heard.Silent
-heardBack (gives (challenges address)) = Heard.Challenges address
-heardBack (gives (replaced count)) = Heard.NothingToDo  -- no frame is told so
-heardBack (refused n) = if n =? 1 then Heard.TableTooShort else if n =? 2 then Heard.BrokenTable else Heard.BadFrame
+hearingBack : Told Outcome → Hearing
+hearingBack (gives nothingToDo) = Hearing.NothingToDo
+hearingBack (gives (taken address)) = Hearing.Taken address
+hearingBack (gives (heldByLower address)) = Hearing.HeldByLower address
+hearingBack (gives silent) = Hearing.Silent
+hearingBack (gives (challenges address)) = Hearing.Challenges address
+hearingBack (gives (replaced count)) = Hearing.NothingToDo  -- no frame is told so
+hearingBack (refused n) = if n =? 1 then Hearing.TableTooShort else if n =? 2 then Hearing.BrokenState else Hearing.BadFrame
     (badBack n)
 
-heard-back : (r : Heard) → heardBack (toldHeard r) ≡ r
-unfolding heardBack
-heard-back (Heard.Taken address) = refl
-heard-back (Heard.Challenges address) = refl
-heard-back (Heard.HeldByLower address) = refl
-heard-back Heard.Silent = refl
-heard-back Heard.NothingToDo = refl
-heard-back Heard.TableTooShort = refl
-heard-back Heard.BrokenTable = refl
-heard-back (Heard.BadFrame Bad.IdentifierTooLarge) = ap Heard.BadFrame (bad-back Bad.IdentifierTooLarge)
-heard-back (Heard.BadFrame Bad.NotEightBytes) = ap Heard.BadFrame (bad-back Bad.NotEightBytes)
-heard-back (Heard.BadFrame Bad.ReservedBitSet) = ap Heard.BadFrame (bad-back Bad.ReservedBitSet)
-heard-back (Heard.BadFrame Bad.SourceNotAllowed) = ap Heard.BadFrame (bad-back Bad.SourceNotAllowed)
+hearing-back : (r : Hearing) → hearingBack (toldHearing r) ≡ r
+unfolding hearingBack
+hearing-back (Hearing.Taken address) = refl
+hearing-back (Hearing.Challenges address) = refl
+hearing-back (Hearing.HeldByLower address) = refl
+hearing-back Hearing.Silent = refl
+hearing-back Hearing.NothingToDo = refl
+hearing-back Hearing.TableTooShort = refl
+hearing-back Hearing.BrokenState = refl
+hearing-back (Hearing.BadFrame Bad.IdentifierTooLarge) = ap Hearing.BadFrame (bad-back Bad.IdentifierTooLarge)
+hearing-back (Hearing.BadFrame Bad.NotEightBytes) = ap Hearing.BadFrame (bad-back Bad.NotEightBytes)
+hearing-back (Hearing.BadFrame Bad.ReservedBitSet) = ap Hearing.BadFrame (bad-back Bad.ReservedBitSet)
+hearing-back (Hearing.BadFrame Bad.SourceNotAllowed) = ap Hearing.BadFrame (bad-back Bad.SourceNotAllowed)
 
-pub told-heard-same : ToldHeardSame
-told-heard-same r s e = sym (heard-back r) ∙ ap heardBack e ∙ heard-back s
+pub told-hearing-same : ToldHearingSame
+told-hearing-same r s e = sym (hearing-back r) ∙ ap hearingBack e ∙ hearing-back s
 
 pausingBack : Told Outcome → Pausing
 pausingBack (gives (replaced count)) = Pausing.Replaced count
@@ -80,13 +80,13 @@ pausingBack (gives (taken address)) = Pausing.Replaced 0
 pausingBack (gives (challenges address)) = Pausing.Replaced 0
 pausingBack (gives (heldByLower address)) = Pausing.Replaced 0
 pausingBack (gives silent) = Pausing.Replaced 0
-pausingBack (refused n) = if n =? 1 then Pausing.TableTooShort else Pausing.BrokenTable
+pausingBack (refused n) = if n =? 1 then Pausing.TableTooShort else Pausing.BrokenState
 
 pausing-back : (r : Pausing) → pausingBack (toldPausing r) ≡ r
 unfolding pausingBack
 pausing-back (Pausing.Replaced count) = refl
 pausing-back Pausing.TableTooShort = refl
-pausing-back Pausing.BrokenTable = refl
+pausing-back Pausing.BrokenState = refl
 
 pub told-pausing-same : ToldPausingSame
 told-pausing-same r s e = sym (pausing-back r) ∙ ap pausingBack e ∙ pausing-back s
@@ -94,14 +94,14 @@ told-pausing-same r s e = sym (pausing-back r) ∙ ap pausingBack e ∙ pausing-
 lookedBack : Told Holder → LookedUp
 lookedBack (gives nobody) = LookedUp.Absent
 lookedBack (gives (holder name)) = LookedUp.Present name
-lookedBack (refused n) = if n =? 1 then LookedUp.TableTooShort else LookedUp.BrokenTable
+lookedBack (refused n) = if n =? 1 then LookedUp.TableTooShort else LookedUp.BrokenState
 
 looked-back : (r : LookedUp) → lookedBack (toldLookedUp r) ≡ r
 unfolding lookedBack
 looked-back (LookedUp.Present name) = refl
 looked-back LookedUp.Absent = refl
 looked-back LookedUp.TableTooShort = refl
-looked-back LookedUp.BrokenTable = refl
+looked-back LookedUp.BrokenState = refl
 
 pub told-looked-up-same : ToldLookedUpSame
 told-looked-up-same r s e = sym (looked-back r) ∙ ap lookedBack e ∙ looked-back s
@@ -109,14 +109,14 @@ told-looked-up-same r s e = sym (looked-back r) ∙ ap lookedBack e ∙ looked-b
 foundBack : Told Whereabouts → FoundAddress
 foundBack (gives nowhere) = FoundAddress.NoAddress
 foundBack (gives (there address)) = FoundAddress.At address
-foundBack (refused n) = if n =? 1 then FoundAddress.TableTooShort else FoundAddress.BrokenTable
+foundBack (refused n) = if n =? 1 then FoundAddress.TableTooShort else FoundAddress.BrokenState
 
 found-back : (r : FoundAddress) → foundBack (toldFoundAddress r) ≡ r
 unfolding foundBack
 found-back (FoundAddress.At address) = refl
 found-back FoundAddress.NoAddress = refl
 found-back FoundAddress.TableTooShort = refl
-found-back FoundAddress.BrokenTable = refl
+found-back FoundAddress.BrokenState = refl
 
 pub told-found-address-same : ToldFoundAddressSame
 told-found-address-same r s e = sym (found-back r) ∙ ap foundBack e ∙ found-back s
@@ -124,14 +124,14 @@ told-found-address-same r s e = sym (found-back r) ∙ ap foundBack e ∙ found-
 challengerBack : Told Rival → FoundChallenger
 challengerBack (gives noRival) = FoundChallenger.NoChallenger
 challengerBack (gives (rival name wait)) = FoundChallenger.Waits name wait
-challengerBack (refused n) = if n =? 1 then FoundChallenger.TableTooShort else FoundChallenger.BrokenTable
+challengerBack (refused n) = if n =? 1 then FoundChallenger.TableTooShort else FoundChallenger.BrokenState
 
 challenger-back : (r : FoundChallenger) → challengerBack (toldFoundChallenger r) ≡ r
 unfolding challengerBack
 challenger-back (FoundChallenger.Waits name wait) = refl
 challenger-back FoundChallenger.NoChallenger = refl
 challenger-back FoundChallenger.TableTooShort = refl
-challenger-back FoundChallenger.BrokenTable = refl
+challenger-back FoundChallenger.BrokenState = refl
 
 pub told-found-challenger-same : ToldFoundChallengerSame
 told-found-challenger-same r s e = sym (challenger-back r) ∙ ap challengerBack e ∙ challenger-back s
@@ -143,7 +143,7 @@ empty-only r s p q = p .answer ∙ sym (q .answer)
 
 pub hear-only : HearOnly
 hear-only table id bytes r s after after′ p q = (
-  told-heard-same r s (p .answer ∙ sym (q .answer)),
+  told-hearing-same r s (p .answer ∙ sym (q .answer)),
   p .table-after
       ∙ sym (q .table-after),
 )
@@ -161,8 +161,8 @@ find-address-only table name r s p q = told-found-address-same r s (p .answer �
 pub find-challenger-only : FindChallengerOnly
 find-challenger-only table address r s p q = told-found-challenger-same r s (p .answer ∙ sym (q .answer))
 
-pub heard-refusal-only : HeardRefusalOnly
-heard-refusal-only answer r s p q = p .number ∙ sym (q .number)
+pub hearing-refusal-only : HearingRefusalOnly
+hearing-refusal-only answer r s p q = p .number ∙ sym (q .number)
 
 pub pausing-refusal-only : PausingRefusalOnly
 pausing-refusal-only answer r s p q = p .number ∙ sym (q .number)

@@ -18,12 +18,12 @@ use Rattle.frame.specs.declared.BadFrame.the-variants as Bad
 use Rattle.words.proofs.Words.{refused-gives, refused-same, by-test}
 use Rattle.nodes.specs.Table.{addresses, absent, replacedIn}
 use Rattle.nodes.specs.Call.{Asked, nothing, claims, pauses, askedBy, claimOutcome, outcomeOf, answerOf, leftBy, heardOf, tableAfter, tablePaused}
-use Rattle.nodes.specs.Promises.{toldHeard}
+use Rattle.nodes.specs.Promises.{toldHearing}
 use Rattle.nodes.specs.Runs.{Call, hearing, pausing, Leads, no-call, a-call, saidIn, saidBy, recordAfter, recordAfterAll, Sound, RunByRecord, EveryRunRuns}
 use Rattle.nodes.specs.declared.Node.{Node}
 use Rattle.nodes.specs.declared.Claim.{Claim}
-use Rattle.nodes.specs.declared.Heard.{Heard}
-use Rattle.nodes.specs.declared.Heard.the-variants as Heard
+use Rattle.nodes.specs.declared.Hearing.{Hearing}
+use Rattle.nodes.specs.declared.Hearing.the-variants as Hearing
 use Rattle.nodes.specs.declared.Pausing.the-variants as Pausing
 use Rattle.nodes.proofs.Call.{asked-bad, asked-sound, pause-sound}
 use Rattle.nodes.proofs.Kept.{claimed-length, claimed-past, claimed-keeps, claimed-at, paused-length, paused-past, paused-keeps, paused-at}
@@ -115,11 +115,11 @@ bad-of id size n e =
     (λ w. (Bad.SourceNotAllowed, refused-same (rw (t, u, v, w) at e))))))
 
 outcome-told : (records : List Node) (c : Claim) → Came records c
-    → (r : Heard) × (toldHeard r ≡ gives (claimOutcome records c))
-outcome-told records c (was-silent h o) = (Heard.Silent, ap gives (sym o))
-outcome-told records c (was-taken h g o) = (Heard.Taken (c .source), ap gives (sym o))
-outcome-told records c (was-challenge h g m o) = (Heard.Challenges (c .source), ap gives (sym o))
-outcome-told records c (was-held h g m o) = (Heard.HeldByLower (c .source), ap gives (sym o))
+    → (r : Hearing) × (toldHearing r ≡ gives (claimOutcome records c))
+outcome-told records c (was-silent h o) = (Hearing.Silent, ap gives (sym o))
+outcome-told records c (was-taken h g o) = (Hearing.Taken (c .source), ap gives (sym o))
+outcome-told records c (was-challenge h g m o) = (Hearing.Challenges (c .source), ap gives (sym o))
+outcome-told records c (was-held h g m o) = (Hearing.HeldByLower (c .source), ap gives (sym o))
 
 module _ (table : List Node) (s : Sound table) where
   abbrev records : List Node
@@ -127,21 +127,21 @@ module _ (table : List Node) (s : Sound table) where
 
   -- no frame says that time passes
   claim-or-not : (p : Parts) (bytes : List ℕ)
-      → (r : Heard) × (toldHeard r ≡ gives (outcomeOf records (askedBy p bytes)))
+      → (r : Hearing) × (toldHearing r ≡ gives (outcomeOf records (askedBy p bytes)))
   claim-or-not p bytes = by (askedBy p bytes) refl
     where
-      by : (a : Asked) → askedBy p bytes ≡ a → (r : Heard) × (toldHeard r ≡ gives (outcomeOf records (askedBy p bytes)))
-      by nothing e = (Heard.NothingToDo, ap (λ (x : Asked). gives (outcomeOf records x)) (sym e))
+      by : (a : Asked) → askedBy p bytes ≡ a → (r : Hearing) × (toldHearing r ≡ gives (outcomeOf records (askedBy p bytes)))
+      by nothing e = (Hearing.NothingToDo, ap (λ (x : Asked). gives (outcomeOf records x)) (sym e))
       by (claims c) e =
           let o = outcome-told records c (came records c) in
           (o .0, o .1 ∙ ap (λ (x : Asked). gives (outcomeOf records x)) (sym e))
       by (pauses ms) e = absurd (never-pauses p bytes ms e)
 
   heard-some : (id : ℕ) (bytes : List ℕ) (t : Told Parts) → checkedOf id (length bytes) ≡ t
-      → (r : Heard) × (toldHeard r ≡ heardOf table id bytes)
+      → (r : Hearing) × (toldHearing r ≡ heardOf table id bytes)
   heard-some id bytes (refused n) e =
       let b = bad-of id (length bytes) n e in (
-        Heard.BadFrame (b .0),
+        Hearing.BadFrame (b .0),
         ap refused (b .1)
             ∙ sym (ap (answerOf records) (asked-bad _ _ id bytes (s .enough) (s .rules) n e)),
       )

@@ -6,13 +6,13 @@ use lib.ListN.{length, take}
 use Rattle.words.specs.Words.{if_then_else_, _<?_, Told, refused, gives}
 use Rattle.nodes.specs.Table.{addresses, emptyTable, claimedAt, pausedAt}
 use Rattle.nodes.specs.Call.{Asked, nothing, claims, pauses, answerOf}
-use Rattle.nodes.specs.Promises.{toldHeard, toldPausing}
+use Rattle.nodes.specs.Promises.{toldHearing, toldPausing}
 use Rattle.nodes.specs.declared.Node.{Node}
 use Rattle.nodes.specs.declared.Change.{Change}
 use Rattle.nodes.specs.declared.Change.the-variants.{Nothing, Claims, Pauses}
 use Rattle.nodes.specs.declared.Judged.{Judged}
 use Rattle.nodes.specs.declared.JudgedPause.{JudgedPause}
-use Rattle.nodes.specs.declared.Heard.{Heard}
+use Rattle.nodes.specs.declared.Hearing.{Hearing}
 use Rattle.nodes.specs.declared.Pausing.{Pausing}
 
 -- judge, and judge_pause: the answer, how many records the change goes over, and the change
@@ -30,11 +30,11 @@ changeOf (gives (claims claim)) = Claims claim
 changeOf (gives (pauses ms)) = Pauses ms
 
 pub record JudgedAs (records : List Node) (asked : Told Asked) (r : Judged) : Type 0 where
-  pub answer : toldHeard (r .answer) ≡ answerOf records asked
+  pub answer : toldHearing (r .answer) ≡ answerOf records asked
   pub turns : r .turns ≡ turnsOf asked
   pub change : r .change ≡ changeOf asked
 
-abbrev pub unaskedAs : Heard → Judged
+abbrev pub unaskedAs : Hearing → Judged
 unaskedAs answer = record { answer = answer; turns = 0; change = Nothing }
 
 pub record JudgedPauseAs (records : List Node) (asked : Told Asked) (r : JudgedPause) : Type 0 where

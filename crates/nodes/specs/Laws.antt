@@ -14,11 +14,11 @@ use Rattle.frame.specs.Standard.{claimDgn, greatestAddress}
 use Rattle.frame.specs.declared.Parts.{Parts}
 use Rattle.nodes.specs.Table.{addresses, takesAfter, absent, held, challenged, unchallengedOf, hasName, isChallenged, hasChallenger, stands, clearedOf, enteredOf, claimedAt, pausedAt, replacesOf, replacedIn, keepsRules, soundRecord, claimedOf, pausedOf}
 use Rattle.nodes.specs.Call.{nothingToDo, taken, challenges, heldByLower, replaced, claimOutcome, heardOf, tableAfter, pauseTold, tablePaused, Holder, nobody, holder, lookedUpOf, Whereabouts, nowhere, there, foundOf, Rival, noRival, rival, challengerOf}
-use Rattle.nodes.specs.Promises.{Empty, Hear, Pause, LookUp, FindAddress, FindChallenger, HeardRefusal, PausingRefusal, LookedUpRefusal, FoundAddressRefusal, FoundChallengerRefusal, toldHeard, toldPausing, toldLookedUp, toldFoundAddress, toldFoundChallenger}
+use Rattle.nodes.specs.Promises.{Empty, Hear, Pause, LookUp, FindAddress, FindChallenger, HearingRefusal, PausingRefusal, LookedUpRefusal, FoundAddressRefusal, FoundChallengerRefusal, toldHearing, toldPausing, toldLookedUp, toldFoundAddress, toldFoundChallenger}
 use Rattle.nodes.specs.declared.Node.{Node}
 use Rattle.nodes.specs.declared.Claim.{Claim}
-use Rattle.nodes.specs.declared.Heard.{Heard}
-use Rattle.nodes.specs.declared.Heard.the-variants.{NothingToDo}
+use Rattle.nodes.specs.declared.Hearing.{Hearing}
+use Rattle.nodes.specs.declared.Hearing.the-variants.{NothingToDo}
 use Rattle.nodes.specs.declared.Pausing.{Pausing}
 use Rattle.nodes.specs.declared.LookedUp.{LookedUp}
 use Rattle.nodes.specs.declared.FoundAddress.{FoundAddress}
@@ -26,8 +26,8 @@ use Rattle.nodes.specs.declared.FoundChallenger.{FoundChallenger}
 
 -- An answer read as number and values loses nothing (RULES 2.10).
 
-abbrev pub ToldHeardSame : Type 0
-ToldHeardSame = (r s : Heard) → toldHeard r ≡ toldHeard s → r ≡ s
+abbrev pub ToldHearingSame : Type 0
+ToldHearingSame = (r s : Hearing) → toldHearing r ≡ toldHearing s → r ≡ s
 
 abbrev pub ToldPausingSame : Type 0
 ToldPausingSame = (r s : Pausing) → toldPausing r ≡ toldPausing s → r ≡ s
@@ -48,7 +48,7 @@ EmptyOnly = (r s : List Node) → Empty r → Empty s → r ≡ s
 
 abbrev pub HearOnly : Type 0
 HearOnly =
-    (table : List Node) (id : ℕ) (bytes : List ℕ) (r s : Heard) (after after′ : List Node)
+    (table : List Node) (id : ℕ) (bytes : List ℕ) (r s : Hearing) (after after′ : List Node)
     → Hear table id bytes r after → Hear table id bytes s after′ → (r ≡ s) × (after ≡ after′)
 
 abbrev pub PauseOnly : Type 0
@@ -69,8 +69,8 @@ FindChallengerOnly =
     (table : List Node) (address : ℕ) (r s : FoundChallenger)
     → FindChallenger table address r → FindChallenger table address s → r ≡ s
 
-abbrev pub HeardRefusalOnly : Type 0
-HeardRefusalOnly = (answer : Heard) (r s : ℕ) → HeardRefusal answer r → HeardRefusal answer s → r ≡ s
+abbrev pub HearingRefusalOnly : Type 0
+HearingRefusalOnly = (answer : Hearing) (r s : ℕ) → HearingRefusal answer r → HearingRefusal answer s → r ≡ s
 
 abbrev pub PausingRefusalOnly : Type 0
 PausingRefusalOnly = (answer : Pausing) (r s : ℕ) → PausingRefusal answer r → PausingRefusal answer s → r ≡ s
@@ -90,8 +90,8 @@ FoundChallengerRefusalOnly =
 
 abbrev pub HearRefusedKeeps : Type 0
 HearRefusedKeeps =
-    (table : List Node) (id : ℕ) (bytes : List ℕ) (r : Heard) (after : List Node) (n : ℕ)
-    → Hear table id bytes r after → toldHeard r ≡ refused n → after ≡ table
+    (table : List Node) (id : ℕ) (bytes : List ℕ) (r : Hearing) (after : List Node) (n : ℕ)
+    → Hear table id bytes r after → toldHearing r ≡ refused n → after ≡ table
 
 abbrev pub PauseRefusedKeeps : Type 0
 PauseRefusedKeeps =

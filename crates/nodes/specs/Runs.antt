@@ -15,8 +15,8 @@ use Rattle.nodes.specs.Call.{Asked, nothing, claims, pauses, askedBy}
 use Rattle.nodes.specs.Promises.{Empty, Hear, Pause, LookUp, FindChallenger}
 use Rattle.nodes.specs.declared.Node.{Node}
 use Rattle.nodes.specs.declared.Claim.{Claim}
-use Rattle.nodes.specs.declared.Heard.{Heard}
-use Rattle.nodes.specs.declared.Heard.the-variants.{Challenges}
+use Rattle.nodes.specs.declared.Hearing.{Hearing}
+use Rattle.nodes.specs.declared.Hearing.the-variants.{Challenges}
 use Rattle.nodes.specs.declared.Pausing.{Pausing}
 use Rattle.nodes.specs.declared.LookedUp.the-variants.{Present}
 use Rattle.nodes.specs.declared.FoundChallenger.the-variants.{Waits, NoChallenger}
@@ -27,7 +27,7 @@ pub data Call : Type 0 where
   pausing : ℕ → Call
 
 abbrev pub Leads : List Node → Call → List Node → Type 0
-Leads table (hearing id bytes) after = (r : Heard) × Hear table id bytes r after
+Leads table (hearing id bytes) after = (r : Hearing) × Hear table id bytes r after
 Leads table (pausing ms) after = (r : Pausing) × Pause table ms r after
 
 -- A run of calls from one table to another.
@@ -130,7 +130,7 @@ ChallengeTakes =
 abbrev pub HolderLeaves : Type 0
 HolderLeaves =
     (a p c w : ℕ) (end : List Node) → Challenge a p c w end
-    → (id : ℕ) (bytes : List ℕ) (r : Heard) (next : List Node) (claim : Claim) → Hear end id bytes r next
+    → (id : ℕ) (bytes : List ℕ) (r : Hearing) (next : List Node) (claim : Claim) → Hear end id bytes r next
     → saidBy (hearing id bytes) ≡ claims claim → claim .name ≡ p → (claim .source ≡ a → ⊥)
     → LookUp next a (Present c) × FindChallenger next a NoChallenger
 

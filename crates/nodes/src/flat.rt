@@ -3,7 +3,7 @@ use crate::Change;
 use crate::Claim;
 use crate::FoundAddress;
 use crate::FoundChallenger;
-use crate::Heard;
+use crate::Hearing;
 use crate::Judged;
 use crate::JudgedPause;
 use crate::LookedUp;
@@ -20,7 +20,7 @@ ghost use lib.ListN.{drop};
 ghost use Rattle.words.specs.Words.{gives};
 ghost use Rattle.nodes.specs.Table.{addresses, absent as absentNode, held as heldBy, challenged as challengedBy, unchallengedOf, hasName, isChallenged, hasChallenger, stands as standsFor, givesWay, mayChallenge, vacatedOf, clearedOf, enteredOf, claimedHere, claimedAt, replacesOf, pausedAt, replacedIn, soundChallenge, soundRecord, standsIn, holderAgain, challengerAgain, standsAgain, keepsRules};
 ghost use Rattle.nodes.specs.Call.{askedOf, askedBy, pauseAsked, claimOutcome, lookedUpOf, addressFrom, foundOf, challengerOf};
-ghost use Rattle.nodes.specs.Promises.{toldHeard, toldLookedUp, toldFoundAddress, toldFoundChallenger};
+ghost use Rattle.nodes.specs.Promises.{toldHearing, toldLookedUp, toldFoundAddress, toldFoundChallenger};
 ghost use Rattle.nodes.specs.Inside.{afterOf, readableOf, JudgedAs, unaskedAs, JudgedPauseAs, unpausedAs};
 
 // How many records are read of a table with `size`: those of all the addresses, or none.
@@ -38,15 +38,15 @@ pub fn judge(size: usize, records: [Node; RECORDS], id: u32, bytes: &[u8]) -> Ju
     ensures { λ r. ⌜ JudgedAs records (askedOf size records id (now (bytes .entry))) r ⌝ }
 {
     if size < RECORDS {
-        return unasked(Heard::TableTooShort);
+        return unasked(Hearing::TableTooShort);
     }
     if !keeps_rules(records) {
-        return unasked(Heard::BrokenTable);
+        return unasked(Hearing::BrokenState);
     }
     let checked = frame::check(id, bytes);
     let verdict = checked.verdict;
     match verdict {
-        Verdict::Bad(why) => unasked(Heard::BadFrame(why)),
+        Verdict::Bad(why) => unasked(Hearing::BadFrame(why)),
         Verdict::Sound(parts) => {
             let eight = checked.bytes;
             asked(records, parts, eight)
@@ -58,7 +58,7 @@ fn asked(records: [Node; RECORDS], parts: frame::Parts, bytes: [u8; 8]) -> Judge
     ensures { λ r. ⌜ JudgedAs records (gives (askedBy parts bytes)) r ⌝ }
 {
     if parts.dgn != CLAIM {
-        return unasked(Heard::NothingToDo);
+        return unasked(Hearing::NothingToDo);
     }
     let claim = Claim {
         source: parts.source,
@@ -72,7 +72,7 @@ fn asked(records: [Node; RECORDS], parts: frame::Parts, bytes: [u8; 8]) -> Judge
 }
 
 // An answer where nothing is done to the table.
-fn unasked(answer: Heard) -> Judged
+fn unasked(answer: Hearing) -> Judged
     ensures { λ r. ⌜ r ≡ unaskedAs answer ⌝ }
 {
     Judged {
@@ -82,22 +82,22 @@ fn unasked(answer: Heard) -> Judged
     }
 }
 
-fn outcome(records: [Node; RECORDS], claim: Claim) -> Heard
-    ensures { λ r. ⌜ toldHeard r ≡ gives (claimOutcome records claim) ⌝ }
+fn outcome(records: [Node; RECORDS], claim: Claim) -> Hearing
+    ensures { λ r. ⌜ toldHearing r ≡ gives (claimOutcome records claim) ⌝ }
 {
     let source = claim.source;
     if GREATEST_ADDRESS < source {
-        return Heard::Silent;
+        return Hearing::Silent;
     }
     let at = source as usize;
     let before = cleared(records[at], claim.name);
     if gives_way(before, claim.name) {
-        return Heard::Taken(source);
+        return Hearing::Taken(source);
     }
     if may_challenge(before, claim.name) {
-        return Heard::Challenges(source);
+        return Hearing::Challenges(source);
     }
-    Heard::HeldByLower(source)
+    Hearing::HeldByLower(source)
 }
 
 // Judges a pause on values: everything that is refused, and in how many records the challenger takes the address.
@@ -108,7 +108,7 @@ pub fn judge_pause(size: usize, records: [Node; RECORDS], ms: u16) -> JudgedPaus
         return unpaused(Pausing::TableTooShort);
     }
     if !keeps_rules(records) {
-        return unpaused(Pausing::BrokenTable);
+        return unpaused(Pausing::BrokenState);
     }
     let answer = Pausing::Replaced(replaced(records, ms));
     let turns = RECORDS;
@@ -152,7 +152,7 @@ pub fn looked_up(size: usize, records: [Node; RECORDS], address: u8) -> LookedUp
         return LookedUp::TableTooShort;
     }
     if !keeps_rules(records) {
-        return LookedUp::BrokenTable;
+        return LookedUp::BrokenState;
     }
     if GREATEST_ADDRESS < address {
         return LookedUp::Absent;
@@ -172,7 +172,7 @@ pub fn found_challenger(size: usize, records: [Node; RECORDS], address: u8) -> F
         return FoundChallenger::TableTooShort;
     }
     if !keeps_rules(records) {
-        return FoundChallenger::BrokenTable;
+        return FoundChallenger::BrokenState;
     }
     if address > GREATEST_ADDRESS {
         return FoundChallenger::NoChallenger;
@@ -180,7 +180,10 @@ pub fn found_challenger(size: usize, records: [Node; RECORDS], address: u8) -> F
     let at = address as usize;
     let n = records[at];
     if is_challenged(n) {
-        return FoundChallenger::Waits(n.challenger, n.wait);
+        return FoundChallenger::Waits {
+            name: n.challenger,
+            wait: n.wait,
+        };
     }
     FoundChallenger::NoChallenger
 }
@@ -192,7 +195,7 @@ pub fn found_address(size: usize, records: [Node; RECORDS], name: u64) -> FoundA
         return FoundAddress::TableTooShort;
     }
     if !keeps_rules(records) {
-        return FoundAddress::BrokenTable;
+        return FoundAddress::BrokenState;
     }
     address_in(records, name)
 }
