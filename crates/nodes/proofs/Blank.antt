@@ -1,17 +1,19 @@
 -- Records that are all absent: they keep the rules, and nobody is among them.
 -- Assumes nothing.
 use mathlib.Core.Path.{_≡_, refl, ap, _∙_}
-use mathlib.Core.Bool.{true}
+use mathlib.Core.Bool.{true, false}
 use mathlib.Core.List.{List, _∷_, _++_}
 use Prim.Native.Nat.{ℕ, zero, suc, _≤_}
 use native.Mathlib.Omega.{arith}
 use lib.ListN.{length, getD, take, replicate, length-append, length-replicate}
 use lib.Dec.{ltb}
 use borrow.Author.Tests.{ltb-true, ltb-false}
+use Rattle.words.specs.Lists.{any, noTwo}
+use Rattle.words.proofs.Lists.{every-replicate}
 use Rattle.words.specs.Words.{gives}
 use Rattle.frame.specs.Standard.{greatestAddress}
 use Rattle.words.proofs.Words.{by-test}
-use Rattle.nodes.specs.Table.{addresses, absent, hasName, isChallenged, soundRecord, holderAgain, challengerAgain, standsAgain, keepsRules}
+use Rattle.nodes.specs.Table.{addresses, absent, hasName, isChallenged, soundRecord, sharesName, keepsRules}
 use Rattle.nodes.specs.Call.{nobody, holderOf, lookedUpOf, nowhere, addressFrom, foundOf, noRival, rivalOf, challengerOf}
 use Rattle.nodes.specs.Promises.{Empty}
 use Rattle.nodes.specs.Laws.{EmptyKeepsRules, EmptyHasNobody, EmptyHasNoName, EmptyHasNoChallenger}
@@ -24,10 +26,22 @@ front : (k : ℕ) (behind : List Node) → take k (replicate k absent ++ behind)
 front zero behind = refl
 front (suc k) behind = ap (λ (ns : List Node). absent ∷ ns) (front k behind)
 
+all-alone : (k : ℕ) → any (sharesName absent) (replicate k absent) ≡ false
+unfolding sharesName isChallenged
+all-alone zero = refl
+all-alone (suc k) = all-alone k
+
+all-apart : (k : ℕ) → noTwo sharesName (replicate k absent) ≡ true
+all-apart zero = refl
+all-apart (suc k) = rw (all-alone k) (all-apart k)
+
+absent-sound : soundRecord absent ≡ true
+unfolding soundRecord
+absent-sound = refl
+
 all-keep : (k : ℕ) → keepsRules (replicate k absent) ≡ true
-unfolding keepsRules soundRecord standsAgain holderAgain challengerAgain isChallenged
-all-keep zero = refl
-all-keep (suc k) = all-keep k
+unfolding keepsRules
+all-keep k = rw (every-replicate soundRecord k absent absent-sound) (all-apart k)
 
 all-absent : (k a : ℕ) → getD (replicate k absent) a absent ≡ absent
 all-absent zero a = refl

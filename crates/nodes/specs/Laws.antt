@@ -12,7 +12,7 @@ use Rattle.frame.specs.Identifier.{identifiers}
 use Rattle.frame.specs.Frame.{checkedOf}
 use Rattle.frame.specs.Standard.{claimDgn, greatestAddress}
 use Rattle.frame.specs.declared.Parts.{Parts}
-use Rattle.nodes.specs.Table.{addresses, takesAfter, absent, held, challenged, unchallengedOf, hasName, isChallenged, hasChallenger, stands, clearedOf, enteredOf, claimedAt, pausedAt, replacesOf, replacedIn, keepsRules, soundRecord, claimedOf, pausedOf}
+use Rattle.nodes.specs.Table.{addresses, takesAfter, absent, held, challenged, unchallengedOf, hasName, isChallenged, hasChallenger, stands, clearedOf, enteredOf, claimedAt, pausedAt, isReplaced, replacedIn, keepsRules, soundRecord, claimedOf, pausedOf}
 use Rattle.nodes.specs.Call.{nothingToDo, taken, challenges, heldByLower, replaced, claimOutcome, heardOf, tableAfter, pauseTold, tablePaused, Holder, nobody, holder, lookedUpOf, Whereabouts, nowhere, there, foundOf, Rival, noRival, rival, challengerOf}
 use Rattle.nodes.specs.Promises.{Empty, Hear, Pause, LookUp, FindAddress, FindChallenger, HearingRefusal, PausingRefusal, LookedUpRefusal, FoundAddressRefusal, FoundChallengerRefusal, toldHearing, toldPausing, toldLookedUp, toldFoundAddress, toldFoundChallenger}
 use Rattle.nodes.specs.declared.Node.{Node}
@@ -286,8 +286,8 @@ EverySentence = (claim : Claim) (a : ℕ) (n : Node) → soundRecord n ≡ true 
 abbrev pub ReplacedCounts : Type 0
 ReplacedCounts =
     (ms : ℕ) (n : Node) → soundRecord n ≡ true
-    → ((replacesOf ms n ≡ 1) × (pausedAt ms n ≡ held (n .challenger)) × (n .name < n .challenger))
-    ⊎ ((replacesOf ms n ≡ 0) × (pausedAt ms n .present ≡ n .present) × (pausedAt ms n .name ≡ n .name))
+    → ((isReplaced ms n ≡ true) × (pausedAt ms n ≡ held (n .challenger)) × (n .name < n .challenger))
+    ⊎ ((isReplaced ms n ≡ false) × (pausedAt ms n .present ≡ n .present) × (pausedAt ms n .name ≡ n .name))
 
 -- What `hear` tells, `look_up` and `find_challenger` show: after `taken` the claim's NAME is there and nobody
 -- challenges it; after `challenges` a lower one is there, which it challenges since 0 ms; after `heldByLower` two lower

@@ -17,8 +17,9 @@ use frame::standard::GREATEST_ADDRESS;
 ghost use mathlib.Core.Path.{_≡_};
 ghost use Prim.Native.Nat.{_≤_};
 ghost use lib.ListN.{drop};
-ghost use Rattle.words.specs.Words.{gives};
-ghost use Rattle.nodes.specs.Table.{addresses, absent as absentNode, held as heldBy, challenged as challengedBy, unchallengedOf, hasName, isChallenged, hasChallenger, stands as standsFor, givesWay, mayChallenge, vacatedOf, clearedOf, enteredOf, claimedHere, claimedAt, replacesOf, pausedAt, replacedIn, soundChallenge, soundRecord, standsIn, holderAgain, challengerAgain, standsAgain, keepsRules};
+ghost use Rattle.words.specs.Words.{if_then_else_, _and_, gives};
+ghost use Rattle.words.specs.Lists.{any};
+ghost use Rattle.nodes.specs.Table.{addresses, absent as absentNode, held as heldBy, challenged as challengedBy, unchallengedOf, hasName, isChallenged, hasChallenger, stands as standsFor, givesWay, mayChallenge, vacatedOf, clearedOf, enteredOf, claimedHere, claimedAt, isReplaced, pausedAt, replacedIn, soundChallenge, soundRecord, sharesName, keepsRules};
 ghost use Rattle.nodes.specs.Call.{askedOf, askedBy, pauseAsked, claimOutcome, lookedUpOf, addressFrom, foundOf, challengerOf};
 ghost use Rattle.nodes.specs.Promises.{toldHearing, toldLookedUp, toldFoundAddress, toldFoundChallenger};
 ghost use Rattle.nodes.specs.Inside.{afterOf, readableOf, JudgedAs, unaskedAs, JudgedPauseAs, unpausedAs};
@@ -302,7 +303,7 @@ fn paused(n: Node, ms: u16) -> Node
 
 // 1 where the challenger takes the record in a pause, and 0 where not.
 fn replaces(n: Node, ms: u16) -> usize
-    ensures { λ r. ⌜ r ≡ replacesOf ms n ⌝ }
+    ensures { λ r. ⌜ r ≡ (if isReplaced ms n then 1 else 0) ⌝ }
 {
     if !is_challenged(n) {
         return 0;
@@ -458,7 +459,7 @@ fn sound_challenge(n: Node) -> bool
 
 fn stands_again(records: [Node; RECORDS], from: usize, n: Node) -> bool
     requires { ⌜ from ≤ addresses ⌝ }
-    ensures { λ r. ⌜ r ≡ standsAgain n (drop from records) ⌝ }
+    ensures { λ r. ⌜ r ≡ any (sharesName n) (drop from records) ⌝ }
 {
     if holder_again(records, from, n) {
         return true;
@@ -468,7 +469,7 @@ fn stands_again(records: [Node; RECORDS], from: usize, n: Node) -> bool
 
 fn holder_again(records: [Node; RECORDS], from: usize, n: Node) -> bool
     requires { ⌜ from ≤ addresses ⌝ }
-    ensures { λ r. ⌜ r ≡ holderAgain n (drop from records) ⌝ }
+    ensures { λ r. ⌜ r ≡ n .present and any (standsFor (n .name)) (drop from records) ⌝ }
 {
     if n.present {
         return stands_from(records, from, n.name);
@@ -478,7 +479,7 @@ fn holder_again(records: [Node; RECORDS], from: usize, n: Node) -> bool
 
 fn challenger_again(records: [Node; RECORDS], from: usize, n: Node) -> bool
     requires { ⌜ from ≤ addresses ⌝ }
-    ensures { λ r. ⌜ r ≡ challengerAgain n (drop from records) ⌝ }
+    ensures { λ r. ⌜ r ≡ isChallenged n and any (standsFor (n .challenger)) (drop from records) ⌝ }
 {
     if is_challenged(n) {
         return stands_from(records, from, n.challenger);
@@ -488,7 +489,7 @@ fn challenger_again(records: [Node; RECORDS], from: usize, n: Node) -> bool
 
 fn stands_from(records: [Node; RECORDS], from: usize, name: u64) -> bool
     requires { ⌜ from ≤ addresses ⌝ }
-    ensures { λ r. ⌜ r ≡ standsIn name (drop from records) ⌝ }
+    ensures { λ r. ⌜ r ≡ any (standsFor name) (drop from records) ⌝ }
 {
     let mut i = from;
     while i < RECORDS {

@@ -7,7 +7,7 @@ use lib.ListN.{length, drop}
 use Rattle.words.specs.Words.{gives}
 use Rattle.nodes.specs.Table.{addresses}
 use Rattle.nodes.specs.Call.{Whereabouts, addressFrom}
-use Rattle.nodes.proofs.Rules.{length-field}
+use Rattle.words.proofs.Lists.{length-field}
 use Rattle.nodes.proofs.Find.{search-end, search-hit, search-turn}
 use Rattle.nodes.proofs.flat.address_in.Statement.{statement}
 use Rattle.nodes.proofs.flat.address_in.Tie as tie
