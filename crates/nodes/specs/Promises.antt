@@ -3,11 +3,14 @@
 use mathlib.Core.Path.{_≡_}
 use mathlib.Core.List.{List}
 use Prim.Native.Nat.{ℕ}
-use lib.ListN.{length, take}
 use Rattle.words.specs.Words.{Told, refused, gives, numberIn}
+use Rattle.words.specs.declared.Found.{Found}
+use Rattle.words.specs.declared.Found.the-variants.{At, Nowhere}
 use Rattle.frame.specs.Promises.{refusalOf}
-use Rattle.nodes.specs.Table.{addresses, emptyTable}
-use Rattle.nodes.specs.Call.{Outcome, nothingToDo, taken, challenges, heldByLower, silent, replaced, Holder, nobody, holder, heardOf, tableAfter, pauseTold, tablePaused, lookedUpOf, Whereabouts, nowhere, there, foundOf, Rival, noRival, rival, challengerOf}
+use Rattle.nodes.specs.Table.{emptyTable}
+use Rattle.nodes.specs.Call.{Outcome, nothingToDo, taken, challenges, heldByLower, silent, heardOf, tableAfter}
+use Rattle.nodes.specs.Call.{pauseTold, tablePaused, Holder, nobody, holder, lookedUpOf, foundOf}
+use Rattle.nodes.specs.Call.{Rival, noRival, rival, challengerOf}
 use Rattle.nodes.specs.declared.Node.{Node}
 use Rattle.nodes.specs.declared.Hearing.{Hearing}
 use Rattle.nodes.specs.declared.Hearing.the-variants as Hearing
@@ -46,8 +49,8 @@ pub record HearingRefusal (answer : Hearing) (r : ℕ) : Type 0 where
 
 -- pause
 
-abbrev pub toldPausing : Pausing → Told Outcome
-toldPausing (Pausing.Replaced count) = gives (replaced count)
+abbrev pub toldPausing : Pausing → Told ℕ
+toldPausing (Pausing.Replaced count) = gives count
 toldPausing Pausing.TableTooShort = refused 1
 toldPausing Pausing.BrokenState = refused 2
 
@@ -67,21 +70,21 @@ toldLookedUp LookedUp.TableTooShort = refused 1
 toldLookedUp LookedUp.BrokenState = refused 2
 
 pub record LookUp (table : List Node) (address : ℕ) (r : LookedUp) : Type 0 where
-  pub answer : toldLookedUp r ≡ lookedUpOf (length table) (take addresses table) address
+  pub answer : toldLookedUp r ≡ lookedUpOf table address
 
 pub record LookedUpRefusal (answer : LookedUp) (r : ℕ) : Type 0 where
   pub number : r ≡ numberIn (toldLookedUp answer)
 
 -- find_address; the table is only read
 
-abbrev pub toldFoundAddress : FoundAddress → Told Whereabouts
-toldFoundAddress (FoundAddress.At address) = gives (there address)
-toldFoundAddress FoundAddress.NoAddress = gives nowhere
+abbrev pub toldFoundAddress : FoundAddress → Told Found
+toldFoundAddress (FoundAddress.At address) = gives (At address)
+toldFoundAddress FoundAddress.NoAddress = gives Nowhere
 toldFoundAddress FoundAddress.TableTooShort = refused 1
 toldFoundAddress FoundAddress.BrokenState = refused 2
 
 pub record FindAddress (table : List Node) (name : ℕ) (r : FoundAddress) : Type 0 where
-  pub answer : toldFoundAddress r ≡ foundOf (length table) (take addresses table) name
+  pub answer : toldFoundAddress r ≡ foundOf table name
 
 pub record FoundAddressRefusal (answer : FoundAddress) (r : ℕ) : Type 0 where
   pub number : r ≡ numberIn (toldFoundAddress answer)
@@ -89,13 +92,13 @@ pub record FoundAddressRefusal (answer : FoundAddress) (r : ℕ) : Type 0 where
 -- find_challenger; the table is only read
 
 abbrev pub toldFoundChallenger : FoundChallenger → Told Rival
-toldFoundChallenger (FoundChallenger.Waits name wait) = gives (rival name wait)
+toldFoundChallenger (FoundChallenger.Waits name wait) = gives (rival (record { name = name; wait = wait }))
 toldFoundChallenger FoundChallenger.NoChallenger = gives noRival
 toldFoundChallenger FoundChallenger.TableTooShort = refused 1
 toldFoundChallenger FoundChallenger.BrokenState = refused 2
 
 pub record FindChallenger (table : List Node) (address : ℕ) (r : FoundChallenger) : Type 0 where
-  pub answer : toldFoundChallenger r ≡ challengerOf (length table) (take addresses table) address
+  pub answer : toldFoundChallenger r ≡ challengerOf table address
 
 pub record FoundChallengerRefusal (answer : FoundChallenger) (r : ℕ) : Type 0 where
   pub number : r ≡ numberIn (toldFoundChallenger answer)

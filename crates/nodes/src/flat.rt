@@ -18,11 +18,11 @@ ghost use mathlib.Core.Path.{_≡_};
 ghost use Prim.Native.Nat.{_≤_};
 ghost use lib.ListN.{drop};
 ghost use Rattle.words.specs.Words.{if_then_else_, _and_, gives};
-ghost use Rattle.words.specs.Lists.{any};
+ghost use Rattle.words.specs.Lists.{any, first};
 ghost use Rattle.nodes.specs.Table.{addresses, absent as absentNode, held as heldBy, challenged as challengedBy, unchallengedOf, hasName, isChallenged, hasChallenger, stands as standsFor, givesWay, mayChallenge, vacatedOf, clearedOf, enteredOf, claimedHere, claimedAt, isReplaced, pausedAt, replacedIn, soundChallenge, soundRecord, sharesName, keepsRules};
-ghost use Rattle.nodes.specs.Call.{askedOf, askedBy, pauseAsked, claimOutcome, lookedUpOf, addressFrom, foundOf, challengerOf};
+ghost use Rattle.nodes.specs.Call.{claimOutcome, heardBy, holderAt, rivalAt};
 ghost use Rattle.nodes.specs.Promises.{toldHearing, toldLookedUp, toldFoundAddress, toldFoundChallenger};
-ghost use Rattle.nodes.specs.Inside.{afterOf, readableOf, JudgedAs, unaskedAs, JudgedPauseAs, unpausedAs};
+ghost use Rattle.nodes.specs.Private.{sizedOr, heardIn, changeBy, changeIn, pausedIn, pauseIn, JudgedAs, unaskedAs, JudgedPauseAs, unpausedAs, readableOf, afterOf};
 
 // How many records are read of a table with `size`: those of all the addresses, or none.
 pub fn readable(size: usize) -> usize
@@ -36,7 +36,7 @@ pub fn readable(size: usize) -> usize
 
 // Judges a call on values: everything that is refused, what the frame asks, and what comes of it.
 pub fn judge(size: usize, records: [Node; RECORDS], id: u32, bytes: &[u8]) -> Judged
-    ensures { λ r. ⌜ JudgedAs records (askedOf size records id (now (bytes .entry))) r ⌝ }
+    ensures { λ r. ⌜ JudgedAs (heardIn size records id (now (bytes .entry))) (changeIn size records id (now (bytes .entry))) r ⌝ }
 {
     if size < RECORDS {
         return unasked(Hearing::TableTooShort);
@@ -56,7 +56,7 @@ pub fn judge(size: usize, records: [Node; RECORDS], id: u32, bytes: &[u8]) -> Ju
 }
 
 fn asked(records: [Node; RECORDS], parts: frame::Parts, bytes: [u8; 8]) -> Judged
-    ensures { λ r. ⌜ JudgedAs records (gives (askedBy parts bytes)) r ⌝ }
+    ensures { λ r. ⌜ JudgedAs (gives (heardBy parts bytes records)) (gives (changeBy parts bytes)) r ⌝ }
 {
     if parts.dgn != CLAIM {
         return unasked(Hearing::NothingToDo);
@@ -103,7 +103,7 @@ fn outcome(records: [Node; RECORDS], claim: Claim) -> Hearing
 
 // Judges a pause on values: everything that is refused, and in how many records the challenger takes the address.
 pub fn judge_pause(size: usize, records: [Node; RECORDS], ms: u16) -> JudgedPause
-    ensures { λ r. ⌜ JudgedPauseAs records (pauseAsked size records ms) r ⌝ }
+    ensures { λ r. ⌜ JudgedPauseAs (pausedIn size records ms) (pauseIn size records ms) r ⌝ }
 {
     if size < RECORDS {
         return unpaused(Pausing::TableTooShort);
@@ -147,7 +147,7 @@ fn replaced(records: [Node; RECORDS], ms: u16) -> u8
 }
 
 pub fn looked_up(size: usize, records: [Node; RECORDS], address: u8) -> LookedUp
-    ensures { λ r. ⌜ toldLookedUp r ≡ lookedUpOf size records address ⌝ }
+    ensures { λ r. ⌜ toldLookedUp r ≡ sizedOr size records (gives (holderAt address records)) ⌝ }
 {
     if size < RECORDS {
         return LookedUp::TableTooShort;
@@ -167,7 +167,7 @@ pub fn looked_up(size: usize, records: [Node; RECORDS], address: u8) -> LookedUp
 }
 
 pub fn found_challenger(size: usize, records: [Node; RECORDS], address: u8) -> FoundChallenger
-    ensures { λ r. ⌜ toldFoundChallenger r ≡ challengerOf size records address ⌝ }
+    ensures { λ r. ⌜ toldFoundChallenger r ≡ sizedOr size records (gives (rivalAt address records)) ⌝ }
 {
     if size < RECORDS {
         return FoundChallenger::TableTooShort;
@@ -190,7 +190,7 @@ pub fn found_challenger(size: usize, records: [Node; RECORDS], address: u8) -> F
 }
 
 pub fn found_address(size: usize, records: [Node; RECORDS], name: u64) -> FoundAddress
-    ensures { λ r. ⌜ toldFoundAddress r ≡ foundOf size records name ⌝ }
+    ensures { λ r. ⌜ toldFoundAddress r ≡ sizedOr size records (gives (first (hasName name) records)) ⌝ }
 {
     if size < RECORDS {
         return FoundAddress::TableTooShort;
@@ -203,7 +203,7 @@ pub fn found_address(size: usize, records: [Node; RECORDS], name: u64) -> FoundA
 
 // The first address whose record has the NAME.
 fn address_in(records: [Node; RECORDS], name: u64) -> FoundAddress
-    ensures { λ r. ⌜ toldFoundAddress r ≡ gives (addressFrom name 0 records) ⌝ }
+    ensures { λ r. ⌜ toldFoundAddress r ≡ gives (first (hasName name) records) ⌝ }
 {
     let mut i: usize = 0;
     while i < RECORDS {

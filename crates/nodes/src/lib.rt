@@ -7,7 +7,7 @@ ghost use Prim.Native.Nat.{_≤_};
 ghost use lib.ListN.{length};
 ghost use Rattle.nodes.specs.Promises.{Empty, Hear, Pause, LookUp, FindAddress, FindChallenger, HearingRefusal, PausingRefusal, LookedUpRefusal, FoundAddressRefusal, FoundChallengerRefusal};
 ghost use Rattle.nodes.specs.Table.{eachFrom};
-ghost use Rattle.nodes.specs.Inside.{afterOf, recordsOf};
+ghost use Rattle.nodes.specs.Private.{afterOf, recordsOf};
 
 // A table has a record for each of the addresses 0 to 253; what stands past them is neither read nor written.
 pub const RECORDS: usize = 254;

@@ -47,9 +47,8 @@ use Rattle.nodes.specs.declared.Node.{Node}
 use Rattle.nodes.specs.declared.Hearing.{Hearing}
 use Rattle.nodes.specs.declared.Judged.{Judged}
 use Rattle.nodes.specs.Table.{addresses, eachFrom}
-use Rattle.nodes.specs.Call.{askedOf}
 use Rattle.nodes.specs.Promises.{Hear}
-use Rattle.nodes.specs.Inside.{afterOf, recordsOf, JudgedAs}
+use Rattle.nodes.specs.Private.{heardIn, changeIn, JudgedAs, recordsOf, afterOf}
 use Rattle.nodes.proofs.Array.{arrayTy, array-told, array-made, array-law}
 use Rattle.nodes.proofs.Calls.{Records, Changed, calls-records, calls-changed}
 use Rattle.nodes.proofs.Each.{each-length}
@@ -140,7 +139,7 @@ module _ {M : Type 1} (𝓤 : URA M) (H : Heap 𝓤) (A : Atoms 𝓤) (W : Given
       owned ! usize (Is usize) (uint-makes 𝓤 H A W w64) (length ys) _ (refl, room .0) $ fjoin ! $ move ! (1 ∷ 0 ∷ []) $ join ! $ nothing ! $ move ! (1 ∷ 0 ∷ []) $ done !
 
   abbrev Judges : List Node → Judged → Type 0
-  Judges ns r = JudgedAs ns (askedOf (length ys) ns id bs) r
+  Judges ns r = JudgedAs (heardIn (length ys) ns id bs) (changeIn (length ys) ns id bs) r
 
   says-judge : (ns : List Node) (r : Judged) → ent 𝓤 (ensured 𝓤 H A judge.ended (judge.clauses 𝓤 H A mem run) (κ′, tt) (y ns) tt r) (fact 𝓤 (Judges ns r))
   says-judge ns r = exE 𝓤 _ (λ ws. snd∗ 𝓤 (sem 𝓤 H A (lasts judge.ended (κ′, tt) (y ns) ws)) (fact 𝓤 (Judges ns r)))
