@@ -8,7 +8,7 @@ use Prim.Native.Nat.{ℕ, _+_, _-_, _^_, _≤_, _<_}
 use native.Mathlib.Omega.{arith}
 use borrow.Author.Tests.{eq-eqb, le-ltb, le-leb, ltb-true, ltb-false, leb-true, leb-false}
 use lib.ListN.{length, List·getD-eq-default}
-use Rattle.words.specs.Words.{if_then_else_, given_then_, _<?_, _≤?_, _=?_, Told, refused, gives}
+use Rattle.words.specs.Words.{if_then_else_, given_then_, _<?_, _≤?_, _=?_, Told, refused, gives, Done}
 use Rattle.frame.specs.Bytes.{numberOf, AreBytes}
 use Rattle.frame.specs.Frame.{frameBytes}
 use Rattle.frame.specs.Promises.{refusalOf}
@@ -24,7 +24,7 @@ use Rattle.catalogue.specs.Classes.{greatestCode, classIn, belowGreatest
 use Rattle.catalogue.specs.Scale.{scaledOf, valueAs, valueOf}
 use Rattle.catalogue.specs.Codes.{codeWhere, classCode, codeOf}
 use Rattle.catalogue.specs.Catalogue.{fieldIn, openedFor, readRowOf, scaledRowOf, writtenRowOf, readOf, scaledReadOf, replaced, writtenOf}
-use Rattle.catalogue.specs.Promises.{toldLooked, toldReading, toldScaled, toldWriting, doneIf, bytesAfter, Done}
+use Rattle.catalogue.specs.Promises.{toldLooked, toldReading, toldScaled, toldWriting, doneIf, bytesAfter}
 use Rattle.catalogue.specs.Laws as Laws
 use Rattle.catalogue.specs.declared.Row.{Row}
 use Rattle.catalogue.specs.declared.Field.{Field}

@@ -4,7 +4,7 @@ use mathlib.Core.Path.{_≡_}
 use mathlib.Core.List.{List}
 use Prim.Native.Nat.{ℕ}
 use lib.ListN.{length}
-use Rattle.words.specs.Words.{Told, refused, gives, numberIn}
+use Rattle.words.specs.Words.{Told, refused, gives, numberIn, Done, done}
 use Rattle.frame.specs.Bytes.{numberOf}
 use Rattle.frame.specs.Identifier.{catalogueForm}
 use Rattle.frame.specs.Frame.{checkedOf}
@@ -108,9 +108,6 @@ pub record ScaledReadingRefusal (answer : ScaledReading) (r : ℕ) : Type 0 wher
   pub number : r ≡ numberIn (toldScaled answer)
 
 -- write, and write_row: the answer, and the frame's bytes afterwards
-
-pub data Done : Type 0 where
-  done : Done
 
 abbrev pub toldWriting : Writing → Told Done
 toldWriting Writing.Written = gives done

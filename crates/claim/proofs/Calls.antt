@@ -7,7 +7,7 @@ use Prim.Native.Nat.{ℕ, _<_}
 use native.Mathlib.Omega.{arith}
 use borrow.Author.Tests.{eq-eqb, ne-eqb}
 use lib.ListN.{length}
-use Rattle.words.specs.Words.{_=?_, Told, refused, gives, given_then_}
+use Rattle.words.specs.Words.{_=?_, Told, refused, gives, given_then_, done}
 use Rattle.frame.specs.Bytes.{numberOf}
 use Rattle.frame.specs.Frame.{checkedOf}
 use Rattle.frame.specs.Standard.{claimDgn, noFrame}
@@ -19,7 +19,8 @@ use Rattle.frame.specs.declared.Verdict.the-variants.{Sound, Bad}
 use Rattle.words.proofs.Words.{past-refusal, refused-gives, gives-same, not-flips, by-test}
 use Rattle.claim.specs.Candidates.{padded}
 use Rattle.claim.specs.Claim.{keepsRules, holdsList, claimId, claimBytes, begun, Outcome, nothingToDo, ownName, repeated, moved, fellSilent, outcomeOf, after}
-use Rattle.claim.specs.Promises.{Hear, toldHearing, meetsFrame, metOf, heardOf, afterTold, isSentTold, done, isSound, soundOf}
+use Rattle.claim.specs.Promises.{Hear, toldHearing, meetsFrame, heardOf, afterTold, isSentTold, isSound, soundOf}
+use Rattle.claim.specs.Private.{metOf}
 use Rattle.claim.specs.declared.Claim.{Claim}
 use Rattle.claim.specs.declared.Hearing.{Hearing}
 use Rattle.claim.specs.declared.Heard.{Heard}
@@ -58,7 +59,7 @@ heard-broken id bytes c k = rw k
 
 pub heard-past : (id : ℕ) (bytes : List ℕ) (c : Claim) → keepsRules c ≡ true
     → heardOf id bytes c ≡ (given checkedOf id (length bytes) then λ parts. metOf parts bytes c)
-unfolding heardOf
+unfolding heardOf metOf
 heard-past id bytes c k = rw k
 
 pub met-ill : (parts : Parts) (bytes : List ℕ) (c : Claim) → holdsList c ≡ false → metOf parts bytes c ≡ refused 16

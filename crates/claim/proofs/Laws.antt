@@ -8,7 +8,7 @@ use native.Mathlib.Omega.{arith}
 use borrow.Author.Tests.{ne-eqb, le-leb}
 use lib.ListN.{length, replicate, List·getD-append}
 use lib.Seq.{take-append-seam}
-use Rattle.words.specs.Words.{if_then_else_, _=?_, Told, refused, gives, given_then_}
+use Rattle.words.specs.Words.{if_then_else_, _=?_, Told, refused, gives, given_then_, Done, done}
 use Rattle.frame.specs.Bytes.{bytesOf}
 use Rattle.frame.specs.Identifier.{identifierOf, identifiers, priorityOf, reservedOf, dgnOf, sourceOf}
 use Rattle.frame.specs.Frame.{frameBytes, sourceAllowed, checkedOf}
@@ -23,7 +23,8 @@ use Rattle.frame.proofs.Laws as frame-laws
 use Rattle.claim.specs.Candidates.{longestList, isWellFormed, padded}
 use Rattle.claim.specs.Claim.{claimPriority, keepsRules, holdsList, address, claimSource, claimId, claimBytes, Stand, held, claiming, silent, begun, Outcome, nothingToDo, ownName, repeated, moved, fellSilent, outcomeOf, after, pause}
 use Rattle.claim.specs.History.{Event, heard, paused, step, run}
-use Rattle.claim.specs.Promises.{Pause, Done, done, toldStarting, toldHearing, toldPausing, toldStanding, toldSending, startedOf, meetsFrame, metOf, heardOf, afterTold, isSentTold, isSound, soundOf}
+use Rattle.claim.specs.Promises.{Pause, toldStarting, toldHearing, toldPausing, toldStanding, toldSending, startedOf, meetsFrame, heardOf, afterTold, isSentTold, isSound, soundOf}
+use Rattle.claim.specs.Private.{metOf}
 use Rattle.claim.specs.Calls.{no-call, a-hear, a-pause, claimIn, eventsOf, eventsIn}
 use Rattle.claim.specs.Laws as the
 use Rattle.claim.specs.declared.Claim.{Claim}
@@ -241,7 +242,7 @@ but-priority (refused n) bytes c = refl
 but-priority (gives p) bytes c = refl
 
 pub priority-ignored : the.PriorityIgnored
-unfolding heardOf
+unfolding heardOf metOf
 priority-ignored id id′ bytes c h h′ e =
     let q = frame-laws.priority-ignored id id′ (length bytes) h h′ e in
     by-test (keepsRules c)

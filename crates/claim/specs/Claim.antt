@@ -8,7 +8,7 @@ use Rattle.words.specs.Words.{if_then_else_, _<?_, _≤?_, _=?_, _and_}
 use Rattle.frame.specs.Bytes.{bytesOf}
 use Rattle.frame.specs.Identifier.{identifierOf}
 use Rattle.frame.specs.Frame.{frameBytes}
-use Rattle.frame.specs.Standard.{claimDgn, noAddress}
+use Rattle.frame.specs.Standard.{claimDgn, noAddress, Frame}
 use Rattle.claim.specs.Candidates.{longestList, isWellFormed, padded}
 use Rattle.claim.specs.declared.Claim.{Claim}
 
@@ -37,12 +37,16 @@ address c = getD (c .list) (c .position) 0
 unfoldable pub claimSource : Claim → ℕ
 claimSource c = if c .silent then noAddress else address c
 
--- the frame of our claim: its identifier, and its bytes, the NAME low byte first
+-- the frame of our claim, from our address, or from 254 when silent: its identifier, and its bytes, the NAME low byte
+-- first
 unfoldable pub claimId : Claim → ℕ
 claimId c = identifierOf claimPriority claimDgn (claimSource c)
 
 unfoldable pub claimBytes : Claim → List ℕ
 claimBytes c = bytesOf frameBytes (c .name)
+
+abbrev pub claimFrame : Claim → Frame
+claimFrame c = record { id = claimId c; bytes = claimBytes c }
 
 -- where we stand
 pub data Stand : Type 0 where

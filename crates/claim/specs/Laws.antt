@@ -6,7 +6,7 @@ use mathlib.Core.List.{List}
 use mathlib.Core.Logic.{_↔_}
 use Prim.Native.Nat.{ℕ, _≤_, _<_, _%_, _^_}
 use lib.ListN.{length, getD}
-use Rattle.words.specs.Words.{refused, gives}
+use Rattle.words.specs.Words.{refused, gives, done}
 use Rattle.frame.specs.Bytes.{numberOf, bytesOf}
 use Rattle.frame.specs.Identifier.{identifierOf, identifiers}
 use Rattle.frame.specs.Frame.{frameBytes, checkedOf}
@@ -14,7 +14,7 @@ use Rattle.frame.specs.Standard.{claimDgn, greatestAddress, noAddress, noFrame}
 use Rattle.frame.specs.declared.Parts.{Parts}
 use Rattle.claim.specs.Claim.{heldAfter, claimPriority, keepsRules, holdsList, address, claimSource, claimId, claimBytes, held, standOf, begun, nothingToDo, outcomeOf, after}
 use Rattle.claim.specs.History.{Event, run, history, waitedSince}
-use Rattle.claim.specs.Promises.{Start, Hear, Pause, Stands, OurClaim, KeepsRules, HoldsList, StartingRefusal, HearingRefusal, PausingRefusal, StandingRefusal, SendingRefusal, done, toldStarting, toldHearing, toldPausing, toldStanding, toldSending, meetsFrame, heardOf, isSentTold, isSound, blank}
+use Rattle.claim.specs.Promises.{Start, Hear, Pause, Stands, OurClaim, KeepsRules, HoldsList, StartingRefusal, HearingRefusal, PausingRefusal, StandingRefusal, SendingRefusal, toldStarting, toldHearing, toldPausing, toldStanding, toldSending, meetsFrame, heardOf, isSentTold, isSound, blank}
 use Rattle.claim.specs.Calls.{Call, Ran, eventsIn}
 use Rattle.claim.specs.declared.Claim.{Claim}
 use Rattle.claim.specs.declared.Starting.{Starting}

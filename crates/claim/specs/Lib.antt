@@ -3,5 +3,6 @@ pub mod Candidates
 pub mod Claim
 pub mod History
 pub mod Promises
+pub mod Private
 pub mod Calls
 pub mod Laws

@@ -5,14 +5,14 @@ use mathlib.Core.Bool.{Bool, false, not}
 use mathlib.Core.List.{List}
 use Prim.Native.Nat.{ℕ}
 use lib.ListN.{length, replicate}
-use Rattle.words.specs.Words.{if_then_else_, _=?_, _and_, Told, refused, gives, numberIn, given_then_}
+use Rattle.words.specs.Words.{if_then_else_, _=?_, _and_, Told, refused, gives, numberIn, given_then_, Done, done}
 use Rattle.frame.specs.Bytes.{numberOf}
 use Rattle.frame.specs.Frame.{checkedOf}
-use Rattle.frame.specs.Standard.{claimDgn, noFrame}
+use Rattle.frame.specs.Standard.{claimDgn, Frame, noFrame}
 use Rattle.frame.specs.Promises.{refusalOf}
 use Rattle.frame.specs.declared.Parts.{Parts}
 use Rattle.claim.specs.Candidates.{longestList, isWellFormed}
-use Rattle.claim.specs.Claim.{keepsRules, holdsList, claimId, claimBytes, Stand, held, claiming, silent, standOf, begun, Outcome, nothingToDo, ownName, repeated, moved, fellSilent, outcomeOf, after, isSent, pause}
+use Rattle.claim.specs.Claim.{keepsRules, holdsList, claimFrame, Stand, held, claiming, silent, standOf, begun, Outcome, nothingToDo, ownName, repeated, moved, fellSilent, outcomeOf, after, isSent, pause}
 use Rattle.claim.specs.declared.Claim.{Claim}
 use Rattle.claim.specs.declared.Starting.{Starting}
 use Rattle.claim.specs.declared.Starting.the-variants as Starting
@@ -29,16 +29,9 @@ use Rattle.claim.specs.declared.Sending.{Sending}
 use Rattle.claim.specs.declared.Sending.the-variants as Sending
 use Rattle.claim.specs.declared.ClaimFrame.{ClaimFrame}
 
--- what a call gives that only does its work
-pub data Done : Type 0 where
-  done : Done
-
 -- beside an answer: the frame of our claim where it is to be sent, and no frame where nothing is
-abbrev pub idIf : Bool → Claim → ℕ
-idIf sent c = if sent then claimId c else noFrame .id
-
-abbrev pub bytesIf : Bool → Claim → List ℕ
-bytesIf sent c = if sent then claimBytes c else noFrame .bytes
+abbrev pub frameIf : Bool → Claim → Frame
+frameIf sent c = if sent then claimFrame c else noFrame
 
 -- Claim::start
 
@@ -56,8 +49,8 @@ startedOf list = if isWellFormed list then gives done else refused 16
 pub record Start (name : ℕ) (list : List ℕ) (r : Started) : Type 0 where
   pub answer : toldStarting (r .answer) ≡ startedOf list
   pub state : r .claim ≡ (if isWellFormed list then begun name list else blank)
-  pub sent-id : r .id ≡ idIf (isWellFormed list) (begun name list)
-  pub sent-bytes : r .bytes ≡ bytesIf (isWellFormed list) (begun name list)
+  pub sent-id : r .id ≡ frameIf (isWellFormed list) (begun name list) .id
+  pub sent-bytes : r .bytes ≡ frameIf (isWellFormed list) (begun name list) .bytes
 
 pub record StartingRefusal (answer : Starting) (r : ℕ) : Type 0 where
   pub number : r ≡ numberIn (toldStarting answer)
@@ -78,18 +71,15 @@ toldHearing Hearing.ListMalformed = refused 16
 unfoldable pub meetsFrame : Parts → List ℕ → Claim → Outcome
 meetsFrame parts bytes c = if parts .dgn =? claimDgn then outcomeOf (parts .source) (numberOf bytes) c else nothingToDo
 
--- a sound frame, heard by a state that keeps its rules
-unfoldable pub metOf : Parts → List ℕ → Claim → Told Outcome
-metOf parts bytes c = if not (holdsList c) then refused 16 else gives (meetsFrame parts bytes c)
-
 -- 2, then 3 to 6 of the frame, then 16
 unfoldable pub heardOf : ℕ → List ℕ → Claim → Told Outcome
 heardOf id bytes c =
     if not (keepsRules c) then refused 2 else
     given checkedOf id (length bytes) then λ parts.
-    metOf parts bytes c
+    if not (holdsList c) then refused 16 else
+    gives (meetsFrame parts bytes c)
 
--- the state after an answer, and whether our claim is sent: a refusal keeps the one and sends nothing
+-- the state after an answer, whether our claim is sent, and the frame: a refusal keeps the state and sends nothing
 abbrev pub afterTold : Told Outcome → Claim → Claim
 afterTold (refused n) c = c
 afterTold (gives outcome) c = after outcome c
@@ -98,11 +88,14 @@ abbrev pub isSentTold : Told Outcome → Bool
 isSentTold (refused n) = false
 isSentTold (gives outcome) = isSent outcome
 
+abbrev pub frameSent : Told Outcome → Claim → Frame
+frameSent told c = frameIf (isSentTold told) (afterTold told c)
+
 pub record Hear (id : ℕ) (bytes : List ℕ) (c : Claim) (r : Heard) : Type 0 where
   pub answer : toldHearing (r .answer) ≡ heardOf id bytes c
   pub state : r .claim ≡ afterTold (heardOf id bytes c) c
-  pub sent-id : r .id ≡ idIf (isSentTold (heardOf id bytes c)) (afterTold (heardOf id bytes c) c)
-  pub sent-bytes : r .bytes ≡ bytesIf (isSentTold (heardOf id bytes c)) (afterTold (heardOf id bytes c) c)
+  pub sent-id : r .id ≡ frameSent (heardOf id bytes c) c .id
+  pub sent-bytes : r .bytes ≡ frameSent (heardOf id bytes c) c .bytes
 
 pub record HearingRefusal (answer : Hearing) (r : ℕ) : Type 0 where
   pub number : r ≡ numberIn (toldHearing answer)
@@ -156,8 +149,8 @@ toldSending Sending.ListMalformed = refused 16
 
 pub record OurClaim (c : Claim) (r : ClaimFrame) : Type 0 where
   pub answer : toldSending (r .answer) ≡ soundOf c
-  pub sent-id : r .id ≡ idIf (isSound c) c
-  pub sent-bytes : r .bytes ≡ bytesIf (isSound c) c
+  pub sent-id : r .id ≡ frameIf (isSound c) c .id
+  pub sent-bytes : r .bytes ≡ frameIf (isSound c) c .bytes
 
 pub record SendingRefusal (answer : Sending) (r : ℕ) : Type 0 where
   pub number : r ≡ numberIn (toldSending answer)

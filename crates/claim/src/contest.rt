@@ -11,7 +11,8 @@ ghost use Prim.Native.Nat.{_<_};
 ghost use Rattle.words.specs.Words.{gives};
 ghost use Rattle.frame.specs.Standard.{noFrame};
 ghost use Rattle.claim.specs.Claim.{claimId, claimBytes, lostBy, outcomeOf};
-ghost use Rattle.claim.specs.Promises.{toldHearing, metOf, heardOf};
+ghost use Rattle.claim.specs.Promises.{toldHearing, heardOf};
+ghost use Rattle.claim.specs.Private.{metOf};
 
 // The answer to a frame: 2, then 3 to 6, then 16, then what it leads to.
 pub fn answer_to(claim: Claim, id: u32, bytes: &[u8]) -> Hearing

@@ -2,9 +2,12 @@
 use crate::CANDIDATES;
 use frame::standard;
 ghost use mathlib.Core.Path.{_≡_};
+ghost use mathlib.Core.Bool.{not};
 ghost use Prim.Native.Nat.{_≤_};
 ghost use lib.ListN.{length, drop};
-ghost use Rattle.claim.specs.Candidates.{areAddresses, isAbsent, areDistinct, isWellFormed, padded};
+ghost use Rattle.words.specs.Words.{_=?_};
+ghost use Rattle.words.specs.Lists.{any, every, noTwo};
+ghost use Rattle.claim.specs.Candidates.{isAddress, isWellFormed, padded};
 
 pub fn well_formed(list: &[u8]) -> bool
     ensures { λ r. ⌜ r ≡ isWellFormed (now (list .entry)) ⌝ }
@@ -22,7 +25,7 @@ pub fn well_formed(list: &[u8]) -> bool
 }
 
 fn addresses(list: &[u8]) -> bool
-    ensures { λ r. ⌜ r ≡ areAddresses (now (list .entry)) ⌝ }
+    ensures { λ r. ⌜ r ≡ every isAddress (now (list .entry)) ⌝ }
 {
     let mut i: usize = 0;
     while i < list.len() {
@@ -35,7 +38,7 @@ fn addresses(list: &[u8]) -> bool
 }
 
 fn distinct(list: &[u8]) -> bool
-    ensures { λ r. ⌜ r ≡ areDistinct (now (list .entry)) ⌝ }
+    ensures { λ r. ⌜ r ≡ noTwo _=?_ (now (list .entry)) ⌝ }
 {
     let mut i: usize = 0;
     while i < list.len() {
@@ -50,7 +53,7 @@ fn distinct(list: &[u8]) -> bool
 // Whether an address does not stand in the list from a position on.
 fn absent(a: u8, list: &[u8], from: usize) -> bool
     requires { ⌜ from ≤ length (now list) ⌝ }
-    ensures { λ r. ⌜ r ≡ isAbsent a (drop from (now (list .entry))) ⌝ }
+    ensures { λ r. ⌜ r ≡ not (any (_=?_ a) (drop from (now (list .entry)))) ⌝ }
 {
     let mut i = from;
     while i < list.len() {

@@ -16,7 +16,7 @@ use Rattle.frame.specs.Standard.{Frame, addressClaimed, dgnAt, everyone, greate
 use Rattle.frame.specs.Promises.{destined}
 use Rattle.frame.specs.declared.Parts.{Parts}
 use Rattle.frame.proofs.Frame.{dgn-read}
-use Rattle.claim.specs.Claim.{keepsRules, holdsList, Stand, held, standOf}
+use Rattle.claim.specs.Claim.{keepsRules, holdsList, Stand, held, standOf, claimFrame}
 use Rattle.claim.specs.Promises.{isSound, soundOf, toldStanding}
 use Rattle.claim.specs.declared.Claim.{Claim}
 use Rattle.claim.specs.declared.Standing.{Standing}
@@ -25,7 +25,7 @@ use Rattle.words.proofs.Words.{both-true}
 use Rattle.command.specs.Hosted.{hosted}
 use Rattle.command.specs.Positions.{positionsWhere, filled, listed}
 use Rattle.command.specs.Handed.{handedIn, addressHeld}
-use Rattle.command.specs.Acknowledgment.{claimFrame, acknowledgmentFrame, acknowledgedOf}
+use Rattle.command.specs.Acknowledgment.{acknowledgmentFrame, acknowledgedOf}
 use Rattle.command.specs.Commands as Commands
 use Rattle.command.specs.Commands.{hasCommand, isMeant, isElsewhere, Outcome, picks, routeOf, routedOf}
 use Rattle.command.specs.Requests as Requests

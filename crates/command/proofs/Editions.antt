@@ -10,7 +10,7 @@ use native.Mathlib.Omega.{arith}
 use borrow.Author.Tests.{eq-eqb, eqb-true, eqb-false, leb-true}
 use lib.ListN.{length, take, getD}
 use lib.Seq.{getD-take, length-take-le}
-use Rattle.words.specs.Words.{if_then_else_, _≤?_, _<?_, _=?_, _and_, _or_, Told, refused, gives, given_then_}
+use Rattle.words.specs.Words.{if_then_else_, _≤?_, _<?_, _=?_, _and_, _or_, Told, refused, gives, given_then_, done}
 use Rattle.words.specs.Lists.{any, every, noTwo}
 use Rattle.frame.specs.Bytes.{numberOf, bytesOf}
 use Rattle.frame.specs.Identifier.{identifierOf, greatestDgn, priorityOf, reservedOf, dgnOf, sourceOf, partsOf, isAddressed, destinationOf, catalogueForm}
@@ -19,14 +19,13 @@ use Rattle.frame.specs.Standard.{Frame, addressClaimed, dgnAt, everyone, noAddr
 use Rattle.frame.specs.declared.Parts.{Parts}
 use Rattle.words.proofs.Words.{by-test, both-true, true-false, before-refusal}
 use Rattle.words.proofs.Lists.{every-at}
-use Rattle.claim.specs.Claim.{keepsRules, holdsList, Stand, held, claiming, silent, standOf}
-use Rattle.claim.specs.Promises.{done}
+use Rattle.claim.specs.Claim.{keepsRules, holdsList, Stand, held, claiming, silent, standOf, claimFrame}
 use Rattle.claim.specs.declared.Claim.{Claim}
 use Rattle.command.specs.Hosted.{mostEntries, blankEntry, isHostedDgn, isEntry, isSamePair, hosted, isWellFormed}
 use Rattle.command.specs.Positions.{positionsWhere, filled, listed}
 use Rattle.command.specs.Handed.{handedIn, addressHeld}
 use Rattle.command.specs.Commands.{routeOf, routedOf}
-use Rattle.command.specs.Acknowledgment.{claimFrame, acknowledgmentFrame, acknowledgmentId, acknowledgmentBytes}
+use Rattle.command.specs.Acknowledgment.{acknowledgmentFrame, acknowledgmentId, acknowledgmentBytes}
 use Rattle.command.specs.Requests as Requests
 use Rattle.command.specs.Requests.{requestedDgn, allInstances, instanceAsked, Asked, askedOf, isOfInstance, supports, isOurAddress, isOurs, nakTo, Reply, claims, supported, nak, unsupported, statusOf, replyOf, answerOf, requestedOf}
 use Rattle.command.specs.Promises.{toldStarting, startedOf, toldRequesting, supportedIn, sentIn}

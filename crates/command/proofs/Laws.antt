@@ -9,7 +9,7 @@ use native.Mathlib.Omega.{arith}
 use borrow.Author.Tests.{ne-eqb, eqb-true}
 use lib.ListN.{length, take, getD, replicate}
 use lib.Seq.{take-at, length-take-le, getD-take}
-use Rattle.words.specs.Words.{if_then_else_, _≤?_, _=?_, _and_, Told, refused, gives, given_then_}
+use Rattle.words.specs.Words.{if_then_else_, _≤?_, _=?_, _and_, Told, refused, gives, given_then_, Done, done}
 use Rattle.words.specs.Lists.{any, every, noTwo}
 use Rattle.frame.specs.Identifier.{greatestDgn, destinationOf, catalogueForm}
 use Rattle.frame.specs.Frame.{checkedOf}
@@ -20,7 +20,6 @@ use Rattle.frame.specs.declared.BadFrame.the-variants.{IdentifierTooLarge, NotE
 use Rattle.words.proofs.Words.{by-test, both-true, before-refusal, refused-gives}
 use Rattle.frame.proofs.Laws as frame-laws
 use Rattle.claim.specs.Claim.{keepsRules, holdsList, standOf}
-use Rattle.claim.specs.Promises.{Done, done}
 use Rattle.claim.specs.declared.Claim.{Claim}
 use Rattle.command.specs.Hosted.{mostEntries, blankEntry, isHostedDgn, isEntry, isSamePair, hosted, isWellFormed, begun}
 use Rattle.command.specs.Handed.{handedIn}

@@ -6,14 +6,10 @@ use Prim.Native.Nat.{ℕ, _+_}
 use Rattle.words.specs.Words.{if_then_else_, _<?_, Told, refused, gives, given_then_}
 use Rattle.frame.specs.Identifier.{identifierOf, greatestDgn}
 use Rattle.frame.specs.Standard.{Frame, acknowledgmentDgn, dgnBytes, greatestAddress, unused}
-use Rattle.claim.specs.Claim.{keepsRules, holdsList, claimId, claimBytes, standOf}
+use Rattle.claim.specs.Claim.{keepsRules, holdsList, standOf}
 use Rattle.claim.specs.declared.Claim.{Claim}
 use Rattle.command.specs.Handed.{addressHeld}
 use Rattle.command.specs.declared.Acknowledgment.{Acknowledgment}
-
--- the frame of our claim, from our address, or from 254 when silent
-abbrev pub claimFrame : Claim → Frame
-claimFrame c = record { id = claimId c; bytes = claimBytes c }
 
 abbrev pub acknowledgmentPriority : ℕ
 acknowledgmentPriority = 6

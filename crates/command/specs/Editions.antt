@@ -13,14 +13,14 @@ use Rattle.frame.specs.Identifier.{greatestDgn, dgnOf, sourceOf, partsOf, desti
 use Rattle.frame.specs.Frame.{checkedOf}
 use Rattle.frame.specs.Standard.{addressClaimed, dgnBytes, everyone, noAddress, requestDgn}
 use Rattle.frame.specs.declared.Parts.{Parts}
-use Rattle.claim.specs.Claim.{held, standOf}
+use Rattle.claim.specs.Claim.{held, standOf, claimFrame}
 use Rattle.claim.specs.Promises.{isSound}
 use Rattle.claim.specs.Laws.{NoFrame}
 use Rattle.claim.specs.declared.Claim.{Claim}
 use Rattle.command.specs.Hosted.{mostEntries, blankEntry, hosted}
 use Rattle.command.specs.Positions.{positionsWhere, filled, listed}
 use Rattle.command.specs.Handed.{handedIn, addressHeld}
-use Rattle.command.specs.Acknowledgment.{claimFrame, acknowledgmentFrame}
+use Rattle.command.specs.Acknowledgment.{acknowledgmentFrame}
 use Rattle.command.specs.Requests.{requestedDgn, allInstances, instanceAsked, askedOf, isOurs, requestedOf}
 use Rattle.command.specs.Requests.{Reply, nothingToDo, claims, supported, nak, unsupported}
 use Rattle.command.specs.Promises.{Start, Route, Request, RequestedBy}

@@ -6,7 +6,7 @@ use mathlib.Core.List.{List, [], _∷_}
 use mathlib.Core.Logic.{_↔_}
 use Prim.Native.Nat.{ℕ, _+_, _≤_, _<_, _%_, _^_}
 use lib.ListN.{length, take, getD}
-use Rattle.words.specs.Words.{refused, gives, numberIn}
+use Rattle.words.specs.Words.{refused, gives, numberIn, done}
 use Rattle.words.specs.Lists.{any}
 use Rattle.frame.specs.Identifier.{identifiers, greatestDgn, dgnOf, sourceOf, partsOf, isAddressed, destinationOf, catalogueForm}
 use Rattle.frame.specs.Frame.{checkedOf}
@@ -15,7 +15,7 @@ use Rattle.frame.specs.Promises.{destined}
 use Rattle.frame.specs.declared.Parts.{Parts}
 use Rattle.frame.specs.declared.Destination.the-variants.{One}
 use Rattle.claim.specs.Claim.{keepsRules, holdsList, claimSource, held, claiming, silent, standOf}
-use Rattle.claim.specs.Promises.{done, isSound}
+use Rattle.claim.specs.Promises.{isSound}
 use Rattle.claim.specs.Laws.{NoFrame}
 use Rattle.claim.specs.declared.Claim.{Claim}
 use Rattle.command.specs.Hosted.{mostEntries, blankEntry, isHostedDgn, hosted, isWellFormed, empty}

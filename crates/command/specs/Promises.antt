@@ -3,10 +3,9 @@
 use mathlib.Core.Path.{_≡_}
 use mathlib.Core.List.{List, []}
 use Prim.Native.Nat.{ℕ}
-use Rattle.words.specs.Words.{if_then_else_, Told, refused, gives, numberIn}
+use Rattle.words.specs.Words.{if_then_else_, Told, refused, gives, numberIn, Done, done}
 use Rattle.frame.specs.Standard.{Frame, noFrame}
 use Rattle.frame.specs.Promises.{refusalOf}
-use Rattle.claim.specs.Promises.{Done, done}
 use Rattle.claim.specs.declared.Claim.{Claim}
 use Rattle.command.specs.Hosted.{isWellFormed, begun, empty}
 use Rattle.command.specs.Positions.{filled, listed}

@@ -9,12 +9,12 @@ use Rattle.words.specs.Lists.{any}
 use Rattle.frame.specs.Identifier.{greatestDgn, destinationOf, catalogueForm}
 use Rattle.frame.specs.Standard.{Frame, addressClaimed, dgnAt, everyone, noAddress, requestDgn}
 use Rattle.frame.specs.declared.Parts.{Parts}
-use Rattle.claim.specs.Claim.{Stand, held, claiming, silent, standOf}
+use Rattle.claim.specs.Claim.{Stand, held, claiming, silent, standOf, claimFrame}
 use Rattle.claim.specs.declared.Claim.{Claim}
 use Rattle.command.specs.Hosted.{hosted}
 use Rattle.command.specs.Positions.{positionsWhere}
 use Rattle.command.specs.Handed.{handedIn, addressHeld}
-use Rattle.command.specs.Acknowledgment.{claimFrame, acknowledgmentFrame}
+use Rattle.command.specs.Acknowledgment.{acknowledgmentFrame}
 use Rattle.command.specs.declared.Acknowledgment.{Acknowledgment}
 use Rattle.command.specs.declared.Edition.{Edition}
 use Rattle.command.specs.declared.Edition.the-variants.{One, Two}

@@ -62,7 +62,7 @@ pub fn refusals(notes: &[u64]) {
           catalogue::Writing::refusal \
           claim::Starting::refusal claim::Hearing::refusal claim::Pausing::refusal claim::Standing::refusal \
           claim::Sending::refusal \
-          nodes::Heard::refusal nodes::LookedUp::refusal nodes::FoundAddress::refusal nodes::Pausing::refusal \
+          nodes::Hearing::refusal nodes::LookedUp::refusal nodes::FoundAddress::refusal nodes::Pausing::refusal \
           nodes::FoundChallenger::refusal \
           command::Starting::refusal command::Routing::refusal command::Requesting::refusal \
           command::Acknowledging::refusal \

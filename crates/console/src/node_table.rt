@@ -13,7 +13,7 @@ use crate::say;
 use crate::state;
 use nodes::FoundAddress;
 use nodes::FoundChallenger;
-use nodes::Heard;
+use nodes::Hearing;
 use nodes::LookedUp;
 use nodes::Node;
 use nodes::Pausing;
@@ -84,12 +84,12 @@ fn heard(notes: &mut [u64], bytes: &[u8]) {
     show(notes);
 }
 
-fn tell(notes: &mut [u64], answer: Heard) {
+fn tell(notes: &mut [u64], answer: Hearing) {
     match answer {
-        Heard::Taken(address) => say::number(b"Taken %", address as u64),
-        Heard::Challenges(address) => say::number(b"Challenges %", address as u64),
-        Heard::HeldByLower(address) => say::number(b"HeldByLower %", address as u64),
-        Heard::BadFrame(why) => frames::bad_frame(notes, why),
+        Hearing::Taken(address) => say::number(b"Taken %", address as u64),
+        Hearing::Challenges(address) => say::number(b"Challenges %", address as u64),
+        Hearing::HeldByLower(address) => say::number(b"HeldByLower %", address as u64),
+        Hearing::BadFrame(why) => frames::bad_frame(notes, why),
         _ => say::word(
             b"Silent NothingToDo TableTooShort BrokenTable",
             number(answer),
@@ -97,11 +97,11 @@ fn tell(notes: &mut [u64], answer: Heard) {
     }
 }
 
-fn number(answer: Heard) -> usize {
+fn number(answer: Hearing) -> usize {
     match answer {
-        Heard::Silent => 0,
-        Heard::NothingToDo => 1,
-        Heard::TableTooShort => 2,
+        Hearing::Silent => 0,
+        Hearing::NothingToDo => 1,
+        Hearing::TableTooShort => 2,
         _ => 3,
     }
 }
@@ -121,7 +121,7 @@ fn tell_pause(answer: Pausing) {
     match answer {
         Pausing::Replaced(count) => say::number(b"Replaced #", count as u64),
         Pausing::TableTooShort => say::text(b"TableTooShort"),
-        Pausing::BrokenTable => say::text(b"BrokenTable"),
+        Pausing::BrokenState => say::text(b"BrokenTable"),
     }
 }
 
@@ -131,7 +131,7 @@ fn looked_up(notes: &mut [u64]) {
         LookedUp::Present(name) => say::number(b"Present @", name),
         LookedUp::Absent => say::text(b"Absent"),
         LookedUp::TableTooShort => say::text(b"TableTooShort"),
-        LookedUp::BrokenTable => say::text(b"BrokenTable"),
+        LookedUp::BrokenState => say::text(b"BrokenTable"),
     }
     say::end(notes, notes::NODES_LOOKED_UP, answer.refusal());
 }
@@ -142,7 +142,7 @@ fn found_address(notes: &mut [u64]) {
         FoundAddress::At(address) => say::number(b"At %", address as u64),
         FoundAddress::NoAddress => say::text(b"NoAddress"),
         FoundAddress::TableTooShort => say::text(b"TableTooShort"),
-        FoundAddress::BrokenTable => say::text(b"BrokenTable"),
+        FoundAddress::BrokenState => say::text(b"BrokenTable"),
     }
     say::end(notes, notes::NODES_FOUND_ADDRESS, answer.refusal());
 }
@@ -150,10 +150,10 @@ fn found_address(notes: &mut [u64]) {
 fn found_challenger(notes: &mut [u64]) {
     let answer = find_challenger(table(notes), lent(notes), get_u8(notes, notes::FIRST));
     match answer {
-        FoundChallenger::Waits(name, wait) => waits(name, wait),
+        FoundChallenger::Waits { name, wait } => waits(name, wait),
         FoundChallenger::NoChallenger => say::text(b"NoChallenger"),
         FoundChallenger::TableTooShort => say::text(b"TableTooShort"),
-        FoundChallenger::BrokenTable => say::text(b"BrokenTable"),
+        FoundChallenger::BrokenState => say::text(b"BrokenTable"),
     }
     say::end(notes, notes::NODES_FOUND_CHALLENGER, answer.refusal());
 }
@@ -166,7 +166,7 @@ fn waits(name: u64, wait: u16) {
 // A table after a frame, and what was answered.
 struct After {
     table: [Node; 300],
-    answer: Heard,
+    answer: Hearing,
 }
 
 // The first `size` records of a table hear a frame.
@@ -179,7 +179,7 @@ fn hear(table: [Node; 300], size: usize, id: u32, bytes: &[u8]) -> After
     left(lent, answer)
 }
 
-fn left(table: [Node; 300], answer: Heard) -> After
+fn left(table: [Node; 300], answer: Hearing) -> After
     ensures { λ r. ⌜ (r .table ≡ table) × (r .answer ≡ answer) ⌝ }
 {
     After { table, answer }

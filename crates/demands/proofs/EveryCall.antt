@@ -86,7 +86,7 @@ use Rattle.nodes.proofs.pause.Met as nodes-pause
 use Rattle.nodes.proofs.look_up.Met as nodes-look-up
 use Rattle.nodes.proofs.find_address.Met as nodes-find-address
 use Rattle.nodes.proofs.find_challenger.Met as nodes-find-challenger
-use Rattle.nodes.proofs.Heard.refusal.Met as nodes-heard-refusal
+use Rattle.nodes.proofs.Hearing.refusal.Met as nodes-hearing-refusal
 use Rattle.nodes.proofs.Pausing.refusal.Met as nodes-pausing-refusal
 use Rattle.nodes.proofs.LookedUp.refusal.Met as nodes-looked-up-refusal
 use Rattle.nodes.proofs.FoundAddress.refusal.Met as nodes-found-address-refusal
@@ -722,13 +722,13 @@ every-call M =
         one-answer = λ κs a r s w v h k. (Nodes.find-challenger-only (now (a .0)) (a .1 .0) r s h k, refl);
         only = Nodes.find-challenger-only;
       };
-      nodes-heard-refusal = record {
-        meets = nodes-heard-refusal.met;
+      nodes-hearing-refusal = record {
+        meets = nodes-hearing-refusal.met;
         asks-nothing = free;
-        Promise = λ κs a r e. nodes-promises.HeardRefusal (a .0) r;
+        Promise = λ κs a r e. nodes-promises.HearingRefusal (a .0) r;
         promises = λ 𝓤 H A mem run κs a ghost r. refl;
-        one-answer = λ κs a r s w v h k. (Nodes.heard-refusal-only (a .0) r s h k, refl);
-        only = Nodes.heard-refusal-only;
+        one-answer = λ κs a r s w v h k. (Nodes.hearing-refusal-only (a .0) r s h k, refl);
+        only = Nodes.hearing-refusal-only;
       };
       nodes-pausing-refusal = record {
         meets = nodes-pausing-refusal.met;

@@ -326,7 +326,7 @@ claim-laws =
 nodes-laws : NodesLaws
 nodes-laws =
     record {
-      told-heard-same = Nodes.told-heard-same;
+      told-hearing-same = Nodes.told-hearing-same;
       told-pausing-same = Nodes.told-pausing-same;
       told-looked-up-same = Nodes.told-looked-up-same;
       told-found-address-same = Nodes.told-found-address-same;
@@ -337,7 +337,7 @@ nodes-laws =
       look-up-only = Nodes.look-up-only;
       find-address-only = Nodes.find-address-only;
       find-challenger-only = Nodes.find-challenger-only;
-      heard-refusal-only = Nodes.heard-refusal-only;
+      hearing-refusal-only = Nodes.hearing-refusal-only;
       pausing-refusal-only = Nodes.pausing-refusal-only;
       looked-up-refusal-only = Nodes.looked-up-refusal-only;
       found-address-refusal-only = Nodes.found-address-refusal-only;

@@ -13,17 +13,17 @@ use Rattle.claim.specs.Promises.{isSound}
 use Rattle.claim.specs.declared.Claim.{Claim}
 use Rattle.nodes.specs.Table.{addresses, keepsRules, claimedOf}
 use Rattle.nodes.specs.Call.{claimOutcome}
-use Rattle.nodes.specs.Promises.{Hear, toldHeard}
+use Rattle.nodes.specs.Promises.{Hear, toldHearing}
 use Rattle.nodes.specs.declared.Node.{Node}
-use Rattle.nodes.specs.declared.Heard.{Heard}
+use Rattle.nodes.specs.declared.Hearing.{Hearing}
 
 -- Whatever frame `claim` says is to be sent (it is the frame of our claim in the state that the call leaves), a table
 -- that hears it is told what a claim of our NAME from our address, or from 254, comes to, and is left as that claim
 -- leaves it.
 abbrev pub ClaimIsHeard : Type 0
 ClaimIsHeard =
-    (c : Claim) (id : ℕ) (bytes : List ℕ) (table after : List Node) (r : Heard)
+    (c : Claim) (id : ℕ) (bytes : List ℕ) (table after : List Node) (r : Hearing)
     → isSound c ≡ true → c .name < 256 ^ frameBytes → OurFrameOf c id bytes
     → addresses ≤ length table → keepsRules (take addresses table) ≡ true → Hear table id bytes r after
-    → (toldHeard r ≡ gives (claimOutcome (take addresses table) (record { source = claimSource c; name = c .name })))
+    → (toldHearing r ≡ gives (claimOutcome (take addresses table) (record { source = claimSource c; name = c .name })))
     × (after ≡ claimedOf (record { source = claimSource c; name = c .name }) table)

@@ -94,7 +94,7 @@ use Rattle.nodes.proofs.pause as nodes-pause
 use Rattle.nodes.proofs.look_up as nodes-look-up
 use Rattle.nodes.proofs.find_address as nodes-find-address
 use Rattle.nodes.proofs.find_challenger as nodes-find-challenger
-use Rattle.nodes.proofs.Heard.refusal as nodes-heard-refusal
+use Rattle.nodes.proofs.Hearing.refusal as nodes-hearing-refusal
 use Rattle.nodes.proofs.Pausing.refusal as nodes-pausing-refusal
 use Rattle.nodes.proofs.LookedUp.refusal as nodes-looked-up-refusal
 use Rattle.nodes.proofs.FoundAddress.refusal as nodes-found-address-refusal
@@ -340,9 +340,9 @@ module _ (M : Type 1) where
     pub nodes-find-challenger :
         Answers nodes-find-challenger.ended nodes-find-challenger.Symbol.routine nodes-find-challenger.spec
         Nodes.FindChallengerOnly
-    pub nodes-heard-refusal :
-        Answers nodes-heard-refusal.ended nodes-heard-refusal.Symbol.routine nodes-heard-refusal.spec
-        Nodes.HeardRefusalOnly
+    pub nodes-hearing-refusal :
+        Answers nodes-hearing-refusal.ended nodes-hearing-refusal.Symbol.routine nodes-hearing-refusal.spec
+        Nodes.HearingRefusalOnly
     pub nodes-pausing-refusal :
         Answers nodes-pausing-refusal.ended nodes-pausing-refusal.Symbol.routine nodes-pausing-refusal.spec
         Nodes.PausingRefusalOnly

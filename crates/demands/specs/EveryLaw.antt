@@ -292,7 +292,7 @@ pub record ClaimLaws : Type 0 where
   pub lowest-wins : (id : ℕ) (bytes : List ℕ) (c : Claim) → Claims.LowestWins id bytes c
 
 pub record NodesLaws : Type 0 where
-  pub told-heard-same : Nodes.ToldHeardSame
+  pub told-hearing-same : Nodes.ToldHearingSame
   pub told-pausing-same : Nodes.ToldPausingSame
   pub told-looked-up-same : Nodes.ToldLookedUpSame
   pub told-found-address-same : Nodes.ToldFoundAddressSame
@@ -303,7 +303,7 @@ pub record NodesLaws : Type 0 where
   pub look-up-only : Nodes.LookUpOnly
   pub find-address-only : Nodes.FindAddressOnly
   pub find-challenger-only : Nodes.FindChallengerOnly
-  pub heard-refusal-only : Nodes.HeardRefusalOnly
+  pub hearing-refusal-only : Nodes.HearingRefusalOnly
   pub pausing-refusal-only : Nodes.PausingRefusalOnly
   pub looked-up-refusal-only : Nodes.LookedUpRefusalOnly
   pub found-address-refusal-only : Nodes.FoundAddressRefusalOnly

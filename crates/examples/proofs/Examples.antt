@@ -25,7 +25,7 @@ use Rattle.message.specs.declared.Place.{Place}
 use Rattle.catalogue.specs.Classes.{classAt}
 use Rattle.catalogue.specs.Scale.{scaledOf}
 use Rattle.demands.proofs.LongReceiver.{paused-places, seat-idled, frame-agrees, heardBy, heard-kept-rules, restedBy, rested-kept-rules, starts-keep}
-use Rattle.claim.specs.Candidates.{isWellFormed, areAddresses, isAbsent, areDistinct}
+use Rattle.claim.specs.Candidates.{isWellFormed}
 use Rattle.claim.specs.Claim.{keepsRules as keepsClaimRules, holdsList, held, standOf}
 use Rattle.claim.specs.Promises.{isSound}
 use Rattle.command.specs.Acknowledgment.{acknowledgedOf}
@@ -77,7 +77,7 @@ long = refl
 -- example (11)
 
 sound : isSound holding9C ≡ true
-unfolding keepsClaimRules holdsList isWellFormed areAddresses isAbsent areDistinct
+unfolding keepsClaimRules holdsList isWellFormed
 sound = refl
 
 holds : standOf holding9C ≡ held 0x9C

@@ -9,7 +9,7 @@ use borrow.Author.Tests.{leb-false, lt-leb, le-leb}
 use lib.IntN.{pos}
 use lib.ListN.{length, getD}
 use lib.Pow.{pow-pos}
-use Rattle.words.specs.Words.{_≤?_, Told, refused, gives}
+use Rattle.words.specs.Words.{_≤?_, Told, refused, gives, done}
 use Rattle.frame.specs.Bytes.{numberOf, AreBytes}
 use Rattle.frame.specs.Identifier.{catalogueForm}
 use Rattle.frame.specs.Frame.{frameBytes}
@@ -23,7 +23,7 @@ use Rattle.catalogue.specs.Classes.{classIn}
 use Rattle.catalogue.specs.Scale.{scaledOf, valueOf}
 use Rattle.catalogue.specs.Codes.{codeOf}
 use Rattle.catalogue.specs.Catalogue.{fieldIn, openedFor, readRowOf, writtenRowOf, replaced}
-use Rattle.catalogue.specs.Promises.{toldWriting, doneIf, bytesAfter, done}
+use Rattle.catalogue.specs.Promises.{toldWriting, doneIf, bytesAfter}
 use Rattle.catalogue.specs.Laws.{fieldAt}
 use Rattle.catalogue.specs.declared.Row.{Row}
 use Rattle.catalogue.specs.declared.Field.{Field}

@@ -12,7 +12,7 @@ use Rattle.frame.specs.Bytes.{numberOf}
 use Rattle.words.proofs.Words.{by-test}
 use Rattle.words.specs.declared.Found.{Found}
 use Rattle.words.specs.declared.Found.the-variants.{At, Nowhere}
-use Rattle.claim.specs.Candidates.{areAddresses, isAbsent, areDistinct, isWellFormed, padded}
+use Rattle.claim.specs.Candidates.{isWellFormed, padded}
 use Rattle.claim.specs.Claim.{keepsRules as claimKeepsRules, Stand, held, claiming, silent, standOf, holdsList}
 use Rattle.claim.specs.Promises.{soundOf}
 use Rattle.claim.specs.declared.Claim.{Claim}
@@ -126,7 +126,7 @@ unfolding keepsRules addedOf addedAt isAllowed isZero placeKeepsRules numberOf
 last-place = refl
 
 pub sharp : Sharp
-unfolding keepsRules addedOf addedAt isAllowed isZero placeKeepsRules numberOf passed longer longestDue chosen heldStep steppedOf standing soundOf claimKeepsRules holdsList areAddresses isAbsent areDistinct isWellFormed padded standOf addressHeld
+unfolding keepsRules addedOf addedAt isAllowed isZero placeKeepsRules numberOf passed longer longestDue chosen heldStep steppedOf standing soundOf claimKeepsRules holdsList isWellFormed padded standOf addressHeld
 sharp =
     record {
       start = begun zeros;

@@ -21,7 +21,7 @@ use Rattle.frame.proofs.Frame.{source-low}
 use Rattle.words.specs.declared.Found.{Found}
 use Rattle.words.specs.declared.Found.the-variants.{At, Nowhere}
 use Rattle.words.proofs.Lists.{found-at, found-nowhere}
-use Rattle.claim.specs.Candidates.{areAddresses, isAbsent, areDistinct, isWellFormed as isWellFormedList, padded}
+use Rattle.claim.specs.Candidates.{isWellFormed as isWellFormedList, padded}
 use Rattle.claim.specs.Claim.{keepsRules as claimKeepsRules, Stand, held, claiming, silent, standOf, holdsList}
 use Rattle.claim.specs.Promises.{soundOf}
 use Rattle.claim.specs.declared.Claim.{Claim}
@@ -244,9 +244,9 @@ dm-rv-is-sound address h =
     frame-laws.lowest-wins id 8 .sound i refl r a ∙ (λ j. gives (record { priority = e₁ j; dgn = e₂ j; source = e₃ j }))
 
 pub step-example : the.StepExample
-unfolding keepsRules addedOf addedAt isAllowed isZero placeKeepsRules numberOf passed longer longestDue chosen heldStep steppedOf dmRvId identifierOf standing soundOf claimKeepsRules holdsList areAddresses isAbsent areDistinct isWellFormedList padded standOf addressHeld
+unfolding keepsRules addedOf addedAt isAllowed isZero placeKeepsRules numberOf passed longer longestDue chosen heldStep steppedOf dmRvId identifierOf standing soundOf claimKeepsRules holdsList isWellFormedList padded standOf addressHeld
 step-example = refl
 
 pub host-alone : the.HostAlone
-unfolding requestedOf heardOf meantBy answerAt isForUs replyBytes keepsRules placeKeepsRules isZero numberOf standing soundOf claimKeepsRules holdsList isWellFormedList areAddresses isAbsent areDistinct padded standOf addressHeld checkedOf sourceAllowed reservedOf dgnOf sourceOf priorityOf isAddressed catalogueForm destinationOf dgnAt hostRequestedOf handedIn answerOf replyOf isOurs isOurAddress statusOf supports isWellFormed requestedDgn instanceAsked
+unfolding requestedOf heardOf meantBy answerAt isForUs replyBytes keepsRules placeKeepsRules isZero numberOf standing soundOf claimKeepsRules holdsList isWellFormedList padded standOf addressHeld checkedOf sourceAllowed reservedOf dgnOf sourceOf priorityOf isAddressed catalogueForm destinationOf dgnAt hostRequestedOf handedIn answerOf replyOf isOurs isOurAddress statusOf supports isWellFormed requestedDgn instanceAsked
 host-alone = record { refuses = refl; sender-answers = refl }

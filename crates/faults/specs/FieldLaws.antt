@@ -5,7 +5,7 @@ use mathlib.Core.List.{List, [], _∷_}
 use mathlib.Core.Logic.{_⊎_}
 use Prim.Native.Nat.{ℕ, _/_, _≤_, _<_}
 use lib.ListN.{length, getD}
-use Rattle.words.specs.Words.{refused, gives}
+use Rattle.words.specs.Words.{refused, gives, done}
 use Rattle.frame.specs.Bytes.{numberOf, AreBytes}
 use Rattle.frame.specs.Frame.{checkedOf}
 use Rattle.frame.specs.declared.Parts.{Parts}
@@ -15,7 +15,7 @@ use Rattle.catalogue.specs.Field.{fieldOf}
 use Rattle.catalogue.specs.Classes.{classIn}
 use Rattle.catalogue.specs.Codes.{codeOf}
 use Rattle.catalogue.specs.Catalogue.{fieldIn}
-use Rattle.catalogue.specs.Promises.{toldWriting, doneIf, done}
+use Rattle.catalogue.specs.Promises.{toldWriting, doneIf}
 use Rattle.catalogue.specs.Laws.{Ruled, bitOf}
 use Rattle.catalogue.specs.declared.Class.the-variants.{Number, NoData}
 use Rattle.catalogue.specs.declared.Value.{Value}

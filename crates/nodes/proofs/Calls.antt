@@ -43,7 +43,7 @@ use denote.Triple.Walked.{says}
 use Rattle.nodes.specs.declared.Node.{Node}
 use Rattle.nodes.specs.declared.Change.{Change}
 use Rattle.nodes.specs.Table.{addresses, eachFrom}
-use Rattle.nodes.specs.Inside.{afterOf, recordsOf}
+use Rattle.nodes.specs.Private.{afterOf, recordsOf}
 use Rattle.nodes.proofs.Change as K
 use Rattle.nodes.proofs.Change.Laws as K′
 use Rattle.nodes.proofs.Record.{R, C, change-vals, change-val, AR}

@@ -10,28 +10,29 @@ use native.Mathlib.Omega.{arith}
 use lib.ListN.{length, getD, take}
 use lib.Dec.{ltb, eqb}
 use borrow.Author.Tests.{eqb-true, eqb-false, ltb-true, ltb-false}
-use Rattle.words.specs.Words.{Told, refused, gives}
+use Rattle.words.specs.Words.{_=?_, Told, refused, gives}
 use Rattle.frame.specs.Bytes.{numberOf}
 use Rattle.frame.specs.Frame.{checkedOf}
-use Rattle.frame.specs.Standard.{greatestAddress}
+use Rattle.frame.specs.Standard.{greatestAddress, claimDgn}
 use Rattle.frame.specs.declared.Parts.{Parts}
 use Rattle.words.proofs.Words.{gives-same, true-false, by-test}
 use Rattle.nodes.specs.Table.{addresses, takesAfter, absent, held, challenged, unchallengedOf, hasName, isChallenged, hasChallenger, givesWay, mayChallenge, clearedOf, claimedAt}
-use Rattle.nodes.specs.Call.{Asked, nothing, claims, pauses, challenges, holder, holderOf, Rival, rival, noRival, rivalOf, claimOutcome, answerOf, heardOf, sourceRecord}
+use Rattle.nodes.specs.Call.{challenges, holder, holderOf, Rival, rival, noRival, rivalOf, claimOutcome, heardOf, sourceRecord, claimIn, heardBy}
 use Rattle.nodes.specs.Promises.{LookUp, FindChallenger}
 use Rattle.nodes.specs.Laws.{ClaimAt}
+use Rattle.nodes.specs.Runs.{Said, nothing, claims, pauses, saidOf}
 use Rattle.nodes.specs.Runs.{Call, hearing, pausing, Leads, Ran, no-call, a-call, saidIn, saidBy, recordAfter, recordAfterAll, Sound, Quiet, AllQuiet, waited, waitedIn, Challenge, ChallengeWaits, ChallengeTakes, HolderLeaves, TakesOnlySo, ChallengeEntered, Undisputed, AllUndisputed, HolderStays}
 use Rattle.nodes.specs.declared.Node.{Node}
 use Rattle.nodes.specs.declared.Claim.{Claim}
 use Rattle.nodes.specs.declared.LookedUp.the-variants.{Present}
 use Rattle.nodes.specs.declared.FoundChallenger.the-variants.{Waits, NoChallenger}
 use Rattle.nodes.proofs.Blank.{empty-keeps-rules, empty-has-no-challenger}
-use Rattle.nodes.proofs.Call.{asked-sound}
+use Rattle.nodes.proofs.Call.{heard-sound, heard-claim}
 use Rattle.nodes.proofs.Find.{getD-front, holder-held}
 use Rattle.nodes.proofs.Kept.{facts-here}
 use Rattle.nodes.proofs.Runs.{Left, leads-left, run-by-record}
 use Rattle.nodes.proofs.Sentences.{no-holder, no-challenger, challenged-present, every-sentence}
-use Rattle.nodes.proofs.Shown.{held-alone, looked-here, rival-here, rival-is, no-rival-is, Shows, holder-shown, rival-shown, no-rival-of, outcome-challenges, claims-name, Entered, challenge-entered-at, waiting-challenged}
+use Rattle.nodes.proofs.Shown.{held-alone, looked-here, rival-here, rival-is, no-rival-is, Shows, holder-shown, rival-shown, no-rival-of, outcome-challenges, Entered, challenge-entered-at, waiting-challenged}
 use Rattle.nodes.proofs.Sound.{Facts, of-facts, has-name-of, zero-of, of-zero, has-challenger-of, not-stands, vacated-challenged, vacated-alone, cleared-holder, cleared-challenger, cleared-none, entered-taken, entered-challenges, entered-not, not-may, unchallenged-alone, elsewhere, here, paused-alone, paused-waits, paused-takes}
 
 -- ---- the record of a holder p and its challenger c, who has waited w
@@ -74,7 +75,7 @@ module _ (p c w : ℕ) (l : p < c) where
         (not-stands (claim .name) (waiting p c w) (no-holder (claim .name) (waiting p c w) (λ x. q .0 (sym x)))
         (no-challenger (claim .name) (waiting p c w) (λ s x. q .1 (sym x)))))
 
-    quiet-step : (s : Asked) → Quiet p c a s → w + waited s < takesAfter
+    quiet-step : (s : Said) → Quiet p c a s → w + waited s < takesAfter
         → recordAfter s a (waiting p c w) ≡ waiting p c (w + waited s)
     quiet-step nothing q h = ap (waiting p c) (let e : w ≡ w + 0 = omega arith in e)
     quiet-step (claims claim) q h = quiet-claim claim q ∙ ap (waiting p c) (let e : w ≡ w + 0 = omega arith in e)
@@ -137,12 +138,12 @@ module _ (p c w : ℕ) (l : p < c) where
         let o : p ≡ c = sym (ap (λ (x : Node). x .name) k) ∙ h in
         absurd (omega (arith, o))))
 
-    abbrev Taking : Asked → Type 0
+    abbrev Taking : Said → Type 0
     Taking s =
         ((ms : ℕ) × (s ≡ pauses ms) × (takesAfter ≤ w + ms))
         ⊎ ((claim : Claim) × (s ≡ claims claim) × (claim .name ≡ p) × (claim .source ≡ a → ⊥))
 
-    only-step : (s : Asked) → recordAfter s a (waiting p c w) .name ≡ c → Taking s
+    only-step : (s : Said) → recordAfter s a (waiting p c w) .name ≡ c → Taking s
     only-step nothing h = absurd (omega (arith, h))
     only-step (pauses ms) h =
         by-test (ltb (w + ms) takesAfter)
@@ -154,7 +155,7 @@ module _ (p c w : ℕ) (l : p < c) where
         by-test (eqb a (claim .source)) (λ t. absurd (only-here claim (eqb-true _ _ t) h))
         (λ t. let e = eqb-false a (claim .source) t in inr (claim, refl, only-elsewhere claim e h, (λ x. e (sym x))))
 
-quiet-run : (p c a : ℕ) → p < c → (ss : List Asked) (w : ℕ) → AllQuiet p c a ss → w + waitedIn ss < takesAfter
+quiet-run : (p c a : ℕ) → p < c → (ss : List Said) (w : ℕ) → AllQuiet p c a ss → w + waitedIn ss < takesAfter
     → recordAfterAll ss a (waiting p c w) ≡ waiting p c (w + waitedIn ss)
 quiet-run p c a l [] w q h = ap (waiting p c) (let e : w ≡ w + 0 = omega arith in e)
 quiet-run p c a l (s ∷ ss) w q h =
@@ -266,7 +267,7 @@ pub holder-leaves : HolderLeaves
 holder-leaves a p c w end k id bytes r next claim h e n d =
     let s = stands-on a p c w end k in
     taken-over a p c w end k (hearing id bytes) next (r, h)
-    (ap (λ (x : Asked). recordAfter x a (waiting p c w)) e ∙ holder-left p c w (s .lower) (k .below) a claim (n, d))
+    (ap (λ (x : Said). recordAfter x a (waiting p c w)) e ∙ holder-left p c w (s .lower) (k .below) a claim (n, d))
 
 pub takes-only-so : TakesOnlySo
 takes-only-so a p c w end k call next h u =
@@ -283,7 +284,7 @@ undisputed-claim p a claim u =
     ∙ cleared-none (claim .name) (held p) (no-holder (claim .name) (held p) (λ x. u .1 (sym x)))
     (no-challenger (claim .name) (held p) (λ t x. true-false (sym t ∙ held-alone p)))
 
-undisputed-run : (p a : ℕ) (ss : List Asked) → AllUndisputed p a ss → recordAfterAll ss a (held p) ≡ held p
+undisputed-run : (p a : ℕ) (ss : List Said) → AllUndisputed p a ss → recordAfterAll ss a (held p) ≡ held p
 undisputed-run p a [] u = refl
 undisputed-run p a (nothing ∷ ss) u = undisputed-run p a ss (u .1)
 undisputed-run p a (claims claim ∷ ss) u =
@@ -316,7 +317,7 @@ holder-stays a p table end calls h n r u =
 
 -- One saying, at a sound record: whoever is the challenger after it was entered by it, or was the challenger before and
 -- was left alone.
-data Source (a : ℕ) (n : Node) (s : Asked) (after : Node) : Type 0 where
+data Source (a : ℕ) (n : Node) (s : Said) (after : Node) : Type 0 where
   enters : (claim : Claim) → s ≡ claims claim → claim .source ≡ a
       → givesWay (claim .name) (clearedOf (claim .name) n) ≡ false
       → mayChallenge (claim .name) (clearedOf (claim .name) n) ≡ true → after .challenger ≡ claim .name
@@ -378,7 +379,7 @@ module _ (a : ℕ) (n : Node) (f : Facts n) where
           let w : n .wait ≡ n .wait + 0 = omega arith in
           goes-on (x .3) (ap (λ (z : Node). z .challenger) y) (ap (λ (z : Node). z .wait) y ∙ w) (x .1, x .2, o (x .0))
 
-  said-source : (s : Asked) → isChallenged (recordAfter s a n) ≡ true → Source a n s (recordAfter s a n)
+  said-source : (s : Said) → isChallenged (recordAfter s a n) ≡ true → Source a n s (recordAfter s a n)
   said-source nothing t = let w : n .wait ≡ n .wait + 0 = omega arith in goes-on t refl w tt
   said-source (claims claim) t = claim-source claim t
   said-source (pauses ms) t =
@@ -429,6 +430,31 @@ goes-on-by a p c w end next call k h q b =
     }
 
 -- a claim that is entered as a challenge was answered so
+-- what a frame says is what is heard of it
+
+nothing-claims : {c : Claim} → nothing ≡ claims c → ⊥
+nothing-claims e = let z : _≡_ {A = ℕ} 0 1 = cc in omega arith
+
+said-claim : (p : Parts) (bytes : List ℕ) (c : Claim) → saidOf p bytes ≡ claims c
+    → (p .dgn =? claimDgn ≡ true) × (claimIn p bytes ≡ c)
+unfolding saidOf
+said-claim p bytes c e =
+    by-test (p .dgn =? claimDgn)
+    (λ t. (t, same (rw t at e)))
+    (λ t. absurd (nothing-claims (rw t at e)))
+  where
+    same : claims (claimIn p bytes) ≡ claims c → claimIn p bytes ≡ c
+    same d = cc
+
+claims-name : (p : Parts) (bytes : List ℕ) (c : Claim) → saidOf p bytes ≡ claims c → c .name ≡ numberOf bytes
+claims-name p bytes c e = sym (ap (λ (x : Claim). x .name) (said-claim p bytes c e .1))
+
+heard-said : (p : Parts) (bytes : List ℕ) (records : List Node) (c : Claim) → saidOf p bytes ≡ claims c
+    → heardBy p bytes records ≡ claimOutcome records c
+heard-said p bytes records c e =
+    let k = said-claim p bytes c e in
+    heard-claim p bytes records (k .0) ∙ ap (claimOutcome records) (k .1)
+
 module _ (table : List Node) (s : Sound table) (a : ℕ) (low : a < addresses) (claim : Claim) (at : claim .source ≡ a)
     (g : givesWay (claim .name) (clearedOf (claim .name) (getD table a absent)) ≡ false)
     (m : mayChallenge (claim .name) (clearedOf (claim .name) (getD table a absent)) ≡ true) where
@@ -452,7 +478,8 @@ module _ (table : List Node) (s : Sound table) (a : ℕ) (low : a < addresses) (
       → (heardOf table id bytes ≡ gives (challenges a)) × (claim .name ≡ numberOf bytes)
   answered id bytes (refused n) e d = let z : _≡_ {A = ℕ} 0 1 = cc in absurd (omega arith)
   answered id bytes (gives p) e d = (
-    ap (answerOf records) (asked-sound _ _ id bytes (s .enough) (s .rules) p e ∙ ap gives d) ∙ ap gives outcome-is,
+    heard-sound table id bytes (s .enough) (s .rules) p e .0
+        ∙ ap gives (heard-said p bytes records claim d ∙ outcome-is),
     claims-name p bytes claim d,
   )
 
@@ -539,5 +566,5 @@ challenge-entered r behind end calls e ran a c w found =
     (λ a′ c′ w′ f. absurd (nobody a′ c′ w′ (sym (empty-has-no-challenger r behind a′ e)
     ∙ sym (f .answer)))) ran a c w found
   where
-    nobody : (a′ c′ w′ : ℕ) → _≡_ {A = Told Rival} (gives noRival) (gives (rival c′ w′)) → ⊥
+    nobody : (a′ c′ w′ : ℕ) → _≡_ {A = Told Rival} (gives noRival) (gives (rival (record { name = c′; wait = w′ }))) → ⊥
     nobody a′ c′ w′ d = let z : _≡_ {A = ℕ} 0 1 = cc in omega arith

@@ -11,7 +11,7 @@ use lib.Dec.{ltb}
 use borrow.Author.Tests.{ltb-false}
 use Rattle.words.specs.Words.{if_then_else_}
 use Rattle.nodes.specs.Table.{addresses, absent, emptyTable}
-use Rattle.nodes.specs.Inside.{readableOf, recordsOf}
+use Rattle.nodes.specs.Private.{readableOf, recordsOf}
 use Rattle.nodes.specs.declared.Node.{Node}
 
 -- the first i records of ys, and the rest of `out`

@@ -1,84 +1,84 @@
 -- The loops that judge a table: what a turn shows of the rules.
 -- Assumes nothing.
-use mathlib.Core.Path.{_≡_, sym, ap, _∙_}
-use mathlib.Core.Bool.{true, false}
-use mathlib.Core.List.{List, map}
+use mathlib.Core.Path.{_≡_, refl, _∙_}
+use mathlib.Core.Bool.{Bool, true, false}
+use mathlib.Core.List.{List, [], _∷_}
 use Prim.Native.Nat.{ℕ, _+_, _<_, _≤_}
 use native.Mathlib.Numerals.{add-one}
 use native.Mathlib.Omega.{arith}
-use lib.ListN.{length, getD, drop, drop-of-length-le, length-map}
+use lib.ListN.{length, getD, drop, drop-of-length-le}
 use lib.Seq.{drop-cons}
-use lib.Dec.{ltb, eqb}
+use lib.Dec.{eqb}
 use borrow.Author.Tests.{eqb-true}
-use Rattle.words.specs.Words.{_and_}
-use Rattle.words.proofs.Words.{both-true, by-test}
-use Rattle.nodes.specs.Table.{takesAfter, absent, isChallenged, stands, standsIn, soundChallenge, soundRecord, holderAgain, challengerAgain, standsAgain, keepsRules, replacesOf, replacedIn}
+use Rattle.words.specs.Words.{if_then_else_, _and_, _or_}
+use Rattle.words.specs.Lists.{any, every}
+use Rattle.words.proofs.Words.{both-true}
+use Rattle.words.proofs.Lists.{every-pass, every-stop, every-end, no-two-pass, no-two-stop, no-two-end}
+use Rattle.nodes.specs.Table.{absent, isChallenged, stands, soundChallenge, soundRecord, sharesName, keepsRules, isReplaced, replacedIn}
 use Rattle.nodes.specs.declared.Node.{Node}
 
--- the length of an array of structs, as the checker knows it of its fields
-pub length-field : (X Y : Type 0) (f : X → Y) (l : List X) (n : ℕ) → length (map f l) ≡ n → length l ≡ n
-length-field X Y f l n e = sym (length-map l f) ∙ e
+-- a record that shares a NAME with none: its holder stands in none, and its challenger does not, each searched by itself
 
--- no record past the last
-pub stands-end : (name : ℕ) (ns : List Node) (i : ℕ) → length ns ≤ i → standsIn name (drop i ns) ≡ false
-unfolding standsIn
-stands-end name ns i h = rw (drop-of-length-le ns h)
+and-false : (a : Bool) → a and false ≡ false
+and-false true = refl
+and-false false = refl
 
-module _ (name : ℕ) (ns : List Node) (i : ℕ) (h : i < length ns) where
-  -- the NAME stands in the record at i
-  pub stands-hit : stands name (getD ns i absent) ≡ true → standsIn name (drop i ns) ≡ true
-  unfolding standsIn
-  stands-hit e = rw (drop-cons ns i absent h, e)
+-- the two searches of a turn, put in order
+apart : (a b f g p q : Bool)
+    → ((a and f) or (b and g)) or ((a and p) or (b and q)) ≡ (a and (f or p)) or (b and (g or q))
+apart false false f g p q = refl
+apart false true f g p q = refl
+apart true false true g p q = refl
+apart true false false g p q = refl
+apart true true true g p q = refl
+apart true true false true true q = refl
+apart true true false true false q = refl
+apart true true false false p q = refl
 
-  -- or the search goes on past it
-  pub stands-turn : stands name (getD ns i absent) ≡ false → standsIn name (drop i ns) ≡ standsIn name (drop (i + 1) ns)
-  unfolding standsIn
-  stands-turn e = rw (add-one, drop-cons ns i absent h, e)
+any-either : (a b : Bool) (f g : Node → Bool) (ns : List Node)
+    → any (λ m. (a and f m) or (b and g m)) ns ≡ (a and any f ns) or (b and any g ns)
+any-either a b f g [] = rw (and-false a, and-false b)
+any-either a b f g (n ∷ ns) = rw (any-either a b f g ns) (apart a b (f n) (g n) (any f ns) (any g ns))
+
+pub again-is : (n : Node) (ns : List Node)
+    → any (sharesName n) ns
+    ≡ (n .present and any (stands (n .name)) ns) or (isChallenged n and any (stands (n .challenger)) ns)
+unfolding sharesName
+again-is n ns = any-either (n .present) (isChallenged n) (stands (n .name)) (stands (n .challenger)) ns
+
+-- the turns
 
 pub rules-end : (ns : List Node) (i : ℕ) → length ns ≤ i → keepsRules (drop i ns) ≡ true
 unfolding keepsRules
-rules-end ns i h = rw (drop-of-length-le ns h)
+rules-end ns i h = rw (every-end soundRecord ns i h, no-two-end sharesName ns i h)
 
 module _ (ns : List Node) (i : ℕ) (h : i < length ns) where
   pub rules-unsound : soundRecord (getD ns i absent) ≡ false → keepsRules (drop i ns) ≡ false
   unfolding keepsRules
-  rules-unsound e = rw (drop-cons ns i absent h, e)
+  rules-unsound e = rw (every-stop soundRecord ns i absent h e)
 
-  pub rules-again : soundRecord (getD ns i absent) ≡ true → standsAgain (getD ns i absent) (drop (i + 1) ns) ≡ true
-      → keepsRules (drop i ns) ≡ false
+  pub rules-again : any (sharesName (getD ns i absent)) (drop (i + 1) ns) ≡ true → keepsRules (drop i ns) ≡ false
   unfolding keepsRules
-  rules-again e a = rw (
-    drop-cons ns i absent h,
-    e,
-    sym
-        (ap (λ (k : ℕ). standsAgain (getD ns i absent) (drop k ns)) (add-one i)) ∙ a,
-  )
+  rules-again a = rw (no-two-stop sharesName ns i absent h a) (and-false (every soundRecord (drop i ns)))
 
-  pub rules-turn : soundRecord (getD ns i absent) ≡ true → standsAgain (getD ns i absent) (drop (i + 1) ns) ≡ false
+  pub rules-turn : soundRecord (getD ns i absent) ≡ true
+      → any (sharesName (getD ns i absent)) (drop (i + 1) ns) ≡ false
       → keepsRules (drop i ns) ≡ keepsRules (drop (i + 1) ns)
   unfolding keepsRules
-  rules-turn e a = rw (
-    add-one,
-    drop-cons ns i absent h,
-    e,
-    sym
-        (ap (λ (k : ℕ). standsAgain (getD ns i absent) (drop k ns)) (add-one i)) ∙ a,
-  )
+  rules-turn e a = rw (every-pass soundRecord ns i absent h e, no-two-pass sharesName ns i absent h a)
 
 -- the loop that counts the challengers that take over: each record adds at most one
-pub replaces-small : (ms : ℕ) (n : Node) → replacesOf ms n ≤ 1
-unfolding replacesOf
-replaces-small ms n =
-    by-test (isChallenged n)
-    (λ e. by-test (ltb (n .wait + ms) takesAfter) (λ l. rw (e, l) (omega arith)) (λ l. rw (e, l) (omega arith)))
-    (λ e. rw e (omega arith))
+
+pub one-at-most : (b : Bool) → (if b then 1 else 0) ≤ 1
+one-at-most true = omega arith
+one-at-most false = omega arith
 
 pub replaced-end : (ms : ℕ) (ns : List Node) (i : ℕ) → length ns ≤ i → replacedIn ms (drop i ns) ≡ 0
 unfolding replacedIn
 replaced-end ms ns i h = rw (drop-of-length-le ns h)
 
 pub replaced-turn : (ms : ℕ) (ns : List Node) (i : ℕ) → i < length ns
-    → replacedIn ms (drop i ns) ≡ replacesOf ms (getD ns i absent) + replacedIn ms (drop (i + 1) ns)
+    → replacedIn ms (drop i ns) ≡ (if isReplaced ms (getD ns i absent) then 1 else 0) + replacedIn ms (drop (i + 1) ns)
 unfolding replacedIn
 replaced-turn ms ns i h = rw (add-one, drop-cons ns i absent h)
 
@@ -95,9 +95,9 @@ module _ (n : Node) (rest : List Node) (s : soundRecord n ≡ true) (p : n .pres
       let b = both-true (eqb (n .name) 0) (eqb (n .challenger) 0 and eqb (n .wait) 0) (rw p at s) in
       eqb-true _ _ (both-true (eqb (n .challenger) 0) (eqb (n .wait) 0) (b .1) .0)
 
-  absent-again : standsAgain n rest ≡ false
-  unfolding standsAgain holderAgain challengerAgain isChallenged
-  absent-again = rw (p, absent-zero)
+  absent-again : any (sharesName n) rest ≡ false
+  unfolding isChallenged
+  absent-again = again-is n rest ∙ rw (p, absent-zero)
 
 pub rules-absent : (ns : List Node) (i : ℕ) → i < length ns → soundRecord (getD ns i absent) ≡ true
     → getD ns i absent .present ≡ false → keepsRules (drop i ns) ≡ keepsRules (drop (i + 1) ns)

@@ -7,7 +7,7 @@ use Prim.Native.Nat.{ℕ, _<_, _≤_}
 use native.Mathlib.Omega.{arith}
 use lib.ListN.{length, getD, take, drop}
 use lib.Dec.{leb, eqb}
-use Rattle.words.specs.Words.{Told, refused, gives}
+use Rattle.words.specs.Words.{_=?_, Told, refused, gives}
 use Rattle.frame.specs.Identifier.{reservedOf, sourceOf, dgnOf, identifiers}
 use Rattle.frame.specs.Frame.{frameBytes, sourceAllowed, checkedOf}
 use Rattle.frame.specs.Standard.{claimDgn}
@@ -16,41 +16,53 @@ use Rattle.frame.specs.declared.Parts.{Parts}
 use Rattle.frame.specs.declared.BadFrame.{BadFrame}
 use Rattle.frame.specs.declared.BadFrame.the-variants as Bad
 use Rattle.words.proofs.Words.{refused-gives, refused-same, by-test}
-use Rattle.nodes.specs.Table.{addresses, absent, replacedIn}
-use Rattle.nodes.specs.Call.{Asked, nothing, claims, pauses, askedBy, claimOutcome, outcomeOf, answerOf, leftBy, heardOf, tableAfter, tablePaused}
-use Rattle.nodes.specs.Promises.{toldHeard}
-use Rattle.nodes.specs.Runs.{Call, hearing, pausing, Leads, no-call, a-call, saidIn, saidBy, recordAfter, recordAfterAll, Sound, RunByRecord, EveryRunRuns}
+use Rattle.nodes.specs.Table.{addresses, absent, claimedOf, pausedOf, replacedIn}
+use Rattle.nodes.specs.Call.{claimIn, claimOutcome, heardBy, leftBy, heardOf, tableAfter, tablePaused}
+use Rattle.nodes.specs.Promises.{toldHearing}
+use Rattle.nodes.specs.Runs.{Call, hearing, pausing, Leads, no-call, a-call, Said, nothing, claims, pauses, saidOf}
+use Rattle.nodes.specs.Runs.{saidIn, saidBy, recordAfter, recordAfterAll, Sound, RunByRecord, EveryRunRuns}
 use Rattle.nodes.specs.declared.Node.{Node}
 use Rattle.nodes.specs.declared.Claim.{Claim}
-use Rattle.nodes.specs.declared.Heard.{Heard}
-use Rattle.nodes.specs.declared.Heard.the-variants as Heard
+use Rattle.nodes.specs.declared.Hearing.{Hearing}
+use Rattle.nodes.specs.declared.Hearing.the-variants as Hearing
 use Rattle.nodes.specs.declared.Pausing.the-variants as Pausing
-use Rattle.nodes.proofs.Call.{asked-bad, asked-sound, pause-sound}
+use Rattle.nodes.proofs.Call.{heard-bad, heard-sound, heard-claim, heard-other, pause-told, pause-left}
 use Rattle.nodes.proofs.Kept.{claimed-length, claimed-past, claimed-keeps, claimed-at, paused-length, paused-past, paused-keeps, paused-at}
 use Rattle.nodes.proofs.Shown.{Came, was-silent, was-taken, was-challenge, was-held, came}
 
 -- ---- one call
 
 -- what one saying leaves of a table that is not refused
-pub record Left (table : List Node) (s : Asked) (after : List Node) : Type 0 where
+pub record Left (table : List Node) (s : Said) (after : List Node) : Type 0 where
   pub kept : Sound after
   pub records : (a : ℕ) → a < addresses → getD after a absent ≡ recordAfter s a (getD table a absent)
   pub past : drop addresses after ≡ drop addresses table
 
+abbrev tableBy : Said → List Node → List Node
+tableBy nothing table = table
+tableBy (claims c) table = claimedOf c table
+tableBy (pauses ms) table = pausedOf ms table
+
+-- what a frame leaves is what it says
+frame-said : (p : Parts) (bytes : List ℕ) (table : List Node) → leftBy p bytes table ≡ tableBy (saidOf p bytes) table
+unfolding leftBy saidOf
+frame-said p bytes table =
+    by-test (p .dgn =? claimDgn)
+    (λ d. rw d)
+    (λ d. rw d)
+
 module _ (table : List Node) (sound : Sound table) where
-  said-left : (s : Asked) → Left table s (leftBy (gives s) table)
+  said-left : (s : Said) → Left table s (tableBy s table)
   said-left nothing = record { kept = sound; records = λ a l. refl; past = refl }
   said-left (claims c) =
-      let l : addresses ≤ length (leftBy (gives (claims c)) table) = omega
-      (arith, claimed-length c table, sound .enough) in
+      let l : addresses ≤ length (claimedOf c table) = omega (arith, claimed-length c table, sound .enough) in
       record {
         kept = record { enough = l; rules = claimed-keeps c table (sound .rules) };
         records = λ a h. claimed-at c table (sound .enough) a h;
         past = claimed-past c table;
       }
   said-left (pauses ms) =
-      let l : addresses ≤ length (leftBy (gives (pauses ms)) table) = omega
-      (arith, paused-length ms table, sound .enough) in
+      let l : addresses ≤ length (pausedOf ms table) = omega (arith, paused-length ms table, sound .enough) in
       record {
         kept = record { enough = l; rules = paused-keeps ms table (sound .rules) };
         records = λ a h. paused-at ms table (sound .enough) a h;
@@ -62,15 +74,15 @@ module _ (table : List Node) (sound : Sound table) where
     heard-left : (t : Told Parts) → checkedOf id (length bytes) ≡ t
         → Left table (saidIn t bytes) (tableAfter table id bytes)
     heard-left (refused n) e =
-        let k = ap (λ (t : Told Asked). leftBy t table) (asked-bad _ _ id bytes (sound .enough) (sound .rules) n e) in
+        let k = heard-bad table id bytes (sound .enough) (sound .rules) n e .1 in
         subst (Left table nothing) (sym k) (said-left nothing)
     heard-left (gives p) e =
-        let k = ap (λ (t : Told Asked). leftBy t table) (asked-sound _ _ id bytes (sound .enough) (sound .rules) p e) in
-        subst (Left table (askedBy p bytes)) (sym k) (said-left (askedBy p bytes))
+        let k = heard-sound table id bytes (sound .enough) (sound .rules) p e .1 ∙ frame-said p bytes table in
+        subst (Left table (saidOf p bytes)) (sym k) (said-left (saidOf p bytes))
 
   paused-left : (ms : ℕ) → Left table (pauses ms) (tablePaused table ms)
   paused-left ms =
-      let k = ap (λ (t : Told Asked). leftBy t table) (pause-sound _ _ ms (sound .enough) (sound .rules)) in
+      let k = pause-left table ms (sound .enough) (sound .rules) in
       subst (Left table (pauses ms)) (sym k) (said-left (pauses ms))
 
   pub leads-left : (call : Call) (after : List Node) → Leads table call after → Left table (saidBy call) after
@@ -94,17 +106,6 @@ run-by-record table end (c ∷ cs) s (a-call t u e call calls h r) =
 
 -- ---- each call has an answer
 
-never-pauses : (p : Parts) (bytes : List ℕ) (ms : ℕ) → askedBy p bytes ≡ pauses ms → ⊥
-unfolding askedBy
-never-pauses p bytes ms e =
-    by-test (eqb (p .dgn) claimDgn) (λ t. differ-claims (rw t at e)) (λ t. differ-nothing (rw t at e))
-  where
-    differ-claims : {c : Claim} → claims c ≡ pauses ms → ⊥
-    differ-claims d = let z : _≡_ {A = ℕ} 0 1 = cc in omega arith
-
-    differ-nothing : nothing ≡ pauses ms → ⊥
-    differ-nothing d = let z : _≡_ {A = ℕ} 0 1 = cc in omega arith
-
 bad-of : (id size n : ℕ) → checkedOf id size ≡ refused n → (w : BadFrame) × (refusalOf w ≡ n)
 unfolding checkedOf
 bad-of id size n e =
@@ -115,46 +116,41 @@ bad-of id size n e =
     (λ w. (Bad.SourceNotAllowed, refused-same (rw (t, u, v, w) at e))))))
 
 outcome-told : (records : List Node) (c : Claim) → Came records c
-    → (r : Heard) × (toldHeard r ≡ gives (claimOutcome records c))
-outcome-told records c (was-silent h o) = (Heard.Silent, ap gives (sym o))
-outcome-told records c (was-taken h g o) = (Heard.Taken (c .source), ap gives (sym o))
-outcome-told records c (was-challenge h g m o) = (Heard.Challenges (c .source), ap gives (sym o))
-outcome-told records c (was-held h g m o) = (Heard.HeldByLower (c .source), ap gives (sym o))
+    → (r : Hearing) × (toldHearing r ≡ gives (claimOutcome records c))
+outcome-told records c (was-silent h o) = (Hearing.Silent, ap gives (sym o))
+outcome-told records c (was-taken h g o) = (Hearing.Taken (c .source), ap gives (sym o))
+outcome-told records c (was-challenge h g m o) = (Hearing.Challenges (c .source), ap gives (sym o))
+outcome-told records c (was-held h g m o) = (Hearing.HeldByLower (c .source), ap gives (sym o))
 
 module _ (table : List Node) (s : Sound table) where
   abbrev records : List Node
   records = take addresses table
 
-  -- no frame says that time passes
-  claim-or-not : (p : Parts) (bytes : List ℕ)
-      → (r : Heard) × (toldHeard r ≡ gives (outcomeOf records (askedBy p bytes)))
-  claim-or-not p bytes = by (askedBy p bytes) refl
-    where
-      by : (a : Asked) → askedBy p bytes ≡ a → (r : Heard) × (toldHeard r ≡ gives (outcomeOf records (askedBy p bytes)))
-      by nothing e = (Heard.NothingToDo, ap (λ (x : Asked). gives (outcomeOf records x)) (sym e))
-      by (claims c) e =
-          let o = outcome-told records c (came records c) in
-          (o .0, o .1 ∙ ap (λ (x : Asked). gives (outcomeOf records x)) (sym e))
-      by (pauses ms) e = absurd (never-pauses p bytes ms e)
+  claim-or-not : (p : Parts) (bytes : List ℕ) → (r : Hearing) × (toldHearing r ≡ gives (heardBy p bytes records))
+  claim-or-not p bytes =
+      by-test (p .dgn =? claimDgn)
+      (λ d. let o = outcome-told records (claimIn p bytes) (came records (claimIn p bytes)) in
+      (o .0, o .1 ∙ sym (ap gives (heard-claim p bytes records d))))
+      (λ d. (Hearing.NothingToDo, sym (ap gives (heard-other p bytes records d))))
 
   heard-some : (id : ℕ) (bytes : List ℕ) (t : Told Parts) → checkedOf id (length bytes) ≡ t
-      → (r : Heard) × (toldHeard r ≡ heardOf table id bytes)
+      → (r : Hearing) × (toldHearing r ≡ heardOf table id bytes)
   heard-some id bytes (refused n) e =
       let b = bad-of id (length bytes) n e in (
-        Heard.BadFrame (b .0),
+        Hearing.BadFrame (b .0),
         ap refused (b .1)
-            ∙ sym (ap (answerOf records) (asked-bad _ _ id bytes (s .enough) (s .rules) n e)),
+            ∙ sym (heard-bad table id bytes (s .enough) (s .rules) n e .0),
       )
   heard-some id bytes (gives p) e =
       let o = claim-or-not p bytes in
-      (o .0, o .1 ∙ sym (ap (answerOf records) (asked-sound _ _ id bytes (s .enough) (s .rules) p e)))
+      (o .0, o .1 ∙ sym (heard-sound table id bytes (s .enough) (s .rules) p e .0))
 
   leads-some : (call : Call) → (after : List Node) × Leads table call after
   leads-some (hearing id bytes) =
       let o = heard-some id bytes (checkedOf id (length bytes)) refl in
       (tableAfter table id bytes, (o .0, record { answer = o .1; table-after = refl }))
   leads-some (pausing ms) =
-      let k = ap (answerOf records) (pause-sound _ _ ms (s .enough) (s .rules)) in
+      let k = pause-told table ms (s .enough) (s .rules) in
       (tablePaused table ms, (Pausing.Replaced (replacedIn ms records), record { answer = sym k; table-after = refl }))
 
 pub every-run-runs : EveryRunRuns

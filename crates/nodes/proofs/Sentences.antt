@@ -6,9 +6,9 @@ use mathlib.Core.Logic.{inl, inr}
 use Prim.Native.Nat.{ℕ, _+_, _<_, _≤_}
 use native.Mathlib.Omega.{arith}
 use lib.Dec.{ltb}
-use borrow.Author.Tests.{ltb-true, ltb-false, lt-ltb, le-ltb}
+use borrow.Author.Tests.{ltb-true, ltb-false, lt-leb, le-leb}
 use Rattle.words.proofs.Words.{true-false, by-test}
-use Rattle.nodes.specs.Table.{takesAfter, held, challenged, unchallengedOf, hasName, isChallenged, hasChallenger, givesWay, clearedOf, enteredOf, replacesOf}
+use Rattle.nodes.specs.Table.{takesAfter, held, challenged, unchallengedOf, hasName, isChallenged, hasChallenger, givesWay, clearedOf, enteredOf, isReplaced}
 use Rattle.nodes.specs.Laws.{EverySentence, ReplacedCounts}
 use Rattle.nodes.specs.declared.Node.{Node}
 use Rattle.nodes.specs.declared.Claim.{Claim}
@@ -120,17 +120,17 @@ every-sentence claim a n s =
 -- ---- a pause
 
 module _ (ms : ℕ) (n : Node) where
-  counts-none : isChallenged n ≡ false → replacesOf ms n ≡ 0
-  unfolding replacesOf
+  counts-none : isChallenged n ≡ false → isReplaced ms n ≡ false
+  unfolding isReplaced
   counts-none e = rw e
 
-  counts-waiting : isChallenged n ≡ true → n .wait + ms < takesAfter → replacesOf ms n ≡ 0
-  unfolding replacesOf
-  counts-waiting e l = rw (e, lt-ltb _ _ l)
+  counts-waiting : isChallenged n ≡ true → n .wait + ms < takesAfter → isReplaced ms n ≡ false
+  unfolding isReplaced
+  counts-waiting e l = rw (e, lt-leb _ _ l)
 
-  counts-one : isChallenged n ≡ true → takesAfter ≤ n .wait + ms → replacesOf ms n ≡ 1
-  unfolding replacesOf
-  counts-one e l = rw (e, le-ltb _ _ l)
+  counts-one : isChallenged n ≡ true → takesAfter ≤ n .wait + ms → isReplaced ms n ≡ true
+  unfolding isReplaced
+  counts-one e l = rw (e, le-leb _ _ l)
 
 pub replaced-counts : ReplacedCounts
 replaced-counts ms n s =

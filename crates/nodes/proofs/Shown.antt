@@ -8,20 +8,22 @@ use Prim.Native.Nat.{ℕ, _<_, _≤_}
 use native.Mathlib.Omega.{arith}
 use lib.ListN.{length, getD, take}
 use lib.Dec.{ltb}
-use borrow.Author.Tests.{ltb-true, ltb-false, lt-ltb, le-ltb, eqb-true, eqb-false, eq-eqb, ne-eqb}
-use Rattle.words.specs.Words.{given_then_, _=?_, Told, refused, gives}
+use borrow.Author.Tests.{ltb-true, ltb-false, lt-ltb, le-ltb}
+use Rattle.words.specs.Words.{gives}
 use Rattle.frame.specs.Bytes.{numberOf}
-use Rattle.frame.specs.Frame.{checkedOf}
-use Rattle.frame.specs.Standard.{greatestAddress, claimDgn}
-use Rattle.frame.specs.declared.Parts.{Parts}
-use Rattle.words.proofs.Words.{past-refusal, before-refusal, refused-gives, gives-same, true-false, by-test}
-use Rattle.nodes.specs.Table.{addresses, absent, held, challenged, isChallenged, givesWay, mayChallenge, clearedOf, enteredOf, claimedOf, stands, keepsRules}
-use Rattle.nodes.specs.Call.{Asked, nothing, claims, pauses, askedBy, askedOf, taken, challenges, heldByLower, silent, sourceRecord, claimOutcome, answerOf, leftBy, heardOf, tableAfter, nobody, holder, holderOf, lookedUpOf, noRival, rival, rivalOf, challengerOf}
+use Rattle.frame.specs.Standard.{greatestAddress}
+use Rattle.words.proofs.Words.{refused-gives, gives-same, true-false, by-test}
+use Rattle.nodes.specs.Table.{addresses, absent, held, challenged, isChallenged, givesWay, mayChallenge, clearedOf}
+use Rattle.nodes.specs.Table.{enteredOf, claimedOf, stands, keepsRules}
+use Rattle.nodes.specs.Call.{nothingToDo, taken, challenges, heldByLower, silent, sourceRecord, claimOutcome, heardOf}
+use Rattle.nodes.specs.Call.{tableAfter, nobody, holder, holderOf, lookedUpOf}
+use Rattle.nodes.specs.Call.{Challenger, Rival, noRival, rival, rivalOf, challengerOf}
 use Rattle.nodes.specs.Laws.{TakenShown, ChallengesShown, HeldShown, TakenFound}
 use Rattle.nodes.specs.declared.Node.{Node}
 use Rattle.nodes.specs.declared.Claim.{Claim}
-use Rattle.nodes.proofs.Call.{looked-past, looked-at, rival-past, rival-at}
-use Rattle.nodes.proofs.Find.{getD-front, table-sound, holder-held, holder-of, found-shown}
+use Rattle.nodes.proofs.Call.{table-passes, table-sound, rival-past, rival-at}
+use Rattle.nodes.proofs.Call.{Claimed, Went, stopped, ignored, claimed, went}
+use Rattle.nodes.proofs.Find.{getD-front, looked-past, looked-at, holder-held, holder-of, found-shown}
 use Rattle.nodes.proofs.Kept.{claimed-length, claimed-keeps, claimed-at, facts-here}
 use Rattle.nodes.proofs.Sound.{Facts, challenged-of, has-challenger-of, stands-challenger, entered-taken, entered-challenges, entered-not, not-may, cleared-facts, above-holder, gone, here}
 
@@ -30,17 +32,18 @@ use Rattle.nodes.proofs.Sound.{Facts, challenged-of, has-challenger-of,
 module _ (table : List Node) (enough : addresses ≤ length table) (keeps : keepsRules (take addresses table) ≡ true)
     (a : ℕ)
     (low : a < addresses) where
-  pub looked-here : lookedUpOf (length table) (take addresses table) a ≡ gives (holderOf (getD table a absent))
+  pub looked-here : lookedUpOf table a ≡ gives (holderOf (getD table a absent))
   looked-here =
       let l : a ≤ greatestAddress = omega arith in
-      looked-at _ _ a enough keeps l ∙ ap (λ (n : Node). gives (holderOf n)) (getD-front addresses a table low)
+      looked-at table a enough keeps l ∙ ap (λ (n : Node). gives (holderOf n)) (getD-front addresses a table low)
 
-  pub rival-here : challengerOf (length table) (take addresses table) a ≡ gives (rivalOf (getD table a absent))
+  pub rival-here : challengerOf table a ≡ gives (rivalOf (getD table a absent))
   rival-here =
       let l : a ≤ greatestAddress = omega arith in
-      rival-at _ _ a enough keeps l ∙ ap (λ (n : Node). gives (rivalOf n)) (getD-front addresses a table low)
+      table-passes table _ enough keeps ∙ ap gives (rival-at (take addresses table) a l)
+      ∙ ap (λ (n : Node). gives (rivalOf n)) (getD-front addresses a table low)
 
-pub rival-is : (n : Node) → isChallenged n ≡ true → rivalOf n ≡ rival (n .challenger) (n .wait)
+pub rival-is : (n : Node) → isChallenged n ≡ true → rivalOf n ≡ rival (record { name = n .challenger; wait = n .wait })
 unfolding rivalOf
 rival-is n e = rw e
 
@@ -48,18 +51,26 @@ pub no-rival-is : (n : Node) → isChallenged n ≡ false → rivalOf n ≡ noRi
 unfolding rivalOf
 no-rival-is n e = rw e
 
-rival-differs : {c w : ℕ} → noRival ≡ rival c w → ⊥
+rival-differs : {r : Challenger} → noRival ≡ rival r → ⊥
 rival-differs e = let z : _≡_ {A = ℕ} 0 1 = cc in omega arith
 
-pub rival-of : (n : Node) (c w : ℕ) → rivalOf n ≡ rival c w
+challengerIn : Rival → Challenger → Challenger
+challengerIn noRival r = r
+challengerIn (rival q) r = q
+
+pub rival-of : (n : Node) (c w : ℕ) → rivalOf n ≡ rival (record { name = c; wait = w })
     → (isChallenged n ≡ true) × (n .challenger ≡ c) × (n .wait ≡ w)
+unfolding challengerIn
 rival-of n c w e =
     by-test (isChallenged n) (λ t. same t (sym (rival-is n t)
     ∙ e)) (λ t. absurd (rival-differs (sym (no-rival-is n t) ∙ e)))
   where
-    same : isChallenged n ≡ true → rival (n .challenger) (n .wait) ≡ rival c w
+    same : isChallenged n ≡ true
+        → rival (record { name = n .challenger; wait = n .wait }) ≡ rival (record { name = c; wait = w })
         → (isChallenged n ≡ true) × (n .challenger ≡ c) × (n .wait ≡ w)
-    same t d = (t, cc, cc)
+    same t d =
+        let q = ap (λ (x : Rival). challengerIn x (record { name = 0; wait = 0 })) d in
+        (t, ap (λ (x : Challenger). x .name) q, ap (λ (x : Challenger). x .wait) q)
 
 pub no-rival-of : (n : Node) → rivalOf n ≡ noRival → isChallenged n ≡ false
 no-rival-of n e = by-test (isChallenged n) (λ t. absurd (rival-differs (sym e ∙ rival-is n t))) (λ t. t)
@@ -72,13 +83,12 @@ pub record Shows (table : List Node) (a : ℕ) : Type 0 where
   pub low : a < addresses
 
 module _ (table : List Node) (a : ℕ) where
-  pub holder-shown : (p : ℕ) → lookedUpOf (length table) (take addresses table) a ≡ gives (holder p)
+  pub holder-shown : (p : ℕ) → lookedUpOf table a ≡ gives (holder p)
       → Shows table a × (getD table a absent .present ≡ true) × (getD table a absent .name ≡ p)
-  unfolding lookedUpOf
   holder-shown p e =
-      let s = table-sound (length table) (take addresses table) _ e in
+      let s = table-sound table _ e in
       by-test (ltb greatestAddress a)
-      (λ t. absurd (differ (gives-same (sym (looked-past _ _ a (s .0) (s .1) (ltb-true _ _ t)) ∙ e))))
+      (λ t. absurd (differ (gives-same (sym (looked-past table a (s .0) (s .1) (ltb-true _ _ t)) ∙ e))))
       (λ t. let h : a ≤ greatestAddress = ltb-false _ _ t in
       let l : a < addresses = omega arith in
       let k = holder-of (getD table a absent) p (gives-same (sym (looked-here table (s .0) (s .1) a l) ∙ e)) in
@@ -87,52 +97,17 @@ module _ (table : List Node) (a : ℕ) where
       differ : nobody ≡ holder p → ⊥
       differ d = let z : _≡_ {A = ℕ} 0 1 = cc in omega arith
 
-  pub rival-shown : (c w : ℕ) → challengerOf (length table) (take addresses table) a ≡ gives (rival c w)
+  pub rival-shown : (c w : ℕ) → challengerOf table a ≡ gives (rival (record { name = c; wait = w }))
       → Shows table a × (isChallenged (getD table a absent) ≡ true) × (getD table a absent .challenger ≡ c)
       × (getD table a absent .wait ≡ w)
-  unfolding challengerOf
   rival-shown c w e =
-      let s = table-sound (length table) (take addresses table) _ e in
+      let s = table-sound table _ e in
       by-test (ltb greatestAddress a)
-      (λ t. absurd (rival-differs (gives-same (sym (rival-past _ _ a (s .0) (s .1) (ltb-true _ _ t)) ∙ e))))
+      (λ t. absurd (rival-differs (sym (rival-past (take addresses table) a (ltb-true _ _ t)) ∙ gives-same (s .2))))
       (λ t. let h : a ≤ greatestAddress = ltb-false _ _ t in
       let l : a < addresses = omega arith in
       let k = rival-of (getD table a absent) c w (gives-same (sym (rival-here table (s .0) (s .1) a l) ∙ e)) in
       (record { enough = s .0; keeps = s .1; low = l }, k .0, k .1, k .2))
-
--- ---- which claim was heard
-
-pub asked-nothing : (p : Parts) (bytes : List ℕ) → (p .dgn ≡ claimDgn → ⊥) → askedBy p bytes ≡ nothing
-unfolding askedBy
-asked-nothing p bytes d = rw (ne-eqb _ _ d)
-
-pub asked-claims : (p : Parts) (bytes : List ℕ) → p .dgn ≡ claimDgn
-    → askedBy p bytes ≡ claims (record { source = p .source; name = numberOf bytes })
-unfolding askedBy
-asked-claims p bytes e = rw (eq-eqb _ _ e)
-
-nothing-claims : {c : Claim} → nothing ≡ claims c → ⊥
-nothing-claims e = let z : _≡_ {A = ℕ} 0 1 = cc in omega arith
-
-pub claims-name : (p : Parts) (bytes : List ℕ) (c : Claim) → askedBy p bytes ≡ claims c → c .name ≡ numberOf bytes
-claims-name p bytes c e =
-    by-test (p .dgn =? claimDgn) (λ t. let a = asked-claims p bytes (eqb-true _ _ t) in cc)
-    (λ t. absurd (nothing-claims (sym (asked-nothing p bytes (eqb-false _ _ t)) ∙ e)))
-
-name-by : (bytes : List ℕ) (t : Told Parts) (c : Claim)
-    → (given t then (λ parts. gives (askedBy parts bytes))) ≡ gives (claims c) → c .name ≡ numberOf bytes
-name-by bytes (refused n) c e = refused-gives e
-name-by bytes (gives p) c e = claims-name p bytes c (gives-same e)
-
--- a claim that is asked: of a table with all the addresses that keeps its rules, and with the NAME of the bytes
-claim-asked : (size : ℕ) (records : List Node) (id : ℕ) (bytes : List ℕ) (c : Claim)
-    → askedOf size records id bytes ≡ gives (claims c)
-    → (addresses ≤ size) × (keepsRules records ≡ true) × (c .name ≡ numberOf bytes)
-unfolding askedOf
-claim-asked size records id bytes c e =
-    let r₁ = past-refusal (ltb size addresses) 1 _ e in
-    let r₂ = before-refusal (keepsRules records) 2 _ (r₁ .1) in
-    (ltb-false _ _ (r₁ .0), r₂ .0, name-by bytes (checkedOf id (length bytes)) c (r₂ .1))
 
 -- ---- what a claim comes to, and back
 
@@ -182,21 +157,22 @@ module _ (records : List Node) (c : Claim) where
 
 -- the claim c, heard with a table that is not refused, at its source a
 pub record Heeded (table : List Node) (id : ℕ) (bytes : List ℕ) (a : ℕ) (c : Claim) : Type 0 where
-  pub asked : askedOf (length table) (take addresses table) id bytes ≡ gives (claims c)
+  pub after : tableAfter table id bytes ≡ claimedOf c table
   pub source : c .source ≡ a
   pub name : c .name ≡ numberOf bytes
   pub shows : Shows table a
 
 module _ (table : List Node) (id : ℕ) (bytes : List ℕ) where
-  abbrev told : Told Asked
-  told = askedOf (length table) (take addresses table) id bytes
-
-  heeded : (a : ℕ) (c : Claim) → told ≡ gives (claims c) → c .source ≡ a → c .source ≤ greatestAddress
+  heeded : (a : ℕ) (c : Claim) → Claimed table id bytes c → c .source ≡ a → c .source ≤ greatestAddress
       → Heeded table id bytes a c
-  heeded a c e s l =
-      let i = claim-asked _ (take addresses table) id bytes c e in
+  heeded a c k s l =
       let low : a < addresses = omega (arith, s, l) in
-      record { asked = e; source = s; name = i .2; shows = record { enough = i .0; keeps = i .1; low = low } }
+      record {
+        after = k .after;
+        source = s;
+        name = k .name;
+        shows = record { enough = k .enough; keeps = k .keeps; low = low };
+      }
 
   abbrev At : ℕ → (Claim → Type 0) → Type 0
   At a P = (c : Claim) × Heeded table id bytes a c × P c
@@ -214,47 +190,59 @@ module _ (table : List Node) (id : ℕ) (bytes : List ℕ) where
   Beaten c = (givesWay (c .name) (sourceOf c) ≡ false) × (mayChallenge (c .name) (sourceOf c) ≡ false)
 
   module _ (a : ℕ) where
-    taken-came : (c : Claim) → told ≡ gives (claims c) → Came (take addresses table) c
+    taken-came : (c : Claim) → Claimed table id bytes c → Came (take addresses table) c
         → claimOutcome (take addresses table) c ≡ taken a → At a Taken
     taken-came c e (was-silent h o) d = let z : _≡_ {A = ℕ} 0 1 = cc in absurd (omega arith)
     taken-came c e (was-taken h g o) d = let s : c .source ≡ a = cc in (c, heeded a c e s h, g)
     taken-came c e (was-challenge h g m o) d = let z : _≡_ {A = ℕ} 0 1 = cc in absurd (omega arith)
     taken-came c e (was-held h g m o) d = let z : _≡_ {A = ℕ} 0 1 = cc in absurd (omega arith)
 
-    challenge-came : (c : Claim) → told ≡ gives (claims c) → Came (take addresses table) c
+    challenge-came : (c : Claim) → Claimed table id bytes c → Came (take addresses table) c
         → claimOutcome (take addresses table) c ≡ challenges a → At a Challenged
     challenge-came c e (was-silent h o) d = let z : _≡_ {A = ℕ} 0 1 = cc in absurd (omega arith)
     challenge-came c e (was-taken h g o) d = let z : _≡_ {A = ℕ} 0 1 = cc in absurd (omega arith)
     challenge-came c e (was-challenge h g m o) d = let s : c .source ≡ a = cc in (c, heeded a c e s h, (g, m))
     challenge-came c e (was-held h g m o) d = let z : _≡_ {A = ℕ} 0 1 = cc in absurd (omega arith)
 
-    held-came : (c : Claim) → told ≡ gives (claims c) → Came (take addresses table) c
+    held-came : (c : Claim) → Claimed table id bytes c → Came (take addresses table) c
         → claimOutcome (take addresses table) c ≡ heldByLower a → At a Beaten
     held-came c e (was-silent h o) d = let z : _≡_ {A = ℕ} 0 1 = cc in absurd (omega arith)
     held-came c e (was-taken h g o) d = let z : _≡_ {A = ℕ} 0 1 = cc in absurd (omega arith)
     held-came c e (was-challenge h g m o) d = let z : _≡_ {A = ℕ} 0 1 = cc in absurd (omega arith)
     held-came c e (was-held h g m o) d = let s : c .source ≡ a = cc in (c, heeded a c e s h, (g, m))
 
-    abbrev records : List Node
-    records = take addresses table
+    taken-told : heardOf table id bytes ≡ gives (taken a) → At a Taken
+    taken-told e = by (went table id bytes)
+      where
+        by : Went table id bytes → At a Taken
+        by (stopped n h l) = refused-gives (sym h ∙ e)
+        by (ignored h l) =
+            let d : nothingToDo ≡ taken a = gives-same (sym h ∙ e) in
+            let z : _≡_ {A = ℕ} 0 1 = cc in
+            absurd (omega arith)
+        by (claimed c k) = taken-came c k (came (take addresses table) c) (gives-same (sym (k .answer) ∙ e))
 
-    taken-told : (t : Told Asked) → told ≡ t → answerOf records t ≡ gives (taken a) → At a Taken
-    taken-told (refused n) e d = refused-gives d
-    taken-told (gives nothing) e d = let z : _≡_ {A = ℕ} 0 1 = cc in absurd (omega arith)
-    taken-told (gives (claims c)) e d = taken-came c e (came records c) (gives-same d)
-    taken-told (gives (pauses ms)) e d = let z : _≡_ {A = ℕ} 0 1 = cc in absurd (omega arith)
+    challenge-told : heardOf table id bytes ≡ gives (challenges a) → At a Challenged
+    challenge-told e = by (went table id bytes)
+      where
+        by : Went table id bytes → At a Challenged
+        by (stopped n h l) = refused-gives (sym h ∙ e)
+        by (ignored h l) =
+            let d : nothingToDo ≡ challenges a = gives-same (sym h ∙ e) in
+            let z : _≡_ {A = ℕ} 0 1 = cc in
+            absurd (omega arith)
+        by (claimed c k) = challenge-came c k (came (take addresses table) c) (gives-same (sym (k .answer) ∙ e))
 
-    challenge-told : (t : Told Asked) → told ≡ t → answerOf records t ≡ gives (challenges a) → At a Challenged
-    challenge-told (refused n) e d = refused-gives d
-    challenge-told (gives nothing) e d = let z : _≡_ {A = ℕ} 0 1 = cc in absurd (omega arith)
-    challenge-told (gives (claims c)) e d = challenge-came c e (came records c) (gives-same d)
-    challenge-told (gives (pauses ms)) e d = let z : _≡_ {A = ℕ} 0 1 = cc in absurd (omega arith)
-
-    held-told : (t : Told Asked) → told ≡ t → answerOf records t ≡ gives (heldByLower a) → At a Beaten
-    held-told (refused n) e d = refused-gives d
-    held-told (gives nothing) e d = let z : _≡_ {A = ℕ} 0 1 = cc in absurd (omega arith)
-    held-told (gives (claims c)) e d = held-came c e (came records c) (gives-same d)
-    held-told (gives (pauses ms)) e d = let z : _≡_ {A = ℕ} 0 1 = cc in absurd (omega arith)
+    held-told : heardOf table id bytes ≡ gives (heldByLower a) → At a Beaten
+    held-told e = by (went table id bytes)
+      where
+        by : Went table id bytes → At a Beaten
+        by (stopped n h l) = refused-gives (sym h ∙ e)
+        by (ignored h l) =
+            let d : nothingToDo ≡ heldByLower a = gives-same (sym h ∙ e) in
+            let z : _≡_ {A = ℕ} 0 1 = cc in
+            absurd (omega arith)
+        by (claimed c k) = held-came c k (came (take addresses table) c) (gives-same (sym (k .answer) ∙ e))
 
   -- the table after it: it is not refused, and its record of the source
   module _ (a : ℕ) (c : Claim) (k : Heeded table id bytes a c) where
@@ -263,9 +251,6 @@ module _ (table : List Node) (id : ℕ) (bytes : List ℕ) where
 
     abbrev m : Node
     m = clearedOf (c .name) n
-
-    pub after-is : tableAfter table id bytes ≡ claimedOf c table
-    after-is = ap (λ (t : Told Asked). leftBy t table) (k .asked)
 
     pub source-is : sourceOf c ≡ m
     source-is =
@@ -278,12 +263,12 @@ module _ (table : List Node) (id : ℕ) (bytes : List ℕ) where
     pub shows-after : Shows (tableAfter table id bytes) a
     shows-after =
         let l : addresses ≤ length (claimedOf c table) = omega (arith, claimed-length c table, k .shows .enough) in
-        subst (λ (t : List Node). Shows t a) (sym after-is)
+        subst (λ (t : List Node). Shows t a) (sym (k .after))
         (record { enough = l; keeps = claimed-keeps c table (k .shows .keeps); low = k .shows .low })
 
     pub record-after : getD (tableAfter table id bytes) a absent ≡ enteredOf (c .name) m
     record-after =
-        ap (λ (t : List Node). getD t a absent) after-is
+        ap (λ (t : List Node). getD t a absent) (k .after)
         ∙ claimed-at c table (k .shows .enough) a (k .shows .low) ∙ here c a n facts (sym (k .source))
 
     pub not-there : stands (c .name) m ≡ false
@@ -293,13 +278,13 @@ module _ (table : List Node) (id : ℕ) (bytes : List ℕ) where
     after = tableAfter table id bytes
 
     looked : (r : Node) → getD after a absent ≡ r
-        → lookedUpOf (length after) (take addresses after) a ≡ gives (holderOf r)
+        → lookedUpOf after a ≡ gives (holderOf r)
     looked r e =
         looked-here after (shows-after .enough) (shows-after .keeps) a (k .shows .low)
         ∙ ap (λ (x : Node). gives (holderOf x)) e
 
     rivaled : (r : Node) → getD after a absent ≡ r
-        → challengerOf (length after) (take addresses after) a ≡ gives (rivalOf r)
+        → challengerOf after a ≡ gives (rivalOf r)
     rivaled r e =
         rival-here after (shows-after .enough) (shows-after .keeps) a (k .shows .low)
         ∙ ap (λ (x : Node). gives (rivalOf x)) e
@@ -310,7 +295,7 @@ held-alone name = refl
 
 pub taken-shown : TakenShown
 taken-shown table id bytes a e =
-    let t = taken-told table id bytes a (told table id bytes) refl e in
+    let t = taken-told table id bytes a e in
     let c = t .0 in
     let k = t .1 in
     let g = sym (ap (givesWay (c .name)) (source-is table id bytes a c k)) ∙ t .2 in
@@ -331,7 +316,7 @@ pub challenge-entered-at : (table : List Node) (id : ℕ) (bytes : List ℕ) (a 
     → heardOf table id bytes ≡ gives (challenges a)
     → Entered table id bytes a
 challenge-entered-at table id bytes a e =
-    let t = challenge-told table id bytes a (told table id bytes) refl e in
+    let t = challenge-told table id bytes a e in
     let c = t .0 in
     let k = t .1 in
     let b = clearedOf (c .name) (getD table a absent) in
@@ -368,7 +353,7 @@ challenges-shown table id bytes a e =
 
 pub held-shown : HeldShown
 held-shown table id bytes a e =
-    let t = held-told table id bytes a (told table id bytes) refl e in
+    let t = held-told table id bytes a e in
     let c = t .0 in
     let k = t .1 in
     let b = clearedOf (c .name) (getD table a absent) in

@@ -11,12 +11,13 @@ use lib.ListN.{length, getD}
 use lib.Dec.{ltb, leb, eqb}
 use borrow.Author.Tests.{eqb-true, eqb-false, ltb-true, ltb-false, leb-false, eq-eqb, ne-eqb, lt-ltb, lt-leb, le-ltb, not-false}
 use Rattle.words.specs.Words.{_and_, _or_}
+use Rattle.words.specs.Lists.{any, every, noTwo}
 use Rattle.words.proofs.Words.{both-true, true-false, by-test}
-use Rattle.nodes.specs.Table.{takesAfter, absent, held, challenged, unchallengedOf, hasName, isChallenged, hasChallenger, stands, givesWay, mayChallenge, vacatedOf, clearedOf, enteredOf, claimedHere, claimedAt, pausedAt, soundChallenge, soundRecord, standsIn, holderAgain, challengerAgain, standsAgain, keepsRules}
+use Rattle.nodes.specs.Table.{takesAfter, absent, held, challenged, unchallengedOf, hasName, isChallenged, hasChallenger, stands, givesWay, mayChallenge, vacatedOf, clearedOf, enteredOf, claimedHere, claimedAt, pausedAt, soundChallenge, soundRecord, sharesName, keepsRules}
 use Rattle.nodes.specs.Laws.{Rules}
 use Rattle.nodes.specs.declared.Node.{Node}
 use Rattle.nodes.specs.declared.Claim.{Claim}
-use Rattle.nodes.proofs.Rules.{sound-present}
+use Rattle.nodes.proofs.Rules.{sound-present, again-is}
 
 -- ---- words
 
@@ -194,8 +195,7 @@ of-facts n f =
 -- ---- the computed rules say the rules
 
 stands-at : (name : ℕ) (ns : List Node) (b : ℕ) → b < length ns → stands name (getD ns b absent) ≡ true
-    → standsIn name ns ≡ true
-unfolding standsIn
+    → any (stands name) ns ≡ true
 stands-at name [] b l e = absurd (not-suc-le-zero l)
 stands-at name (n ∷ ns) zero l e = rw e
 stands-at name (n ∷ ns) (suc b) l e = or-right (stands name n) (stands-at name ns b (le-of-suc-le-suc l) e)
@@ -203,8 +203,7 @@ stands-at name (n ∷ ns) (suc b) l e = or-right (stands name n) (stands-at name
 abbrev Found : ℕ → List Node → Type 0
 Found name ns = (b : ℕ) × (b < length ns) × (stands name (getD ns b absent) ≡ true)
 
-stands-found : (name : ℕ) (ns : List Node) → standsIn name ns ≡ true → Found name ns
-unfolding standsIn
+stands-found : (name : ℕ) (ns : List Node) → any (stands name) ns ≡ true → Found name ns
 stands-found name [] e = true-false (sym e)
 stands-found name (n ∷ ns) e =
     by-test (stands name n) (λ h. (0, omega arith, h)) (λ h. next (stands-found name ns (rw h at e)))
@@ -214,57 +213,59 @@ stands-found name (n ∷ ns) e =
 
 -- who stands in a record stands in none after it
 module _ (n : Node) (ns : List Node) where
-  holder-none : holderAgain n ns ≡ false → n .present ≡ true → standsIn (n .name) ns ≡ false
-  unfolding holderAgain
+  holder-none : n .present and any (stands (n .name)) ns ≡ false → n .present ≡ true → any (stands (n .name)) ns ≡ false
   holder-none h p = rw p at h
 
-  challenger-none : challengerAgain n ns ≡ false → isChallenged n ≡ true → standsIn (n .challenger) ns ≡ false
-  unfolding challengerAgain
+  challenger-none : isChallenged n and any (stands (n .challenger)) ns ≡ false → isChallenged n ≡ true
+      → any (stands (n .challenger)) ns ≡ false
   challenger-none h p = rw p at h
 
-  again-none : standsAgain n ns ≡ false → (name : ℕ) → stands name n ≡ true → standsIn name ns ≡ false
-  unfolding standsAgain
+  again-none : any (sharesName n) ns ≡ false → (name : ℕ) → stands name n ≡ true → any (stands name) ns ≡ false
   again-none h name s = by (stands-as name n s)
     where
-      o : (holderAgain n ns ≡ false) × (challengerAgain n ns ≡ false)
-      o = or-false (holderAgain n ns) (challengerAgain n ns) h
+      o : (n .present and any (stands (n .name)) ns ≡ false)
+          × (isChallenged n and any (stands (n .challenger)) ns ≡ false)
+      o = or-false _ _ (sym (again-is n ns) ∙ h)
 
-      by : (hasName name n ≡ true) ⊎ (hasChallenger name n ≡ true) → standsIn name ns ≡ false
+      by : (hasName name n ≡ true) ⊎ (hasChallenger name n ≡ true) → any (stands name) ns ≡ false
       by (inl t) =
           let k = name-of name n t in
-          sym (ap (λ (m : ℕ). standsIn m ns) (k .1)) ∙ holder-none (o .0) (k .0)
+          sym (ap (λ (m : ℕ). any (stands m) ns) (k .1)) ∙ holder-none (o .0) (k .0)
       by (inr t) =
           let k = challenger-of name n t in
-          sym (ap (λ (m : ℕ). standsIn m ns) (k .1)) ∙ challenger-none (o .1) (k .0)
+          sym (ap (λ (m : ℕ). any (stands m) ns) (k .1)) ∙ challenger-none (o .1) (k .0)
 
-  none-holder : (n .present ≡ true → standsIn (n .name) ns ≡ false) → holderAgain n ns ≡ false
-  unfolding holderAgain
+  none-holder : (n .present ≡ true → any (stands (n .name)) ns ≡ false)
+      → n .present and any (stands (n .name)) ns ≡ false
   none-holder h = by-test (n .present) (λ p. rw (p, h p)) (λ p. rw p)
 
-  none-challenger : (isChallenged n ≡ true → standsIn (n .challenger) ns ≡ false) → challengerAgain n ns ≡ false
-  unfolding challengerAgain
+  none-challenger : (isChallenged n ≡ true → any (stands (n .challenger)) ns ≡ false)
+      → isChallenged n and any (stands (n .challenger)) ns ≡ false
   none-challenger h = by-test (isChallenged n) (λ p. rw (p, h p)) (λ p. rw p)
 
-  none-again : ((name : ℕ) → stands name n ≡ true → standsIn name ns ≡ false) → standsAgain n ns ≡ false
-  unfolding standsAgain
+  none-again : ((name : ℕ) → stands name n ≡ true → any (stands name) ns ≡ false) → any (sharesName n) ns ≡ false
   none-again h =
-      rw (
+      again-is n ns ∙ rw (
         none-holder (λ p. h (n .name) (stands-holder (n .name) n (has-name-of (n .name) n p refl))),
         none-challenger (λ p. h (n .challenger)
             (stands-challenger (n .challenger) n (has-challenger-of (n .challenger) n p refl))),
       )
 
   -- the three things that keeping the rules says of the first record and those after it
-  parts-of : keepsRules (n ∷ ns) ≡ true → (soundRecord n ≡ true) × (standsAgain n ns ≡ false) × (keepsRules ns ≡ true)
+  parts-of : keepsRules (n ∷ ns) ≡ true
+      → (soundRecord n ≡ true) × (any (sharesName n) ns ≡ false) × (keepsRules ns ≡ true)
   unfolding keepsRules
   parts-of e =
-      let b = both-true (soundRecord n) (not (standsAgain n ns) and keepsRules ns) e in
-      let c = both-true (not (standsAgain n ns)) (keepsRules ns) (b .1) in
-      (b .0, not-both (standsAgain n ns) (c .0), c .1)
+      let b = both-true (soundRecord n and every soundRecord ns) _ e in
+      let c = both-true (soundRecord n) (every soundRecord ns) (b .0) in
+      let d = both-true (not (any (sharesName n) ns)) (noTwo sharesName ns) (b .1) in
+      (c .0, not-both (any (sharesName n) ns) (d .0), rw (c .1) (d .1))
 
-  of-parts : soundRecord n ≡ true → standsAgain n ns ≡ false → keepsRules ns ≡ true → keepsRules (n ∷ ns) ≡ true
+  of-parts : soundRecord n ≡ true → any (sharesName n) ns ≡ false → keepsRules ns ≡ true → keepsRules (n ∷ ns) ≡ true
   unfolding keepsRules
-  of-parts s h k = rw (s, h, k)
+  of-parts s h k =
+      let b = both-true (every soundRecord ns) (noTwo sharesName ns) k in
+      rw (s, h, b .0) (b .1)
 
 pub facts-at : (ns : List Node) → keepsRules ns ≡ true → (a : ℕ) → a < length ns → Facts (getD ns a absent)
 facts-at [] k a l = absurd (not-suc-le-zero l)
@@ -320,7 +321,7 @@ unfolding keepsRules
 of-rules [] r = refl
 of-rules (n ∷ ns) r =
     of-parts n ns (of-facts n (rules-facts (n ∷ ns) r 0 (omega arith)))
-    (none-again n ns (λ name s. by-test (standsIn name ns) (λ h. absurd (twice name s (stands-found name ns h)))
+    (none-again n ns (λ name s. by-test (any (stands name) ns) (λ h. absurd (twice name s (stands-found name ns h)))
     (λ h. h)))
     (of-rules ns (tail-rules n ns r))
   where

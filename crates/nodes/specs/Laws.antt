@@ -7,18 +7,21 @@ use mathlib.Core.Logic.{_⊎_}
 use Prim.Native.Nat.{ℕ, _≤_, _<_, _%_, _^_}
 use lib.ListN.{length, getD, set, take, drop}
 use Rattle.words.specs.Words.{if_then_else_, _≤?_, Told, refused, gives}
+use Rattle.words.specs.declared.Found.the-variants.{At, Nowhere}
 use Rattle.frame.specs.Bytes.{numberOf}
 use Rattle.frame.specs.Identifier.{identifiers}
 use Rattle.frame.specs.Frame.{checkedOf}
 use Rattle.frame.specs.Standard.{claimDgn, greatestAddress}
 use Rattle.frame.specs.declared.Parts.{Parts}
-use Rattle.nodes.specs.Table.{addresses, takesAfter, absent, held, challenged, unchallengedOf, hasName, isChallenged, hasChallenger, stands, clearedOf, enteredOf, claimedAt, pausedAt, replacesOf, replacedIn, keepsRules, soundRecord, claimedOf, pausedOf}
-use Rattle.nodes.specs.Call.{nothingToDo, taken, challenges, heldByLower, replaced, claimOutcome, heardOf, tableAfter, pauseTold, tablePaused, Holder, nobody, holder, lookedUpOf, Whereabouts, nowhere, there, foundOf, Rival, noRival, rival, challengerOf}
-use Rattle.nodes.specs.Promises.{Empty, Hear, Pause, LookUp, FindAddress, FindChallenger, HeardRefusal, PausingRefusal, LookedUpRefusal, FoundAddressRefusal, FoundChallengerRefusal, toldHeard, toldPausing, toldLookedUp, toldFoundAddress, toldFoundChallenger}
+use Rattle.nodes.specs.Table.{addresses, takesAfter, absent, held, challenged, unchallengedOf, hasName, isChallenged, hasChallenger, stands, clearedOf, enteredOf, claimedAt, pausedAt, isReplaced, replacedIn, keepsRules, soundRecord, claimedOf, pausedOf}
+use Rattle.nodes.specs.Call.{claimIn, nothingToDo, taken, challenges, heldByLower, claimOutcome, heardOf}
+use Rattle.nodes.specs.Call.{tableAfter, pauseTold, tablePaused, Holder, nobody, holder, lookedUpOf, foundOf}
+use Rattle.nodes.specs.Call.{Rival, noRival, rival, challengerOf}
+use Rattle.nodes.specs.Promises.{Empty, Hear, Pause, LookUp, FindAddress, FindChallenger, HearingRefusal, PausingRefusal, LookedUpRefusal, FoundAddressRefusal, FoundChallengerRefusal, toldHearing, toldPausing, toldLookedUp, toldFoundAddress, toldFoundChallenger}
 use Rattle.nodes.specs.declared.Node.{Node}
 use Rattle.nodes.specs.declared.Claim.{Claim}
-use Rattle.nodes.specs.declared.Heard.{Heard}
-use Rattle.nodes.specs.declared.Heard.the-variants.{NothingToDo}
+use Rattle.nodes.specs.declared.Hearing.{Hearing}
+use Rattle.nodes.specs.declared.Hearing.the-variants.{NothingToDo}
 use Rattle.nodes.specs.declared.Pausing.{Pausing}
 use Rattle.nodes.specs.declared.LookedUp.{LookedUp}
 use Rattle.nodes.specs.declared.FoundAddress.{FoundAddress}
@@ -26,8 +29,8 @@ use Rattle.nodes.specs.declared.FoundChallenger.{FoundChallenger}
 
 -- An answer read as number and values loses nothing (RULES 2.10).
 
-abbrev pub ToldHeardSame : Type 0
-ToldHeardSame = (r s : Heard) → toldHeard r ≡ toldHeard s → r ≡ s
+abbrev pub ToldHearingSame : Type 0
+ToldHearingSame = (r s : Hearing) → toldHearing r ≡ toldHearing s → r ≡ s
 
 abbrev pub ToldPausingSame : Type 0
 ToldPausingSame = (r s : Pausing) → toldPausing r ≡ toldPausing s → r ≡ s
@@ -48,7 +51,7 @@ EmptyOnly = (r s : List Node) → Empty r → Empty s → r ≡ s
 
 abbrev pub HearOnly : Type 0
 HearOnly =
-    (table : List Node) (id : ℕ) (bytes : List ℕ) (r s : Heard) (after after′ : List Node)
+    (table : List Node) (id : ℕ) (bytes : List ℕ) (r s : Hearing) (after after′ : List Node)
     → Hear table id bytes r after → Hear table id bytes s after′ → (r ≡ s) × (after ≡ after′)
 
 abbrev pub PauseOnly : Type 0
@@ -69,8 +72,8 @@ FindChallengerOnly =
     (table : List Node) (address : ℕ) (r s : FoundChallenger)
     → FindChallenger table address r → FindChallenger table address s → r ≡ s
 
-abbrev pub HeardRefusalOnly : Type 0
-HeardRefusalOnly = (answer : Heard) (r s : ℕ) → HeardRefusal answer r → HeardRefusal answer s → r ≡ s
+abbrev pub HearingRefusalOnly : Type 0
+HearingRefusalOnly = (answer : Hearing) (r s : ℕ) → HearingRefusal answer r → HearingRefusal answer s → r ≡ s
 
 abbrev pub PausingRefusalOnly : Type 0
 PausingRefusalOnly = (answer : Pausing) (r s : ℕ) → PausingRefusal answer r → PausingRefusal answer s → r ≡ s
@@ -90,8 +93,8 @@ FoundChallengerRefusalOnly =
 
 abbrev pub HearRefusedKeeps : Type 0
 HearRefusedKeeps =
-    (table : List Node) (id : ℕ) (bytes : List ℕ) (r : Heard) (after : List Node) (n : ℕ)
-    → Hear table id bytes r after → toldHeard r ≡ refused n → after ≡ table
+    (table : List Node) (id : ℕ) (bytes : List ℕ) (r : Hearing) (after : List Node) (n : ℕ)
+    → Hear table id bytes r after → toldHearing r ≡ refused n → after ≡ table
 
 abbrev pub PauseRefusedKeeps : Type 0
 PauseRefusedKeeps =
@@ -115,15 +118,15 @@ pub record LowestWins (table : List Node) (id : ℕ) (bytes : List ℕ) : Type 0
   pub claim : addresses ≤ length table → keepsRules (take addresses table) ≡ true
       → (p : Parts) → checkedOf id (length bytes) ≡ gives p → p .dgn ≡ claimDgn
       → (heardOf table id bytes
-      ≡ gives (claimOutcome (take addresses table) (record { source = p .source; name = numberOf bytes })))
-      × (tableAfter table id bytes ≡ claimedOf (record { source = p .source; name = numberOf bytes }) table)
+      ≡ gives (claimOutcome (take addresses table) (claimIn p bytes)))
+      × (tableAfter table id bytes ≡ claimedOf (claimIn p bytes) table)
 
 -- A pause: 1, then 2; otherwise time passes.
 pub record PauseLowestWins (table : List Node) (ms : ℕ) : Type 0 where
   pub one : length table < addresses → pauseTold table ms ≡ refused 1
   pub two : addresses ≤ length table → keepsRules (take addresses table) ≡ false → pauseTold table ms ≡ refused 2
   pub passes : addresses ≤ length table → keepsRules (take addresses table) ≡ true
-      → (pauseTold table ms ≡ gives (replaced (replacedIn ms (take addresses table))))
+      → (pauseTold table ms ≡ gives (replacedIn ms (take addresses table)))
       × (tablePaused table ms ≡ pausedOf ms table)
 
 -- Priority is ignored: identifiers that differ only above bit 25 are heard alike.
@@ -196,17 +199,17 @@ EmptyKeepsRules =
 abbrev pub EmptyHasNobody : Type 0
 EmptyHasNobody =
     (r behind : List Node) (address : ℕ) → Empty r
-    → lookedUpOf (length (r ++ behind)) (take addresses (r ++ behind)) address ≡ gives nobody
+    → lookedUpOf (r ++ behind) address ≡ gives nobody
 
 abbrev pub EmptyHasNoName : Type 0
 EmptyHasNoName =
     (r behind : List Node) (name : ℕ) → Empty r
-    → foundOf (length (r ++ behind)) (take addresses (r ++ behind)) name ≡ gives nowhere
+    → foundOf (r ++ behind) name ≡ gives Nowhere
 
 abbrev pub EmptyHasNoChallenger : Type 0
 EmptyHasNoChallenger =
     (r behind : List Node) (address : ℕ) → Empty r
-    → challengerOf (length (r ++ behind)) (take addresses (r ++ behind)) address ≡ gives noRival
+    → challengerOf (r ++ behind) address ≡ gives noRival
 
 -- A table that keeps the rules leads to one that keeps them, whatever is heard and however long the pause.
 abbrev pub RulesKept : Type 0
@@ -286,20 +289,18 @@ EverySentence = (claim : Claim) (a : ℕ) (n : Node) → soundRecord n ≡ true 
 abbrev pub ReplacedCounts : Type 0
 ReplacedCounts =
     (ms : ℕ) (n : Node) → soundRecord n ≡ true
-    → ((replacesOf ms n ≡ 1) × (pausedAt ms n ≡ held (n .challenger)) × (n .name < n .challenger))
-    ⊎ ((replacesOf ms n ≡ 0) × (pausedAt ms n .present ≡ n .present) × (pausedAt ms n .name ≡ n .name))
+    → ((isReplaced ms n ≡ true) × (pausedAt ms n ≡ held (n .challenger)) × (n .name < n .challenger))
+    ⊎ ((isReplaced ms n ≡ false) × (pausedAt ms n .present ≡ n .present) × (pausedAt ms n .name ≡ n .name))
 
 -- What `hear` tells, `look_up` and `find_challenger` show: after `taken` the claim's NAME is there and nobody
 -- challenges it; after `challenges` a lower one is there, which it challenges since 0 ms; after `heldByLower` two lower
 -- ones are, the holder and its challenger.
 
 abbrev pub lookedAfter : List Node → ℕ → List ℕ → ℕ → Told Holder
-lookedAfter table id bytes a =
-    lookedUpOf (length (tableAfter table id bytes)) (take addresses (tableAfter table id bytes)) a
+lookedAfter table id bytes a = lookedUpOf (tableAfter table id bytes) a
 
 abbrev pub rivalAfter : List Node → ℕ → List ℕ → ℕ → Told Rival
-rivalAfter table id bytes a =
-    challengerOf (length (tableAfter table id bytes)) (take addresses (tableAfter table id bytes)) a
+rivalAfter table id bytes a = challengerOf (tableAfter table id bytes) a
 
 abbrev pub TakenShown : Type 0
 TakenShown =
@@ -312,21 +313,18 @@ ChallengesShown =
     (table : List Node) (id : ℕ) (bytes : List ℕ) (a : ℕ)
     → heardOf table id bytes ≡ gives (challenges a)
     → (m : ℕ) × (lookedAfter table id bytes a ≡ gives (holder m)) × (m < numberOf bytes)
-    × (rivalAfter table id bytes a ≡ gives (rival (numberOf bytes) 0))
+    × (rivalAfter table id bytes a ≡ gives (rival (record { name = numberOf bytes; wait = 0 })))
 
 abbrev pub HeldShown : Type 0
 HeldShown =
     (table : List Node) (id : ℕ) (bytes : List ℕ) (a : ℕ)
     → heardOf table id bytes ≡ gives (heldByLower a)
     → (m c w : ℕ) × (lookedAfter table id bytes a ≡ gives (holder m))
-    × (rivalAfter table id bytes a ≡ gives (rival c w))
+    × (rivalAfter table id bytes a ≡ gives (rival (record { name = c; wait = w })))
     × (m < c) × (c < numberOf bytes)
 
 -- In a table that keeps the rules a NAME is found exactly at the address whose record is present with it, so at one at
 -- most; and nowhere exactly if no record is.
-
-abbrev pub foundIn : List Node → ℕ → Told Whereabouts
-foundIn table name = foundOf (length table) (take addresses table) name
 
 abbrev pub Holds : List Node → ℕ → ℕ → Type 0
 Holds table name a = (a < addresses) × (getD table a absent .present ≡ true) × (getD table a absent .name ≡ name)
@@ -334,24 +332,24 @@ Holds table name a = (a < addresses) × (getD table a absent .present ≡ true) 
 abbrev pub FoundThere : Type 0
 FoundThere =
     (table : List Node) (name a : ℕ) → addresses ≤ length table → keepsRules (take addresses table) ≡ true
-    → (foundIn table name ≡ gives (there a) → Holds table name a)
-    × (Holds table name a → foundIn table name ≡ gives (there a))
+    → (foundOf table name ≡ gives (At a) → Holds table name a)
+    × (Holds table name a → foundOf table name ≡ gives (At a))
 
 abbrev pub FoundNowhere : Type 0
 FoundNowhere =
     (table : List Node) (name : ℕ) → addresses ≤ length table → keepsRules (take addresses table) ≡ true
-    → (foundIn table name ≡ gives nowhere → (a : ℕ) → Holds table name a → ⊥)
-    × (((a : ℕ) → Holds table name a → ⊥) → foundIn table name ≡ gives nowhere)
+    → (foundOf table name ≡ gives Nowhere → (a : ℕ) → Holds table name a → ⊥)
+    × (((a : ℕ) → Holds table name a → ⊥) → foundOf table name ≡ gives Nowhere)
 
 -- `look_up` of the address found gives the NAME, and a NAME that is looked up is found there.
 abbrev pub FoundShown : Type 0
 FoundShown =
     (table : List Node) (name a : ℕ)
-    → (foundIn table name ≡ gives (there a) → lookedUpOf (length table) (take addresses table) a ≡ gives (holder name))
-    × (lookedUpOf (length table) (take addresses table) a ≡ gives (holder name) → foundIn table name ≡ gives (there a))
+    → (foundOf table name ≡ gives (At a) → lookedUpOf table a ≡ gives (holder name))
+    × (lookedUpOf table a ≡ gives (holder name) → foundOf table name ≡ gives (At a))
 
 -- After `taken` the claim's NAME is found at its address.
 abbrev pub TakenFound : Type 0
 TakenFound =
     (table : List Node) (id : ℕ) (bytes : List ℕ) (a : ℕ)
-    → heardOf table id bytes ≡ gives (taken a) → foundIn (tableAfter table id bytes) (numberOf bytes) ≡ gives (there a)
+    → heardOf table id bytes ≡ gives (taken a) → foundOf (tableAfter table id bytes) (numberOf bytes) ≡ gives (At a)

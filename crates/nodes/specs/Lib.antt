@@ -2,6 +2,6 @@
 pub mod Table
 pub mod Call
 pub mod Promises
-pub mod Inside
+pub mod Private
 pub mod Laws
 pub mod Runs

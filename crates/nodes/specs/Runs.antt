@@ -6,17 +6,18 @@ use mathlib.Core.Bool.{true}
 use mathlib.Core.Logic.{_⊎_}
 use Prim.Native.Nat.{ℕ, _+_, _≤_, _<_}
 use lib.ListN.{length, getD, take, drop}
-use Rattle.words.specs.Words.{Told, refused, gives}
+use Rattle.words.specs.Words.{if_then_else_, _=?_, Told, refused, gives}
 use Rattle.frame.specs.Bytes.{numberOf}
 use Rattle.frame.specs.Frame.{checkedOf}
+use Rattle.frame.specs.Standard.{claimDgn}
 use Rattle.frame.specs.declared.Parts.{Parts}
 use Rattle.nodes.specs.Table.{addresses, takesAfter, absent, claimedAt, pausedAt, keepsRules}
-use Rattle.nodes.specs.Call.{Asked, nothing, claims, pauses, askedBy}
+use Rattle.nodes.specs.Call.{claimIn}
 use Rattle.nodes.specs.Promises.{Empty, Hear, Pause, LookUp, FindChallenger}
 use Rattle.nodes.specs.declared.Node.{Node}
 use Rattle.nodes.specs.declared.Claim.{Claim}
-use Rattle.nodes.specs.declared.Heard.{Heard}
-use Rattle.nodes.specs.declared.Heard.the-variants.{Challenges}
+use Rattle.nodes.specs.declared.Hearing.{Hearing}
+use Rattle.nodes.specs.declared.Hearing.the-variants.{Challenges}
 use Rattle.nodes.specs.declared.Pausing.{Pausing}
 use Rattle.nodes.specs.declared.LookedUp.the-variants.{Present}
 use Rattle.nodes.specs.declared.FoundChallenger.the-variants.{Waits, NoChallenger}
@@ -27,7 +28,7 @@ pub data Call : Type 0 where
   pausing : ℕ → Call
 
 abbrev pub Leads : List Node → Call → List Node → Type 0
-Leads table (hearing id bytes) after = (r : Heard) × Hear table id bytes r after
+Leads table (hearing id bytes) after = (r : Hearing) × Hear table id bytes r after
 Leads table (pausing ms) after = (r : Pausing) × Pause table ms r after
 
 -- A run of calls from one table to another.
@@ -36,22 +37,31 @@ pub data Ran : List Node → List Call → List Node → Type 0 where
   a-call : (table after end : List Node) (call : Call) (calls : List Call)
       → Leads table call after → Ran after calls end → Ran table (call ∷ calls) end
 
--- What a call says, whatever the table is: a claim, a pause, or nothing. A frame that is refused says nothing.
-abbrev pub saidIn : Told Parts → List ℕ → Asked
-saidIn (refused n) bytes = nothing
-saidIn (gives parts) bytes = askedBy parts bytes
+-- What a call says, whatever the table is: a claim, a pause, or nothing. A frame that is refused says nothing, and so
+-- does one that is no claim to all.
+pub data Said : Type 0 where
+  nothing : Said
+  claims : Claim → Said
+  pauses : ℕ → Said
 
-abbrev pub saidBy : Call → Asked
+unfoldable pub saidOf : Parts → List ℕ → Said
+saidOf parts bytes = if parts .dgn =? claimDgn then claims (claimIn parts bytes) else nothing
+
+abbrev pub saidIn : Told Parts → List ℕ → Said
+saidIn (refused n) bytes = nothing
+saidIn (gives parts) bytes = saidOf parts bytes
+
+abbrev pub saidBy : Call → Said
 saidBy (hearing id bytes) = saidIn (checkedOf id (length bytes)) bytes
 saidBy (pausing ms) = pauses ms
 
 -- The record of one address alone: what one such saying makes of it, and a list of them.
-abbrev pub recordAfter : Asked → ℕ → Node → Node
+abbrev pub recordAfter : Said → ℕ → Node → Node
 recordAfter nothing a n = n
 recordAfter (claims claim) a n = claimedAt claim a n
 recordAfter (pauses ms) a n = pausedAt ms n
 
-abbrev pub recordAfterAll : List Asked → ℕ → Node → Node
+abbrev pub recordAfterAll : List Said → ℕ → Node → Node
 recordAfterAll [] a n = n
 recordAfterAll (s ∷ ss) a n = recordAfterAll ss a (recordAfter s a n)
 
@@ -77,23 +87,23 @@ EveryRunRuns = (table : List Node) (calls : List Call) → Sound table → (end 
 -- ---- A challenge.
 
 -- What leaves it alone: no claim by the holder p or by the challenger c, and at their address a none below c.
-abbrev pub Quiet : ℕ → ℕ → ℕ → Asked → Type 0
+abbrev pub Quiet : ℕ → ℕ → ℕ → Said → Type 0
 Quiet p c a nothing = Unit
 Quiet p c a (pauses ms) = Unit
 Quiet p c a (claims claim) =
     (claim .name ≡ p → ⊥) × (claim .name ≡ c → ⊥) × (claim .source ≡ a → claim .name < c → ⊥)
 
-abbrev pub AllQuiet : ℕ → ℕ → ℕ → List Asked → Type 0
+abbrev pub AllQuiet : ℕ → ℕ → ℕ → List Said → Type 0
 AllQuiet p c a [] = Unit
 AllQuiet p c a (s ∷ ss) = Quiet p c a s × AllQuiet p c a ss
 
 -- the milliseconds of all pauses
-abbrev pub waited : Asked → ℕ
+abbrev pub waited : Said → ℕ
 waited nothing = 0
 waited (claims claim) = 0
 waited (pauses ms) = ms
 
-abbrev pub waitedIn : List Asked → ℕ
+abbrev pub waitedIn : List Said → ℕ
 waitedIn [] = 0
 waitedIn (s ∷ ss) = waited s + waitedIn ss
 
@@ -130,7 +140,7 @@ ChallengeTakes =
 abbrev pub HolderLeaves : Type 0
 HolderLeaves =
     (a p c w : ℕ) (end : List Node) → Challenge a p c w end
-    → (id : ℕ) (bytes : List ℕ) (r : Heard) (next : List Node) (claim : Claim) → Hear end id bytes r next
+    → (id : ℕ) (bytes : List ℕ) (r : Hearing) (next : List Node) (claim : Claim) → Hear end id bytes r next
     → saidBy (hearing id bytes) ≡ claims claim → claim .name ≡ p → (claim .source ≡ a → ⊥)
     → LookUp next a (Present c) × FindChallenger next a NoChallenger
 
@@ -150,12 +160,12 @@ ChallengeEntered =
     → (a c w : ℕ) → FindChallenger end a (Waits c w) → (p : ℕ) × Challenge a p c w end
 
 -- A holder whom nobody challenges stays as long as nobody claims its address and it claims nothing elsewhere.
-abbrev pub Undisputed : ℕ → ℕ → Asked → Type 0
+abbrev pub Undisputed : ℕ → ℕ → Said → Type 0
 Undisputed p a nothing = Unit
 Undisputed p a (pauses ms) = Unit
 Undisputed p a (claims claim) = (claim .source ≡ a → ⊥) × (claim .name ≡ p → ⊥)
 
-abbrev pub AllUndisputed : ℕ → ℕ → List Asked → Type 0
+abbrev pub AllUndisputed : ℕ → ℕ → List Said → Type 0
 AllUndisputed p a [] = Unit
 AllUndisputed p a (s ∷ ss) = Undisputed p a s × AllUndisputed p a ss
 

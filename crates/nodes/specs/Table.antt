@@ -6,6 +6,7 @@ use mathlib.Core.List.{List, [], _∷_}
 use Prim.Native.Nat.{ℕ, zero, suc, _+_}
 use lib.ListN.{replicate}
 use Rattle.words.specs.Words.{if_then_else_, _<?_, _≤?_, _=?_, _and_, _or_}
+use Rattle.words.specs.Lists.{every, count, noTwo}
 use Rattle.nodes.specs.declared.Node.{Node}
 use Rattle.nodes.specs.declared.Claim.{Claim}
 
@@ -100,20 +101,17 @@ pausedAt ms n =
     if n .wait + ms <? takesAfter then challenged (n .challenger) (n .wait + ms) n else
     held (n .challenger)
 
--- 1 where the challenger takes the record in a pause, and 0 where not
-unfoldable pub replacesOf : ℕ → Node → ℕ
-replacesOf ms n =
-    if not (isChallenged n) then 0 else
-    if n .wait + ms <? takesAfter then 0 else
-    1
+-- the challenger takes the record in a pause
+unfoldable pub isReplaced : ℕ → Node → Bool
+isReplaced ms n = isChallenged n and (takesAfter ≤? n .wait + ms)
 
 -- ---- The table: each record of an address becomes what the event makes of it.
 
--- f of each of the first `count` records, the first of which has the address a; the rest as they are
+-- f of each of the first k records, the first of which has the address a; the rest as they are
 unfoldable pub eachFrom : {A : Type 0} → (ℕ → A → A) → ℕ → ℕ → List A → List A
 eachFrom f zero a xs = xs
-eachFrom f (suc count) a [] = []
-eachFrom f (suc count) a (x ∷ xs) = f a x ∷ eachFrom f count (suc a) xs
+eachFrom f (suc k) a [] = []
+eachFrom f (suc k) a (x ∷ xs) = f a x ∷ eachFrom f k (suc a) xs
 
 -- the table after a claim
 unfoldable pub claimedOf : Claim → List Node → List Node
@@ -124,8 +122,7 @@ unfoldable pub pausedOf : ℕ → List Node → List Node
 pausedOf ms table = eachFrom (λ address. pausedAt ms) addresses 0 table
 
 unfoldable pub replacedIn : ℕ → List Node → ℕ
-replacedIn ms [] = 0
-replacedIn ms (n ∷ ns) = replacesOf ms n + replacedIn ms ns
+replacedIn ms table = count (isReplaced ms) table
 
 -- ---- The rules of a table.
 
@@ -142,20 +139,10 @@ soundRecord n =
     if n .present then soundChallenge n else
     ((n .name =? 0) and (n .challenger =? 0) and (n .wait =? 0))
 
--- and no NAME stands in two records
-unfoldable pub standsIn : ℕ → List Node → Bool
-standsIn name [] = false
-standsIn name (n ∷ ns) = stands name n or standsIn name ns
+-- a NAME of the one record, its holder's or its challenger's, stands in the other
+unfoldable pub sharesName : Node → Node → Bool
+sharesName n m = (n .present and stands (n .name) m) or (isChallenged n and stands (n .challenger) m)
 
-unfoldable pub holderAgain : Node → List Node → Bool
-holderAgain n ns = n .present and standsIn (n .name) ns
-
-unfoldable pub challengerAgain : Node → List Node → Bool
-challengerAgain n ns = isChallenged n and standsIn (n .challenger) ns
-
-unfoldable pub standsAgain : Node → List Node → Bool
-standsAgain n ns = holderAgain n ns or challengerAgain n ns
-
+-- every record is sound, and no NAME stands in two
 unfoldable pub keepsRules : List Node → Bool
-keepsRules [] = true
-keepsRules (n ∷ ns) = soundRecord n and not (standsAgain n ns) and keepsRules ns
+keepsRules table = every soundRecord table and noTwo sharesName table

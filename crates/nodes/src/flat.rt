@@ -3,7 +3,7 @@ use crate::Change;
 use crate::Claim;
 use crate::FoundAddress;
 use crate::FoundChallenger;
-use crate::Heard;
+use crate::Hearing;
 use crate::Judged;
 use crate::JudgedPause;
 use crate::LookedUp;
@@ -17,11 +17,12 @@ use frame::standard::GREATEST_ADDRESS;
 ghost use mathlib.Core.Path.{_≡_};
 ghost use Prim.Native.Nat.{_≤_};
 ghost use lib.ListN.{drop};
-ghost use Rattle.words.specs.Words.{gives};
-ghost use Rattle.nodes.specs.Table.{addresses, absent as absentNode, held as heldBy, challenged as challengedBy, unchallengedOf, hasName, isChallenged, hasChallenger, stands as standsFor, givesWay, mayChallenge, vacatedOf, clearedOf, enteredOf, claimedHere, claimedAt, replacesOf, pausedAt, replacedIn, soundChallenge, soundRecord, standsIn, holderAgain, challengerAgain, standsAgain, keepsRules};
-ghost use Rattle.nodes.specs.Call.{askedOf, askedBy, pauseAsked, claimOutcome, lookedUpOf, addressFrom, foundOf, challengerOf};
-ghost use Rattle.nodes.specs.Promises.{toldHeard, toldLookedUp, toldFoundAddress, toldFoundChallenger};
-ghost use Rattle.nodes.specs.Inside.{afterOf, readableOf, JudgedAs, unaskedAs, JudgedPauseAs, unpausedAs};
+ghost use Rattle.words.specs.Words.{if_then_else_, _and_, gives};
+ghost use Rattle.words.specs.Lists.{any, first};
+ghost use Rattle.nodes.specs.Table.{addresses, absent as absentNode, held as heldBy, challenged as challengedBy, unchallengedOf, hasName, isChallenged, hasChallenger, stands as standsFor, givesWay, mayChallenge, vacatedOf, clearedOf, enteredOf, claimedHere, claimedAt, isReplaced, pausedAt, replacedIn, soundChallenge, soundRecord, sharesName, keepsRules};
+ghost use Rattle.nodes.specs.Call.{claimOutcome, heardBy, holderAt, rivalAt};
+ghost use Rattle.nodes.specs.Promises.{toldHearing, toldLookedUp, toldFoundAddress, toldFoundChallenger};
+ghost use Rattle.nodes.specs.Private.{sizedOr, heardIn, changeBy, changeIn, pausedIn, pauseIn, JudgedAs, unaskedAs, JudgedPauseAs, unpausedAs, readableOf, afterOf};
 
 // How many records are read of a table with `size`: those of all the addresses, or none.
 pub fn readable(size: usize) -> usize
@@ -35,18 +36,18 @@ pub fn readable(size: usize) -> usize
 
 // Judges a call on values: everything that is refused, what the frame asks, and what comes of it.
 pub fn judge(size: usize, records: [Node; RECORDS], id: u32, bytes: &[u8]) -> Judged
-    ensures { λ r. ⌜ JudgedAs records (askedOf size records id (now (bytes .entry))) r ⌝ }
+    ensures { λ r. ⌜ JudgedAs (heardIn size records id (now (bytes .entry))) (changeIn size records id (now (bytes .entry))) r ⌝ }
 {
     if size < RECORDS {
-        return unasked(Heard::TableTooShort);
+        return unasked(Hearing::TableTooShort);
     }
     if !keeps_rules(records) {
-        return unasked(Heard::BrokenTable);
+        return unasked(Hearing::BrokenState);
     }
     let checked = frame::check(id, bytes);
     let verdict = checked.verdict;
     match verdict {
-        Verdict::Bad(why) => unasked(Heard::BadFrame(why)),
+        Verdict::Bad(why) => unasked(Hearing::BadFrame(why)),
         Verdict::Sound(parts) => {
             let eight = checked.bytes;
             asked(records, parts, eight)
@@ -55,10 +56,10 @@ pub fn judge(size: usize, records: [Node; RECORDS], id: u32, bytes: &[u8]) -> Ju
 }
 
 fn asked(records: [Node; RECORDS], parts: frame::Parts, bytes: [u8; 8]) -> Judged
-    ensures { λ r. ⌜ JudgedAs records (gives (askedBy parts bytes)) r ⌝ }
+    ensures { λ r. ⌜ JudgedAs (gives (heardBy parts bytes records)) (gives (changeBy parts bytes)) r ⌝ }
 {
     if parts.dgn != CLAIM {
-        return unasked(Heard::NothingToDo);
+        return unasked(Hearing::NothingToDo);
     }
     let claim = Claim {
         source: parts.source,
@@ -72,7 +73,7 @@ fn asked(records: [Node; RECORDS], parts: frame::Parts, bytes: [u8; 8]) -> Judge
 }
 
 // An answer where nothing is done to the table.
-fn unasked(answer: Heard) -> Judged
+fn unasked(answer: Hearing) -> Judged
     ensures { λ r. ⌜ r ≡ unaskedAs answer ⌝ }
 {
     Judged {
@@ -82,33 +83,33 @@ fn unasked(answer: Heard) -> Judged
     }
 }
 
-fn outcome(records: [Node; RECORDS], claim: Claim) -> Heard
-    ensures { λ r. ⌜ toldHeard r ≡ gives (claimOutcome records claim) ⌝ }
+fn outcome(records: [Node; RECORDS], claim: Claim) -> Hearing
+    ensures { λ r. ⌜ toldHearing r ≡ gives (claimOutcome records claim) ⌝ }
 {
     let source = claim.source;
     if GREATEST_ADDRESS < source {
-        return Heard::Silent;
+        return Hearing::Silent;
     }
     let at = source as usize;
     let before = cleared(records[at], claim.name);
     if gives_way(before, claim.name) {
-        return Heard::Taken(source);
+        return Hearing::Taken(source);
     }
     if may_challenge(before, claim.name) {
-        return Heard::Challenges(source);
+        return Hearing::Challenges(source);
     }
-    Heard::HeldByLower(source)
+    Hearing::HeldByLower(source)
 }
 
 // Judges a pause on values: everything that is refused, and in how many records the challenger takes the address.
 pub fn judge_pause(size: usize, records: [Node; RECORDS], ms: u16) -> JudgedPause
-    ensures { λ r. ⌜ JudgedPauseAs records (pauseAsked size records ms) r ⌝ }
+    ensures { λ r. ⌜ JudgedPauseAs (pausedIn size records ms) (pauseIn size records ms) r ⌝ }
 {
     if size < RECORDS {
         return unpaused(Pausing::TableTooShort);
     }
     if !keeps_rules(records) {
-        return unpaused(Pausing::BrokenTable);
+        return unpaused(Pausing::BrokenState);
     }
     let answer = Pausing::Replaced(replaced(records, ms));
     let turns = RECORDS;
@@ -146,13 +147,13 @@ fn replaced(records: [Node; RECORDS], ms: u16) -> u8
 }
 
 pub fn looked_up(size: usize, records: [Node; RECORDS], address: u8) -> LookedUp
-    ensures { λ r. ⌜ toldLookedUp r ≡ lookedUpOf size records address ⌝ }
+    ensures { λ r. ⌜ toldLookedUp r ≡ sizedOr size records (gives (holderAt address records)) ⌝ }
 {
     if size < RECORDS {
         return LookedUp::TableTooShort;
     }
     if !keeps_rules(records) {
-        return LookedUp::BrokenTable;
+        return LookedUp::BrokenState;
     }
     if GREATEST_ADDRESS < address {
         return LookedUp::Absent;
@@ -166,13 +167,13 @@ pub fn looked_up(size: usize, records: [Node; RECORDS], address: u8) -> LookedUp
 }
 
 pub fn found_challenger(size: usize, records: [Node; RECORDS], address: u8) -> FoundChallenger
-    ensures { λ r. ⌜ toldFoundChallenger r ≡ challengerOf size records address ⌝ }
+    ensures { λ r. ⌜ toldFoundChallenger r ≡ sizedOr size records (gives (rivalAt address records)) ⌝ }
 {
     if size < RECORDS {
         return FoundChallenger::TableTooShort;
     }
     if !keeps_rules(records) {
-        return FoundChallenger::BrokenTable;
+        return FoundChallenger::BrokenState;
     }
     if address > GREATEST_ADDRESS {
         return FoundChallenger::NoChallenger;
@@ -180,26 +181,29 @@ pub fn found_challenger(size: usize, records: [Node; RECORDS], address: u8) -> F
     let at = address as usize;
     let n = records[at];
     if is_challenged(n) {
-        return FoundChallenger::Waits(n.challenger, n.wait);
+        return FoundChallenger::Waits {
+            name: n.challenger,
+            wait: n.wait,
+        };
     }
     FoundChallenger::NoChallenger
 }
 
 pub fn found_address(size: usize, records: [Node; RECORDS], name: u64) -> FoundAddress
-    ensures { λ r. ⌜ toldFoundAddress r ≡ foundOf size records name ⌝ }
+    ensures { λ r. ⌜ toldFoundAddress r ≡ sizedOr size records (gives (first (hasName name) records)) ⌝ }
 {
     if size < RECORDS {
         return FoundAddress::TableTooShort;
     }
     if !keeps_rules(records) {
-        return FoundAddress::BrokenTable;
+        return FoundAddress::BrokenState;
     }
     address_in(records, name)
 }
 
 // The first address whose record has the NAME.
 fn address_in(records: [Node; RECORDS], name: u64) -> FoundAddress
-    ensures { λ r. ⌜ toldFoundAddress r ≡ gives (addressFrom name 0 records) ⌝ }
+    ensures { λ r. ⌜ toldFoundAddress r ≡ gives (first (hasName name) records) ⌝ }
 {
     let mut i: usize = 0;
     while i < RECORDS {
@@ -299,7 +303,7 @@ fn paused(n: Node, ms: u16) -> Node
 
 // 1 where the challenger takes the record in a pause, and 0 where not.
 fn replaces(n: Node, ms: u16) -> usize
-    ensures { λ r. ⌜ r ≡ replacesOf ms n ⌝ }
+    ensures { λ r. ⌜ r ≡ (if isReplaced ms n then 1 else 0) ⌝ }
 {
     if !is_challenged(n) {
         return 0;
@@ -455,7 +459,7 @@ fn sound_challenge(n: Node) -> bool
 
 fn stands_again(records: [Node; RECORDS], from: usize, n: Node) -> bool
     requires { ⌜ from ≤ addresses ⌝ }
-    ensures { λ r. ⌜ r ≡ standsAgain n (drop from records) ⌝ }
+    ensures { λ r. ⌜ r ≡ any (sharesName n) (drop from records) ⌝ }
 {
     if holder_again(records, from, n) {
         return true;
@@ -465,7 +469,7 @@ fn stands_again(records: [Node; RECORDS], from: usize, n: Node) -> bool
 
 fn holder_again(records: [Node; RECORDS], from: usize, n: Node) -> bool
     requires { ⌜ from ≤ addresses ⌝ }
-    ensures { λ r. ⌜ r ≡ holderAgain n (drop from records) ⌝ }
+    ensures { λ r. ⌜ r ≡ n .present and any (standsFor (n .name)) (drop from records) ⌝ }
 {
     if n.present {
         return stands_from(records, from, n.name);
@@ -475,7 +479,7 @@ fn holder_again(records: [Node; RECORDS], from: usize, n: Node) -> bool
 
 fn challenger_again(records: [Node; RECORDS], from: usize, n: Node) -> bool
     requires { ⌜ from ≤ addresses ⌝ }
-    ensures { λ r. ⌜ r ≡ challengerAgain n (drop from records) ⌝ }
+    ensures { λ r. ⌜ r ≡ isChallenged n and any (standsFor (n .challenger)) (drop from records) ⌝ }
 {
     if is_challenged(n) {
         return stands_from(records, from, n.challenger);
@@ -485,7 +489,7 @@ fn challenger_again(records: [Node; RECORDS], from: usize, n: Node) -> bool
 
 fn stands_from(records: [Node; RECORDS], from: usize, name: u64) -> bool
     requires { ⌜ from ≤ addresses ⌝ }
-    ensures { λ r. ⌜ r ≡ standsIn name (drop from records) ⌝ }
+    ensures { λ r. ⌜ r ≡ any (standsFor name) (drop from records) ⌝ }
 {
     let mut i = from;
     while i < RECORDS {

@@ -5,9 +5,9 @@ mod flat; // the work on values
 ghost use mathlib.Core.Path.{_≡_};
 ghost use Prim.Native.Nat.{_≤_};
 ghost use lib.ListN.{length};
-ghost use Rattle.nodes.specs.Promises.{Empty, Hear, Pause, LookUp, FindAddress, FindChallenger, HeardRefusal, PausingRefusal, LookedUpRefusal, FoundAddressRefusal, FoundChallengerRefusal};
+ghost use Rattle.nodes.specs.Promises.{Empty, Hear, Pause, LookUp, FindAddress, FindChallenger, HearingRefusal, PausingRefusal, LookedUpRefusal, FoundAddressRefusal, FoundChallengerRefusal};
 ghost use Rattle.nodes.specs.Table.{eachFrom};
-ghost use Rattle.nodes.specs.Inside.{afterOf, recordsOf};
+ghost use Rattle.nodes.specs.Private.{afterOf, recordsOf};
 
 // A table has a record for each of the addresses 0 to 253; what stands past them is neither read nor written.
 pub const RECORDS: usize = 254;
@@ -28,14 +28,14 @@ pub struct Node {
 // What came of a frame: a claim's record took the NAME; or stays with a lower one, which the NAME now challenges; or
 // which a lower NAME than this one challenges already, so that the claimer stands nowhere; a claim from 254, whose
 // sender has no address; or refusal 1, 2, or 3 to 6.
-pub enum Heard {
+pub enum Hearing {
     Taken(u8),
     Challenges(u8),
     HeldByLower(u8),
     Silent,
     NothingToDo,
     TableTooShort,
-    BrokenTable,
+    BrokenState,
     BadFrame(frame::BadFrame),
 }
 
@@ -43,7 +43,7 @@ pub enum Heard {
 pub enum Pausing {
     Replaced(u8),
     TableTooShort,
-    BrokenTable,
+    BrokenState,
 }
 
 // Who has an address, or refusal 1 or 2.
@@ -51,7 +51,7 @@ pub enum LookedUp {
     Present(u64),
     Absent,
     TableTooShort,
-    BrokenTable,
+    BrokenState,
 }
 
 // The address that a NAME has, or refusal 1 or 2.
@@ -59,32 +59,32 @@ pub enum FoundAddress {
     At(u8),
     NoAddress,
     TableTooShort,
-    BrokenTable,
+    BrokenState,
 }
 
 // Which NAME challenges the holder of an address, and for how many milliseconds it has; or refusal 1 or 2.
 pub enum FoundChallenger {
-    Waits(u64, u16),
+    Waits { name: u64, wait: u16 },
     NoChallenger,
     TableTooShort,
-    BrokenTable,
+    BrokenState,
 }
 
-impl Heard {
+impl Hearing {
     // The number of the refusal; 0 where the frame is heard.
     pub fn refusal(self) -> u8
-        ensures { λ r. ⌜ HeardRefusal self r ⌝ }
+        ensures { λ r. ⌜ HearingRefusal self r ⌝ }
     {
         let answer = self;
         match answer {
-            Heard::Taken(_) => 0,
-            Heard::Challenges(_) => 0,
-            Heard::HeldByLower(_) => 0,
-            Heard::Silent => 0,
-            Heard::NothingToDo => 0,
-            Heard::TableTooShort => 1,
-            Heard::BrokenTable => 2,
-            Heard::BadFrame(why) => why.refusal(),
+            Hearing::Taken(_) => 0,
+            Hearing::Challenges(_) => 0,
+            Hearing::HeldByLower(_) => 0,
+            Hearing::Silent => 0,
+            Hearing::NothingToDo => 0,
+            Hearing::TableTooShort => 1,
+            Hearing::BrokenState => 2,
+            Hearing::BadFrame(why) => why.refusal(),
         }
     }
 }
@@ -98,7 +98,7 @@ impl Pausing {
         match answer {
             Pausing::Replaced(_) => 0,
             Pausing::TableTooShort => 1,
-            Pausing::BrokenTable => 2,
+            Pausing::BrokenState => 2,
         }
     }
 }
@@ -113,7 +113,7 @@ impl LookedUp {
             LookedUp::Present(_) => 0,
             LookedUp::Absent => 0,
             LookedUp::TableTooShort => 1,
-            LookedUp::BrokenTable => 2,
+            LookedUp::BrokenState => 2,
         }
     }
 }
@@ -128,7 +128,7 @@ impl FoundAddress {
             FoundAddress::At(_) => 0,
             FoundAddress::NoAddress => 0,
             FoundAddress::TableTooShort => 1,
-            FoundAddress::BrokenTable => 2,
+            FoundAddress::BrokenState => 2,
         }
     }
 }
@@ -140,10 +140,10 @@ impl FoundChallenger {
     {
         let answer = self;
         match answer {
-            FoundChallenger::Waits(_, _) => 0,
+            FoundChallenger::Waits { name: _, wait: _ } => 0,
             FoundChallenger::NoChallenger => 0,
             FoundChallenger::TableTooShort => 1,
-            FoundChallenger::BrokenTable => 2,
+            FoundChallenger::BrokenState => 2,
         }
     }
 }
@@ -164,7 +164,7 @@ pub fn empty() -> [Node; RECORDS]
 // addresses: one that it held goes to its challenger, or to nobody. At its own address the holder's claim ends a
 // challenge; another NAME takes the record from a higher one or from nobody, and challenges a lower one, unless a lower
 // NAME than its own does. Refusals 1, 2 and 3 to 6 leave the table as it is.
-pub fn hear(table: &mut [Node], id: u32, bytes: &[u8]) -> Heard
+pub fn hear(table: &mut [Node], id: u32, bytes: &[u8]) -> Hearing
     ensures { λ r. ⌜ Hear (now (table .entry)) id (now (bytes .entry)) r (now (table .exit)) ⌝ }
 {
     let judged = flat::judge(table.len(), records(table), id, bytes);
@@ -218,7 +218,7 @@ enum Change {
 
 // A call judged: its answer, over how many records its change goes, and the change.
 struct Judged {
-    answer: Heard,
+    answer: Hearing,
     turns: usize,
     change: Change,
 }

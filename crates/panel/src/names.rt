@@ -2,7 +2,7 @@
 // nothing else does: such a function is proved by hand.
 use crate::show;
 use rvc::identifiers::standard::NO_ADDRESS;
-use rvc::node_table::Heard;
+use rvc::node_table::Hearing;
 use rvc::node_table::LookedUp;
 use rvc::node_table::Node;
 use rvc::node_table::Pausing;
@@ -13,7 +13,7 @@ ghost use Rattle.nodes.specs.Promises.{Hear, LookUp, Pause};
 // A table after a frame, and what was answered.
 struct After {
     table: [Node; RECORDS],
-    answer: Heard,
+    answer: Hearing,
 }
 
 // A table after a pause, likewise.
@@ -29,18 +29,20 @@ pub fn hear_claim(table: [Node; RECORDS], id: u32, bytes: [u8; 8]) -> [Node; REC
     let answer = after.answer;
     let heard = after.table;
     match answer {
-        Heard::Taken(address) => {
+        Hearing::Taken(address) => {
             show_node(heard, address);
             show_others(table, heard, address);
         }
-        Heard::Challenges(address) => {
+        Hearing::Challenges(address) => {
             show::show_challenger(address, rvc::identifiers::number_of(bytes));
             show_others(table, heard, address);
         }
-        Heard::HeldByLower(address) => show_others(table, heard, address),
-        Heard::Silent => show_others(table, heard, NO_ADDRESS),
-        Heard::NothingToDo | Heard::TableTooShort | Heard::BrokenTable | Heard::BadFrame(_) =>
-            show::refused(answer.refusal()),
+        Hearing::HeldByLower(address) => show_others(table, heard, address),
+        Hearing::Silent => show_others(table, heard, NO_ADDRESS),
+        Hearing::NothingToDo
+        | Hearing::TableTooShort
+        | Hearing::BrokenState
+        | Hearing::BadFrame(_) => show::refused(answer.refusal()),
     }
     heard
 }
@@ -105,7 +107,7 @@ fn hear(table: [Node; RECORDS], id: u32, bytes: &[u8]) -> After
     left(lent, answer)
 }
 
-fn left(table: [Node; RECORDS], answer: Heard) -> After
+fn left(table: [Node; RECORDS], answer: Hearing) -> After
     ensures { λ r. ⌜ (r .table ≡ table) × (r .answer ≡ answer) ⌝ }
 {
     After { table, answer }

@@ -2,7 +2,7 @@
 // and an address's challenger found.
 pub use nodes::FoundAddress;
 pub use nodes::FoundChallenger;
-pub use nodes::Heard;
+pub use nodes::Hearing;
 pub use nodes::LookedUp;
 pub use nodes::Node;
 pub use nodes::Pausing;

@@ -50,3 +50,7 @@ numberIn (gives a) = 0
 abbrev pub given_then_ : {A B : Type 0} → Told A → (A → Told B) → Told B
 given refused n then f = refused n
 given gives a then f = f a
+
+-- what a call gives that only does its work
+pub data Done : Type 0 where
+  done : Done

@@ -51,7 +51,7 @@ use denote.Triple.Walked.{says, needs, Stays, stay-slice, stay-dropped, walkOf, 
 use denote.Exit.{yes}
 use Rattle.nodes.specs.declared.Node.{Node}
 use Rattle.nodes.specs.Table.{absent, eachFrom}
-use Rattle.nodes.specs.Inside.{afterOf}
+use Rattle.nodes.specs.Private.{afterOf}
 use Rattle.nodes.specs.declared.Change.{Change}
 use Rattle.nodes.proofs.Each.{each-length, each-at, each-step}
 use Rattle.nodes.proofs.Node as T

@@ -44,18 +44,17 @@ use denote.Triple.Table.{entered, cited}
 use denote.Triple.Walked.{says, Stays, stay-slice, stay-none-slice, stay-dropped, walkOf, goes-slice, goes-none-slice, goes-dropped, Walks, ends-at, walked, walk-meets}
 use denote.Exit.{yes}
 use Rattle.nodes.specs.declared.Node.{Node}
-use Rattle.nodes.specs.declared.Heard.{Heard}
+use Rattle.nodes.specs.declared.Hearing.{Hearing}
 use Rattle.nodes.specs.declared.Judged.{Judged}
 use Rattle.nodes.specs.Table.{addresses, eachFrom}
-use Rattle.nodes.specs.Call.{askedOf}
 use Rattle.nodes.specs.Promises.{Hear}
-use Rattle.nodes.specs.Inside.{afterOf, recordsOf, JudgedAs}
+use Rattle.nodes.specs.Private.{heardIn, changeIn, JudgedAs, recordsOf, afterOf}
 use Rattle.nodes.proofs.Array.{arrayTy, array-told, array-made, array-law}
 use Rattle.nodes.proofs.Calls.{Records, Changed, calls-records, calls-changed}
 use Rattle.nodes.proofs.Each.{each-length}
 use Rattle.nodes.proofs.Whole.{judged-inside, judged-heard}
-use Rattle.nodes.proofs.Heard as E
-use Rattle.nodes.proofs.Heard.Laws as E′
+use Rattle.nodes.proofs.Hearing as E
+use Rattle.nodes.proofs.Hearing.Laws as E′
 use Rattle.nodes.proofs.Judged as J
 use Rattle.nodes.proofs.Judged.Laws as J′
 use Rattle.nodes.proofs.Record.{R, vals, AR}
@@ -115,7 +114,7 @@ module _ {M : Type 1} (𝓤 : URA M) (H : Heap 𝓤) (A : Atoms 𝓤) (W : Given
   abbrev Post : Val → SProp 𝓤
   Post = walkOf 𝓤 H A hear.ended stayed (hear.clauses 𝓤 H A mem run) .post (((κ, (κ′, tt)), (q, (q′, tt)), tt, x, at), tt)
 
-  exits : (r : Heard) (v : Val) (zs : List Node) → length zs ≡ length ys → Is E.the-row r (v ∷ []) → Hear ys id bs r zs
+  exits : (r : Hearing) (v : Val) (zs : List Node) → length zs ≡ length ys → Is E.the-row r (v ∷ []) → Hear ys id bs r zs
       → ent 𝓤 (⋆ 𝓤 H A (‵ (fobs γ (codedHoleys R .code (heres R zs))) ∷ ‵ (fbor κ (Held R (length zs) b o γ)) ∷ ‵ (flft κ q) ∷ (‵ (flft κ′ q′) ⊛ ‵ ftrue) ∷ ‵ Own ∷ [])) (Post v)
   exits r v zs long is e =
       qed W (‵ (fobs γ (codedHoleys R .code (heres R zs))) ∷ ‵ (fbor κ (Held R (length zs) b o γ)) ∷ ‵ (flft κ q) ∷ (‵ (flft κ′ q′) ⊛ ‵ ftrue) ∷ ‵ Own ∷ []) ∵
@@ -140,7 +139,7 @@ module _ {M : Type 1} (𝓤 : URA M) (H : Heap 𝓤) (A : Atoms 𝓤) (W : Given
       owned ! usize (Is usize) (uint-makes 𝓤 H A W w64) (length ys) _ (refl, room .0) $ fjoin ! $ move ! (1 ∷ 0 ∷ []) $ join ! $ nothing ! $ move ! (1 ∷ 0 ∷ []) $ done !
 
   abbrev Judges : List Node → Judged → Type 0
-  Judges ns r = JudgedAs ns (askedOf (length ys) ns id bs) r
+  Judges ns r = JudgedAs (heardIn (length ys) ns id bs) (changeIn (length ys) ns id bs) r
 
   says-judge : (ns : List Node) (r : Judged) → ent 𝓤 (ensured 𝓤 H A judge.ended (judge.clauses 𝓤 H A mem run) (κ′, tt) (y ns) tt r) (fact 𝓤 (Judges ns r))
   says-judge ns r = exE 𝓤 _ (λ ws. snd∗ 𝓤 (sem 𝓤 H A (lasts judge.ended (κ′, tt) (y ns) ws)) (fact 𝓤 (Judges ns r)))

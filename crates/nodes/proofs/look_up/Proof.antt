@@ -40,10 +40,12 @@ use denote.Triple.Statement.{Contract, Triple}
 use denote.Triple.Table.{entered, cited}
 use denote.Triple.Walked.{says, Stays, stay-none-slice, stay-dropped, walkOf, goes-none-slice, goes-dropped, Walks, ends-at, walked, walk-meets}
 use denote.Exit.{yes}
+use Rattle.words.specs.Words.{gives}
 use Rattle.nodes.specs.declared.Node.{Node}
 use Rattle.nodes.specs.declared.LookedUp.{LookedUp}
 use Rattle.nodes.specs.Table.{addresses}
-use Rattle.nodes.specs.Call.{lookedUpOf}
+use Rattle.nodes.specs.Call.{holderAt}
+use Rattle.nodes.specs.Private.{sizedOr}
 use Rattle.nodes.specs.Promises.{LookUp, toldLookedUp}
 use Rattle.nodes.proofs.Array.{arrayTy, array-told, array-made, array-law}
 use Rattle.nodes.proofs.Calls.{Records, calls-records}
@@ -109,7 +111,7 @@ module _ {M : Type 1} (𝓤 : URA M) (H : Heap 𝓤) (A : Atoms 𝓤) (W : Given
       owned ! usize (Is usize) (uint-makes 𝓤 H A W w64) (length ys) _ (refl, room .0) $ fjoin ! $ nothing ! $ join ! $ nothing ! $ move ! (1 ∷ 0 ∷ []) $ done !
 
   abbrev Tells : List Node → LookedUp → Type 0
-  Tells ns r = toldLookedUp r ≡ lookedUpOf (length ys) ns a
+  Tells ns r = toldLookedUp r ≡ sizedOr (length ys) ns (gives (holderAt a ns))
 
   says-looked : (ns : List Node) (r : LookedUp) → ent 𝓤 (ensured 𝓤 H A looked.ended (looked.clauses 𝓤 H A mem run) tt (y ns) tt r) (fact 𝓤 (Tells ns r))
   says-looked ns r = exE 𝓤 _ (λ ws. snd∗ 𝓤 (sem 𝓤 H A (lasts looked.ended tt (y ns) ws)) (fact 𝓤 (Tells ns r)))

@@ -47,9 +47,8 @@ use Rattle.nodes.specs.declared.Node.{Node}
 use Rattle.nodes.specs.declared.Pausing.{Pausing}
 use Rattle.nodes.specs.declared.JudgedPause.{JudgedPause}
 use Rattle.nodes.specs.Table.{addresses, eachFrom}
-use Rattle.nodes.specs.Call.{pauseAsked}
 use Rattle.nodes.specs.Promises.{Pause}
-use Rattle.nodes.specs.Inside.{afterOf, recordsOf, JudgedPauseAs}
+use Rattle.nodes.specs.Private.{pausedIn, pauseIn, JudgedPauseAs, recordsOf, afterOf}
 use Rattle.nodes.proofs.Array.{arrayTy, array-told, array-made, array-law}
 use Rattle.nodes.proofs.Calls.{Records, Changed, calls-records, calls-changed}
 use Rattle.nodes.proofs.Each.{each-length}
@@ -126,7 +125,7 @@ module _ {M : Type 1} (𝓤 : URA M) (H : Heap 𝓤) (A : Atoms 𝓤) (W : Given
       owned ! usize (Is usize) (uint-makes 𝓤 H A W w64) (length ys) _ (refl, room .0) $ fjoin ! $ nothing ! $ join ! $ nothing ! $ move ! (1 ∷ 0 ∷ []) $ done !
 
   abbrev Judges : List Node → JudgedPause → Type 0
-  Judges ns r = JudgedPauseAs ns (pauseAsked (length ys) ns ms) r
+  Judges ns r = JudgedPauseAs (pausedIn (length ys) ns ms) (pauseIn (length ys) ns ms) r
 
   says-judge : (ns : List Node) (r : JudgedPause) → ent 𝓤 (ensured 𝓤 H A judge.ended (judge.clauses 𝓤 H A mem run) tt (y ns) tt r) (fact 𝓤 (Judges ns r))
   says-judge ns r = exE 𝓤 _ (λ ws. snd∗ 𝓤 (sem 𝓤 H A (lasts judge.ended tt (y ns) ws)) (fact 𝓤 (Judges ns r)))

@@ -52,7 +52,7 @@ use denote.Exit.{yes}
 use Rattle.nodes.specs.declared.Node.{Node}
 use Rattle.nodes.specs.Table.{addresses, absent}
 use Rattle.nodes.specs.Promises.{Empty}
-use Rattle.nodes.specs.Inside.{readableOf, recordsOf}
+use Rattle.nodes.specs.Private.{readableOf, recordsOf}
 use Rattle.nodes.proofs.Array.{arrayTy, array-told, array-made, array-law, lay, back}
 use Rattle.nodes.proofs.Copy.{copied, copied-step, copied-length, copied-all, readable-small}
 use Rattle.nodes.proofs.Node as T

@@ -3,14 +3,17 @@ use mathlib.Core.Path.{_≡_, refl, sym, _∙_}
 use Prim.Native.Nat.{_≤_, _<_, _-_}
 use native.Mathlib.Omega.{arith}
 use borrow.Author.Needs.{needs}
-use lib.ListN.{length, drop}
-use Rattle.claim.specs.Candidates.{areAddresses}
-use Rattle.claim.proofs.Candidates.{addresses-pass, addresses-stop, addresses-end}
+use borrow.Author.Tests.{le-leb, lt-leb}
+use lib.ListN.{length, drop, getD}
+use Rattle.words.specs.Lists.{every}
+use Rattle.frame.specs.Standard.{greatestAddress}
+use Rattle.words.proofs.Lists.{every-pass, every-stop, every-end}
+use Rattle.claim.specs.Candidates.{isAddress}
 use Rattle.claim.proofs.list.addresses.Statement.{statement}
 use Rattle.claim.proofs.list.addresses.Tie as tie
 
 abbrev Inv-loop : tie.InvT-loop
-Inv-loop list i₀ i = (i ≤ length list) × (areAddresses list ≡ areAddresses (drop i list))
+Inv-loop list i₀ i = (i ≤ length list) × (every isAddress list ≡ every isAddress (drop i list))
 
 abbrev μ-loop : tie.MeasureT-loop
 μ-loop list i₀ i = length list - i
@@ -24,8 +27,10 @@ shared-slice-read-if1 c = search needs
 returns : tie.Need-returns Inv-loop μ-loop
 returns c =
     let l = c .before .before .before .loop in
-    let h : l .i < length (c .before .before .before .before .args .list .now) = omega arith in
-    sym (l .inv .1 ∙ addresses-stop _ _ h (omega arith))
+    let s = c .before .before .before .before .args .list .now in
+    let h : l .i < length s = omega arith in
+    let k : greatestAddress < getD s (l .i) 0 = omega arith in
+    sym (l .inv .1 ∙ every-stop isAddress s (l .i) 0 h (lt-leb _ _ k))
 
 add-i : tie.Need-add-i Inv-loop μ-loop
 add-i c = search needs
@@ -36,14 +41,16 @@ loop-less c = search needs
 loop-again : tie.Need-loop-again Inv-loop μ-loop
 loop-again c =
     let l = c .before .before .before .loop in
-    let h : l .i < length (c .before .before .before .before .args .list .now) = omega arith in
-    (search needs, l .inv .1 ∙ addresses-pass _ _ h (omega arith))
+    let s = c .before .before .before .before .args .list .now in
+    let h : l .i < length s = omega arith in
+    let k : getD s (l .i) 0 ≤ greatestAddress = omega arith in
+    (search needs, l .inv .1 ∙ every-pass isAddress s (l .i) 0 h (le-leb _ _ k))
 
 returns-2 : tie.Need-returns-2 Inv-loop μ-loop
 returns-2 c =
     let l = c .before .loop in
     let h : length (c .before .before .args .list .now) ≤ l .i = omega arith in
-    sym (l .inv .1 ∙ addresses-end _ _ h)
+    sym (l .inv .1 ∙ every-end isAddress _ _ h)
 
 pub addresses-spec : {M : Type 1} → statement M
 addresses-spec =

@@ -5,13 +5,14 @@ use native.Mathlib.Omega.{arith}
 use borrow.Author.Needs.{needs}
 use borrow.Author.Tests.{not-true, not-false}
 use lib.ListN.{length, drop}
-use Rattle.claim.specs.Candidates.{areDistinct}
-use Rattle.claim.proofs.Candidates.{distinct-pass, distinct-stop, distinct-end}
+use Rattle.words.specs.Words.{_=?_}
+use Rattle.words.specs.Lists.{noTwo}
+use Rattle.words.proofs.Lists.{no-two-pass, no-two-stop, no-two-end}
 use Rattle.claim.proofs.list.distinct.Statement.{statement}
 use Rattle.claim.proofs.list.distinct.Tie as tie
 
 abbrev Inv-loop : tie.InvT-loop
-Inv-loop list i₀ i = (i ≤ length list) × (areDistinct list ≡ areDistinct (drop i list))
+Inv-loop list i₀ i = (i ≤ length list) × (noTwo _=?_ list ≡ noTwo _=?_ (drop i list))
 
 abbrev μ-loop : tie.MeasureT-loop
 μ-loop list i₀ i = length list - i
@@ -32,7 +33,7 @@ returns : tie.Need-returns Inv-loop μ-loop
 returns c =
     let l = c .before .before .before .before .loop in
     let h : l .i < length (c .before .before .before .before .before .before .args .list .now) = omega arith in
-    sym (l .inv .1 ∙ distinct-stop _ _ h (sym (c .before .absent .ensures) ∙ not-true _ (c .if1 .taken)))
+    sym (l .inv .1 ∙ no-two-stop _ _ _ 0 h (not-false _ (sym (c .before .absent .ensures) ∙ not-true _ (c .if1 .taken))))
 
 add-i : tie.Need-add-i Inv-loop μ-loop
 add-i c = search needs
@@ -44,13 +45,13 @@ loop-again : tie.Need-loop-again Inv-loop μ-loop
 loop-again c =
     let l = c .before .before .before .before .loop in
     let h : l .i < length (c .before .before .before .before .before .before .args .list .now) = omega arith in
-    (search needs, l .inv .1 ∙ distinct-pass _ _ h (sym (c .before .absent .ensures) ∙ not-false _ (c .if1 .left)))
+    (search needs, l .inv .1 ∙ no-two-pass _ _ _ 0 h (not-true _ (sym (c .before .absent .ensures) ∙ not-false _ (c .if1 .left))))
 
 returns-2 : tie.Need-returns-2 Inv-loop μ-loop
 returns-2 c =
     let l = c .before .loop in
     let h : length (c .before .before .before .args .list .now) ≤ l .i = omega arith in
-    sym (l .inv .1 ∙ distinct-end _ _ h)
+    sym (l .inv .1 ∙ no-two-end _ _ _ h)
 
 pub distinct-spec : {M : Type 1} → statement M
 distinct-spec =

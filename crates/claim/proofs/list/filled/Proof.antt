@@ -5,7 +5,8 @@ use Prim.Native.Nat.{_≤_, _<_, _-_}
 use native.Mathlib.Omega.{arith}
 use borrow.Author.Needs.{needs}
 use lib.ListN.{length, take, replicate}
-use Rattle.claim.proofs.Candidates.{fill-turn, fill-end}
+use Rattle.words.proofs.Lists.{fill-turn, fill-end}
+use Rattle.claim.specs.Candidates.{padded}
 use Rattle.claim.proofs.list.filled.Statement.{statement}
 use Rattle.claim.proofs.list.filled.Tie as tie
 
@@ -35,14 +36,15 @@ loop-again c =
     let l = c .before .before .loop in
     let s = c .before .before .before .args .list .now in
     let h : l .i < length s = omega arith in
-    (search needs, l .inv .1, search needs, fill-turn s (l .out) (l .i) h (l .inv .1) (l .inv .3))
+    (search needs, l .inv .1, search needs, fill-turn s (l .out) (l .i) 16 0 0 h (omega arith) (l .inv .3))
 
 returns : tie.Need-returns Inv-loop μ-loop
+unfolding padded
 returns c =
     let l = c .before .loop in
     let s = c .before .before .args .list .now in
     let h : l .i ≡ length s = omega arith in
-    fill-end s (l .out) (l .i) h (l .inv .3)
+    fill-end s (l .out) (l .i) 16 0 h (l .inv .3)
 
 pub filled-spec : {M : Type 1} → statement M
 filled-spec =

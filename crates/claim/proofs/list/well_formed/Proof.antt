@@ -3,7 +3,8 @@ use mathlib.Core.Bool.{true, false}
 use mathlib.Core.Path.{_≡_, sym, _∙_}
 use borrow.Author.Tests.{not-true, not-false}
 use borrow.Author.Needs.{needs}
-use Rattle.claim.specs.Candidates.{areAddresses, isWellFormed}
+use Rattle.words.specs.Lists.{every}
+use Rattle.claim.specs.Candidates.{isAddress, isWellFormed}
 use Rattle.words.proofs.Tests.{tests}
 use Rattle.claim.proofs.list.well_formed.Statement.{statement}
 use Rattle.claim.proofs.list.well_formed.Tie as tie
@@ -22,7 +23,7 @@ addresses-requires c κs = search needs
 returns-3 : tie.Need-returns-3
 unfolding isWellFormed
 returns-3 c =
-    let e : areAddresses (c .before .before .before .before .before .args .list .now) ≡ false = sym (c .before .addresses .ensures) ∙ not-true _ (c .if3 .taken) in
+    let e : every isAddress (c .before .before .before .before .before .args .list .now) ≡ false = sym (c .before .addresses .ensures) ∙ not-true _ (c .if3 .taken) in
     search (tests, e)
 
 distinct-requires : tie.Need-distinct-requires
@@ -31,7 +32,7 @@ distinct-requires c κs = search needs
 returns-4 : tie.Need-returns-4
 unfolding isWellFormed
 returns-4 c =
-    let e : areAddresses (c .before .before .before .before .before .before .args .list .now) ≡ true = sym (c .before .before .addresses .ensures) ∙ not-false _ (c .before .if3 .left) in
+    let e : every isAddress (c .before .before .before .before .before .before .args .list .now) ≡ true = sym (c .before .before .addresses .ensures) ∙ not-false _ (c .before .if3 .left) in
     c .distinct .ensures ∙ search (tests, e)
 
 pub well-formed-spec : {M : Type 1} → statement M

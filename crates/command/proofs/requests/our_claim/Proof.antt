@@ -1,7 +1,7 @@
 -- `command::requests::our_claim` meets its contract. Assumes nothing.
 use mathlib.Core.Path.{_∙_}
 use borrow.Author.Needs.{needs}
-use Rattle.command.specs.Acknowledgment.{claimFrame}
+use Rattle.claim.specs.Claim.{claimFrame}
 use Rattle.command.proofs.Answers.{claims-requested}
 use Rattle.command.proofs.requests.our_claim.Statement.{statement}
 use Rattle.command.proofs.requests.our_claim.Tie as tie

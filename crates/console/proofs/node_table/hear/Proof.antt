@@ -48,11 +48,11 @@ use denote.Triple.Table.{entered, cited}
 use denote.Triple.Walked.{says, needs, Stays, stay-none-slice, stay-dropped, walkOf, goes-none-slice, goes-dropped, Walks, ends-at, walked, walk-meets}
 use denote.Exit.{yes}
 use Rattle.nodes.specs.declared.Node.{Node}
-use Rattle.nodes.specs.declared.Heard.{Heard}
+use Rattle.nodes.specs.declared.Hearing.{Hearing}
 use Rattle.nodes.specs.Promises.{Hear}
 use Rattle.nodes.proofs.Array.{arrayTy, array-told, array-made, array-law, lay, back}
-use Rattle.nodes.proofs.Heard as E
-use Rattle.nodes.proofs.Heard.Laws as E′
+use Rattle.nodes.proofs.Hearing as E
+use Rattle.nodes.proofs.Hearing.Laws as E′
 use Rattle.nodes.proofs.Record.{R, vals, AR, array-val}
 use Rattle.nodes.proofs.hear as callee
 use Rattle.nodes.proofs.hear.Symbol as callee-def
@@ -116,7 +116,7 @@ module _ {M : Type 1} (𝓤 : URA M) (H : Heap 𝓤) (A : Atoms 𝓤) (W : Given
   table-front : (zs : List Node) → length zs ≡ length ys → take n (zs ++ rest) ≡ zs
   table-front zs e = take-at zs rest n (e ∙ long)
 
-  heard-front : (zs : List Node) (f : After) (r : Heard) → length zs ≡ length ys → (f .table ≡ zs ++ rest) × (f .answer ≡ r) → Hear ys id bs r zs → Hear ys id bs (f .answer) (take n (f .table))
+  heard-front : (zs : List Node) (f : After) (r : Hearing) → length zs ≡ length ys → (f .table ≡ zs ++ rest) × (f .answer ≡ r) → Hear ys id bs r zs → Hear ys id bs (f .answer) (take n (f .table))
   heard-front zs f r same has e = rw (has .0, has .1, table-front zs same) e
 
   abbrev bytes : RefT (List ℕ)
@@ -165,18 +165,18 @@ module _ {M : Type 1} (𝓤 : URA M) (H : Heap 𝓤) (A : Atoms 𝓤) (W : Given
       nothing ! $ move ! (2 ∷ 0 ∷ []) $ fjoin ! $ owned ! u32 (Is u32) (uint-makes 𝓤 H A W w32) id _ (refl, id-fits) $ fjoin ! $ move ! (1 ∷ 0 ∷ []) $ fjoin ! $ move ! (1 ∷ 0 ∷ []) $ join ! $ nothing ! $ move ! (1 ∷ 0 ∷ []) $ done !
 
   -- ---- the call of `left`
-  abbrev to-left : List Node → Heard → Left 𝓤 H A mem′ run .Ghost
+  abbrev to-left : List Node → Hearing → Left 𝓤 H A mem′ run .Ghost
   to-left ns r = ((tt, tt, tt, (ns, (r, tt)), (array-vals vals ns, (EL.vals E.the-type E′.the-laws r, tt))), tt)
 
-  asks-left : (ns : List Node) (r : Heard) → Is (AR most) ns (array-vals vals ns) → Is E.the-row r (EL.vals E.the-type E′.the-laws r) → ent 𝓤 (emp 𝓤) (Left 𝓤 H A mem′ run .pre (to-left ns r))
+  asks-left : (ns : List Node) (r : Hearing) → Is (AR most) ns (array-vals vals ns) → Is E.the-row r (EL.vals E.the-type E′.the-laws r) → ent 𝓤 (emp 𝓤) (Left 𝓤 H A mem′ run .pre (to-left ns r))
   asks-left ns r good is =
       qed W [] ∵ nothing ! $ owned ! E.the-row (Is E.the-row) (EL.makes E.the-type E′.the-plain 𝓤 H A) r _ is $ fjoin ! $ owned ! (AR most) (Is (AR most)) (array-made 𝓤 H A W most) ns _ good $ fjoin ! $
       nothing ! $ join ! $ nothing ! $ move ! (1 ∷ 0 ∷ []) $ done !
 
-  abbrev Has : List Node → Heard → After → Type 0
+  abbrev Has : List Node → Hearing → After → Type 0
   Has ns r f = (f .table ≡ ns) × (f .answer ≡ r)
 
-  says-left : (ns : List Node) (r : Heard) (f : After) → ent 𝓤 (ensured 𝓤 H A left.ended (left.clauses 𝓤 H A mem′ run) tt (ns, (r, tt)) tt f) (fact 𝓤 (Has ns r f))
+  says-left : (ns : List Node) (r : Hearing) (f : After) → ent 𝓤 (ensured 𝓤 H A left.ended (left.clauses 𝓤 H A mem′ run) tt (ns, (r, tt)) tt f) (fact 𝓤 (Has ns r f))
   says-left ns r f = exE 𝓤 _ (λ ws. snd∗ 𝓤 (sem 𝓤 H A (lasts left.ended tt (ns, (r, tt)) ws)) (fact 𝓤 (Has ns r f)))
 
   module _ (C : Calls 𝓤 H) (Λ : Loops 𝓤 H) (fm : FmC 𝓤 H (W .laws) C) (known-left : Triple 𝓤 (C #left) (Left 𝓤 H A mem′ run)) (known : Triple 𝓤 (C #nodes·hear) (Callee 𝓤 H A mem′ run)) where
@@ -204,7 +204,7 @@ module _ {M : Type 1} (𝓤 : URA M) (H : Heap 𝓤) (A : Atoms 𝓤) (W : Given
         use2 W (raw (Callee 𝓤 H A mem′ run .pre (to l₅ ν δ))) (asks l₅ ν δ) $
         -- [what is asked; the lender's part; what is not lent; bytes'; _9; …; _8; …; _7; …; _6; …; that _5 dies; _4; …; _3; …; _2; …; _1; …; _0; …]
         calls-at ! fm (Callee 𝓤 H A mem′ run) known (to l₅ ν δ) (and-then ! (load ! (from ! (stop !)) (look ! 6 refl)) (and-then ! (load ! (from ! (stop !)) (look ! 15 refl)) (and-then ! (load ! (from ! (stop !)) (look ! 13 refl)) (no-more !)))) (λ v.
-        use1 W (later (some (λ (r : Heard). ((‵ (flft (ν ∷ []) fullShare) ⊛ (‵ (flft κ q) ⊛ ‵ ftrue)) ⊛ ‵ (E.the-row .own r (v ∷ []))) ⊛ raw (ensured 𝓤 H A callee.ended (callee.clauses 𝓤 H A mem′ run) (ν ∷ [], (κ, tt)) (y l₅ δ) tt r)))) (id⊢ 𝓤 _) $ await ! tt $ pick ! (λ r.
+        use1 W (later (some (λ (r : Hearing). ((‵ (flft (ν ∷ []) fullShare) ⊛ (‵ (flft κ q) ⊛ ‵ ftrue)) ⊛ ‵ (E.the-row .own r (v ∷ []))) ⊛ raw (ensured 𝓤 H A callee.ended (callee.clauses 𝓤 H A mem′ run) (ν ∷ [], (κ, tt)) (y l₅ δ) tt r)))) (id⊢ 𝓤 _) $ await ! tt $ pick ! (λ r.
         split ! $ move ! (1 ∷ []) $ use1 W (some (λ (zs : List Node × (Unit {0} × (Unit {0} × Unit {0}))). ‵ (lasts callee.ended (ν ∷ [], (κ, tt)) (y l₅ δ) zs) ⊛ raw (fact 𝓤 (Hear ys id bs r (zs .0))))) (id⊢ 𝓤 _) $ pick ! (λ zs.
         split ! $ move ! (1 ∷ []) $ heard ! (Hear ys id bs r (zs .0)) (λ e. fsplit ! $ fsplit ! $ move ! (1 ∷ []) $ feqL ! (λ same.
         -- [the last list; …; the tokens and the result; the lender's part; what is not lent; bytes'; _9; …]

@@ -5,16 +5,16 @@ use native.Mathlib.Omega.{arith}
 use borrow.Author.Needs.{needs}
 use lib.ListN.{length, drop}
 use Rattle.words.specs.Words.{gives}
-use Rattle.nodes.specs.Table.{addresses}
-use Rattle.nodes.specs.Call.{Whereabouts, addressFrom}
-use Rattle.nodes.proofs.Rules.{length-field}
-use Rattle.nodes.proofs.Find.{search-end, search-hit, search-turn}
+use Rattle.words.specs.Lists.{firstFrom, first}
+use Rattle.words.specs.declared.Found.{Found}
+use Rattle.nodes.specs.Table.{addresses, absent, hasName}
+use Rattle.words.proofs.Lists.{length-field, search-pass, search-stop, search-end}
 use Rattle.nodes.proofs.flat.address_in.Statement.{statement}
 use Rattle.nodes.proofs.flat.address_in.Tie as tie
 
 abbrev Inv-loop : tie.InvT-loop
 Inv-loop name records i₀ i =
-    (i ≤ addresses) × (length records ≡ addresses) × (addressFrom name i (drop i records) ≡ addressFrom name 0 records)
+    (i ≤ addresses) × (length records ≡ addresses) × (firstFrom (hasName name) i (drop i records) ≡ first (hasName name) records)
 
 abbrev μ-loop : tie.MeasureT-loop
 μ-loop name records i₀ i = addresses - i
@@ -40,8 +40,8 @@ returns : tie.Need-returns Inv-loop μ-loop
 returns c =
     let l = c .before .before .before .before .loop in
     let h : l .i < length (c .before .before .before .before .before .args .t1) = omega arith in
-    let e = search-hit _ _ (l .i) h (sym (c .before .has-name .ensures) ∙ c .if1 .taken) in
-    ap (λ (w : Whereabouts). gives w) (sym e ∙ l .inv .2)
+    let e = search-stop _ _ (l .i) absent h (sym (c .before .has-name .ensures) ∙ c .if1 .taken) in
+    ap (λ (w : Found). gives w) (sym e ∙ l .inv .2)
 
 add-i : tie.Need-add-i Inv-loop μ-loop
 add-i c = search needs
@@ -54,13 +54,13 @@ loop-again c =
     let l = c .before .before .before .before .loop in
     let h : l .i < length (c .before .before .before .before .before .args .t1) = omega arith in
     let f = sym (c .before .has-name .ensures) ∙ c .if1 .left in
-    (omega arith, l .inv .1, sym (search-turn _ _ (l .i) h f) ∙ l .inv .2)
+    (omega arith, l .inv .1, sym (search-pass _ _ (l .i) absent h f) ∙ l .inv .2)
 
 returns-2 : tie.Need-returns-2 Inv-loop μ-loop
 returns-2 c =
     let l = c .before .loop in
     let h : length (c .before .before .args .t1) ≤ l .i = omega arith in
-    ap (λ (w : Whereabouts). gives w) (sym (search-end _ (c .before .before .args .t1) (l .i) h) ∙ l .inv .2)
+    ap (λ (w : Found). gives w) (sym (search-end _ (c .before .before .args .t1) (l .i) h) ∙ l .inv .2)
 
 pub address-in-spec : {M : Type 1} → statement M
 address-in-spec =

@@ -1,6 +1,6 @@
 -- `nodes::flat::after` meets its contract. Assumes nothing.
 use borrow.Author.Needs.{needs}
-use Rattle.nodes.specs.Inside.{afterOf}
+use Rattle.nodes.specs.Private.{afterOf}
 use Rattle.nodes.proofs.flat.after.Statement.{statement}
 use Rattle.nodes.proofs.flat.after.Tie as tie
 

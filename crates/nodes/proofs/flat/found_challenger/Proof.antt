@@ -1,14 +1,15 @@
 -- `nodes::flat::found_challenger` meets its contract. Assumes nothing.
-use mathlib.Core.Path.{sym, _∙_}
+use mathlib.Core.Path.{sym, ap, _∙_}
 use borrow.Author.Tests.{not-true, not-false}
 use borrow.Author.Needs.{needs}
+use Rattle.words.specs.Words.{gives}
 use Rattle.nodes.specs.Call.{rivalOf}
-use Rattle.nodes.proofs.Call.{rival-short, rival-broken, rival-past, rival-at}
+use Rattle.nodes.proofs.Call.{sized-short, sized-broken, sized-sound, rival-past, rival-at}
 use Rattle.nodes.proofs.flat.found_challenger.Statement.{statement}
 use Rattle.nodes.proofs.flat.found_challenger.Tie as tie
 
 returns : tie.Need-returns
-returns c = sym (rival-short _ _ _ (c .if1 .taken))
+returns c = sym (sized-short _ _ _ (c .if1 .taken))
 
 keeps-rules-requires : tie.Need-keeps-rules-requires
 keeps-rules-requires c κs = search needs
@@ -17,13 +18,13 @@ returns-2 : tie.Need-returns-2
 returns-2 c =
     let k = c .before in
     let e = sym (k .keeps-rules .ensures) ∙ not-true (k .keeps-rules .result) (c .if2 .taken) in
-    sym (rival-broken _ _ _ (k .before .if1 .left) e)
+    sym (sized-broken _ _ _ (k .before .if1 .left) e)
 
 returns-3 : tie.Need-returns-3
 returns-3 c =
     let k = c .before .before in
     let e = sym (k .keeps-rules .ensures) ∙ not-false (k .keeps-rules .result) (c .before .if2 .left) in
-    sym (rival-past _ _ _ (k .before .if1 .left) e (c .if3 .taken))
+    sym (sized-sound _ _ _ (k .before .if1 .left) e ∙ ap gives (rival-past _ _ (c .if3 .taken)))
 
 mul-n : tie.Need-mul-n
 mul-n c = search needs
@@ -41,7 +42,7 @@ returns-4 c =
     let k = l .before .before in
     let e = sym (k .keeps-rules .ensures) ∙ not-false (k .keeps-rules .result) (l .before .if2 .left) in
     let f = sym (c .before .is-challenged .ensures) ∙ c .if4 .taken in
-    sym (rival-at _ _ _ (k .before .if1 .left) e (l .if3 .left) ∙ rw f)
+    sym (sized-sound _ _ _ (k .before .if1 .left) e ∙ ap gives (rival-at _ _ (l .if3 .left)) ∙ rw f)
 
 returns-5 : tie.Need-returns-5
 unfolding rivalOf
@@ -50,7 +51,7 @@ returns-5 c =
     let k = l .before .before in
     let e = sym (k .keeps-rules .ensures) ∙ not-false (k .keeps-rules .result) (l .before .if2 .left) in
     let f = sym (c .before .is-challenged .ensures) ∙ c .if4 .left in
-    sym (rival-at _ _ _ (k .before .if1 .left) e (l .if3 .left) ∙ rw f)
+    sym (sized-sound _ _ _ (k .before .if1 .left) e ∙ ap gives (rival-at _ _ (l .if3 .left)) ∙ rw f)
 
 pub found-challenger-spec : {M : Type 1} → statement M
 found-challenger-spec =

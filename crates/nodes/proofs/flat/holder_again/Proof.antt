@@ -1,6 +1,5 @@
 -- `nodes::flat::holder_again` meets its contract. Assumes nothing.
 use borrow.Author.Needs.{needs}
-use Rattle.nodes.specs.Table.{holderAgain}
 use Rattle.nodes.proofs.flat.holder_again.Statement.{statement}
 use Rattle.nodes.proofs.flat.holder_again.Tie as tie
 
@@ -8,11 +7,9 @@ stands-from-requires : tie.Need-stands-from-requires
 stands-from-requires c κs = search needs
 
 returns : tie.Need-returns
-unfolding holderAgain
 returns c = rw (c .before .if1 .taken) (c .stands-from .ensures)
 
 returns-2 : tie.Need-returns-2
-unfolding holderAgain
 returns-2 c = rw (c .if1 .left)
 
 pub holder-again-spec : {M : Type 1} → statement M

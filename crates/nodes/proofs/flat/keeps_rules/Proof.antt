@@ -5,8 +5,9 @@ use native.Mathlib.Omega.{arith}
 use borrow.Author.Tests.{not-true, not-false}
 use borrow.Author.Needs.{needs}
 use lib.ListN.{length, getD, drop}
+use Rattle.words.proofs.Lists.{length-field}
 use Rattle.nodes.specs.Table.{absent, keepsRules}
-use Rattle.nodes.proofs.Rules.{length-field, rules-end, rules-unsound, rules-again, rules-turn, rules-absent}
+use Rattle.nodes.proofs.Rules.{rules-end, rules-unsound, rules-again, rules-turn, rules-absent}
 use Rattle.nodes.proofs.flat.keeps_rules.Statement.{statement}
 use Rattle.nodes.proofs.flat.keeps_rules.Tie as tie
 
@@ -66,8 +67,7 @@ returns-2 c =
     let l = s′ .before .before .before .before .loop in
     let ns = s′ .before .before .before .before .before .args .t1 in
     let h : l .i < length ns = omega arith in
-    let s = sym (s′ .before .sound-record .ensures) ∙ not-false (s′ .before .sound-record .result) (s′ .if1 .left) in
-    sym (rules-again ns (l .i) h s (sym (c .before .stands-again .ensures) ∙ c .if3 .taken)) ∙ l .inv .2
+    sym (rules-again ns (l .i) h (sym (c .before .stands-again .ensures) ∙ c .if3 .taken)) ∙ l .inv .2
 
 add-i-2 : tie.Need-add-i-2 Inv-loop μ-loop
 add-i-2 c = search needs

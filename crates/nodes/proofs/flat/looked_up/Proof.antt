@@ -1,14 +1,15 @@
 -- `nodes::flat::looked_up` meets its contract. Assumes nothing.
-use mathlib.Core.Path.{sym, _∙_}
+use mathlib.Core.Path.{sym, ap, _∙_}
 use borrow.Author.Tests.{not-true, not-false}
 use borrow.Author.Needs.{needs}
+use Rattle.words.specs.Words.{gives}
 use Rattle.nodes.specs.Call.{holderOf}
-use Rattle.nodes.proofs.Call.{looked-short, looked-broken, looked-past, looked-at}
+use Rattle.nodes.proofs.Call.{sized-short, sized-broken, sized-sound, holder-past, holder-at}
 use Rattle.nodes.proofs.flat.looked_up.Statement.{statement}
 use Rattle.nodes.proofs.flat.looked_up.Tie as tie
 
 returns : tie.Need-returns
-returns c = sym (looked-short _ _ _ (c .if1 .taken))
+returns c = sym (sized-short _ _ _ (c .if1 .taken))
 
 keeps-rules-requires : tie.Need-keeps-rules-requires
 keeps-rules-requires c κs = search needs
@@ -16,12 +17,13 @@ keeps-rules-requires c κs = search needs
 returns-2 : tie.Need-returns-2
 returns-2 c =
     let k = c .before in
-    sym (looked-broken _ _ _ (k .before .if1 .left) (sym (k .keeps-rules .ensures) ∙ not-true (k .keeps-rules .result) (c .if2 .taken)))
+    sym (sized-broken _ _ _ (k .before .if1 .left) (sym (k .keeps-rules .ensures) ∙ not-true (k .keeps-rules .result) (c .if2 .taken)))
 
 returns-3 : tie.Need-returns-3
 returns-3 c =
     let k = c .before .before in
-    sym (looked-past _ _ _ (k .before .if1 .left) (sym (k .keeps-rules .ensures) ∙ not-false (k .keeps-rules .result) (c .before .if2 .left)) (c .if3 .taken))
+    let e = sym (k .keeps-rules .ensures) ∙ not-false (k .keeps-rules .result) (c .before .if2 .left) in
+    sym (sized-sound _ _ _ (k .before .if1 .left) e ∙ ap gives (holder-past _ _ (c .if3 .taken)))
 
 mul-n : tie.Need-mul-n
 mul-n c = search needs
@@ -34,16 +36,18 @@ unfolding holderOf
 returns-4 c =
     let l = c .before .before in
     let k = l .before .before in
-    let e = c .if4 .taken in
-    sym (looked-at _ _ _ (k .before .if1 .left) (sym (k .keeps-rules .ensures) ∙ not-false (k .keeps-rules .result) (l .before .if2 .left)) (l .if3 .left) ∙ rw e)
+    let e = sym (k .keeps-rules .ensures) ∙ not-false (k .keeps-rules .result) (l .before .if2 .left) in
+    let f = c .if4 .taken in
+    sym (sized-sound _ _ _ (k .before .if1 .left) e ∙ ap gives (holder-at _ _ (l .if3 .left)) ∙ rw f)
 
 returns-5 : tie.Need-returns-5
 unfolding holderOf
 returns-5 c =
     let l = c .before .before in
     let k = l .before .before in
-    let e = c .if4 .left in
-    sym (looked-at _ _ _ (k .before .if1 .left) (sym (k .keeps-rules .ensures) ∙ not-false (k .keeps-rules .result) (l .before .if2 .left)) (l .if3 .left) ∙ rw e)
+    let e = sym (k .keeps-rules .ensures) ∙ not-false (k .keeps-rules .result) (l .before .if2 .left) in
+    let f = c .if4 .left in
+    sym (sized-sound _ _ _ (k .before .if1 .left) e ∙ ap gives (holder-at _ _ (l .if3 .left)) ∙ rw f)
 
 pub looked-up-spec : {M : Type 1} → statement M
 looked-up-spec =

@@ -1,6 +1,6 @@
 -- `nodes::flat::readable` meets its contract. Assumes nothing.
 use Rattle.words.proofs.Tests.{tests}
-use Rattle.nodes.specs.Inside.{readableOf}
+use Rattle.nodes.specs.Private.{readableOf}
 use Rattle.nodes.proofs.flat.readable.Statement.{statement}
 use Rattle.nodes.proofs.flat.readable.Tie as tie
 

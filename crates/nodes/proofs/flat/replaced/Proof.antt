@@ -4,8 +4,9 @@ use Prim.Native.Nat.{_+_, _-_, _≤_, _<_}
 use native.Mathlib.Omega.{arith}
 use borrow.Author.Needs.{needs}
 use lib.ListN.{length, getD, drop}
-use Rattle.nodes.specs.Table.{addresses, absent, replacedIn}
-use Rattle.nodes.proofs.Rules.{length-field, replaces-small, replaced-end, replaced-turn}
+use Rattle.words.proofs.Lists.{length-field}
+use Rattle.nodes.specs.Table.{addresses, absent, isReplaced, replacedIn}
+use Rattle.nodes.proofs.Rules.{one-at-most, replaced-end, replaced-turn}
 use Rattle.nodes.proofs.flat.replaced.Statement.{statement}
 use Rattle.nodes.proofs.flat.replaced.Tie as tie
 
@@ -35,7 +36,7 @@ add-count : tie.Need-add-count Inv-loop μ-loop
 add-count c =
     let l = c .before .before .before .loop in
     let a = c .before .before .before .before .args in
-    omega (arith, replaces-small (a .ms) (getD (a .t1) (l .i) absent), c .replaces .ensures, l .inv .0, l .inv .2)
+    omega (arith, one-at-most (isReplaced (a .ms) (getD (a .t1) (l .i) absent)), c .replaces .ensures, l .inv .0, l .inv .2)
 
 add-i : tie.Need-add-i Inv-loop μ-loop
 add-i c = search needs
@@ -51,7 +52,7 @@ loop-again c =
     let s = c .replaces .ensures in (
       omega arith,
       l .inv .1,
-      omega (arith, replaces-small (a .ms) (getD (a .t1) (l .i) absent), s, l .inv .2),
+      omega (arith, one-at-most (isReplaced (a .ms) (getD (a .t1) (l .i) absent)), s, l .inv .2),
       omega (arith, replaced-turn (a .ms) (a .t1) (l .i) h, s, l .inv .3),
     )
 

@@ -1,7 +1,8 @@
 -- `nodes::flat::stands_again` meets its contract. Assumes nothing.
 use mathlib.Core.Path.{sym, _∙_}
 use borrow.Author.Needs.{needs}
-use Rattle.nodes.specs.Table.{standsAgain}
+use lib.ListN.{drop}
+use Rattle.nodes.proofs.Rules.{again-is}
 use Rattle.nodes.proofs.flat.stands_again.Statement.{statement}
 use Rattle.nodes.proofs.flat.stands_again.Tie as tie
 
@@ -9,15 +10,19 @@ holder-again-requires : tie.Need-holder-again-requires
 holder-again-requires c κs = search needs
 
 returns : tie.Need-returns
-unfolding standsAgain
-returns c = rw (sym (c .before .holder-again .ensures) ∙ c .if1 .taken)
+returns c =
+    let a = c .before .before .args in
+    let t = sym (c .before .holder-again .ensures) ∙ c .if1 .taken in
+    rw (again-is (a .n) (drop (a .from) (a .records)), t)
 
 challenger-again-requires : tie.Need-challenger-again-requires
 challenger-again-requires c κs = search needs
 
 returns-2 : tie.Need-returns-2
-unfolding standsAgain
-returns-2 c = rw (sym (c .before .before .holder-again .ensures) ∙ c .before .if1 .left) (c .challenger-again .ensures)
+returns-2 c =
+    let a = c .before .before .before .args in
+    let t = sym (c .before .before .holder-again .ensures) ∙ c .before .if1 .left in
+    rw (again-is (a .n) (drop (a .from) (a .records)), t) (c .challenger-again .ensures)
 
 pub stands-again-spec : {M : Type 1} → statement M
 stands-again-spec =

@@ -4,14 +4,15 @@ use Prim.Native.Nat.{_-_, _≤_, _<_}
 use native.Mathlib.Omega.{arith}
 use borrow.Author.Needs.{needs}
 use lib.ListN.{length, drop}
-use Rattle.nodes.specs.Table.{standsIn}
-use Rattle.nodes.proofs.Rules.{length-field, stands-turn, stands-hit, stands-end}
+use Rattle.words.specs.Lists.{any}
+use Rattle.words.proofs.Lists.{length-field, any-pass, any-stop, any-end}
+use Rattle.nodes.specs.Table.{absent, stands}
 use Rattle.nodes.proofs.flat.stands_from.Statement.{statement}
 use Rattle.nodes.proofs.flat.stands_from.Tie as tie
 
 abbrev Inv-loop : tie.InvT-loop
 Inv-loop from name records i₀ i = (i ≤ 254) × (length records ≡ 254)
-    × (standsIn name (drop i records) ≡ standsIn name (drop i₀ records))
+    × (any (stands name) (drop i records) ≡ any (stands name) (drop i₀ records))
 
 abbrev μ-loop : tie.MeasureT-loop
 μ-loop from name records i₀ i = 254 - i
@@ -34,7 +35,7 @@ returns : tie.Need-returns Inv-loop μ-loop
 returns c =
     let l = c .before .before .before .before .loop in
     let h : l .i < length (c .before .before .before .before .before .args .t1) = omega arith in
-    sym (stands-hit _ _ (l .i) h (sym (c .before .stands .ensures) ∙ c .if1 .taken)) ∙ l .inv .2
+    sym (any-stop _ _ (l .i) absent h (sym (c .before .stands .ensures) ∙ c .if1 .taken)) ∙ l .inv .2
 
 add-i : tie.Need-add-i Inv-loop μ-loop
 add-i c = search needs
@@ -48,7 +49,7 @@ loop-again c =
     let h : l .i < length (c .before .before .before .before .before .args .t1) = omega arith in (
       omega arith,
       l .inv .1,
-      sym (stands-turn _ _ (l .i) h (sym (c .before .stands .ensures) ∙ c .if1 .left))
+      sym (any-pass _ _ (l .i) absent h (sym (c .before .stands .ensures) ∙ c .if1 .left))
           ∙ l .inv .2,
     )
 
@@ -56,7 +57,7 @@ returns-2 : tie.Need-returns-2 Inv-loop μ-loop
 returns-2 c =
     let l = c .before .loop in
     let h : length (c .before .before .args .t1) ≤ l .i = omega arith in
-    sym (stands-end _ (c .before .before .args .t1) (l .i) h) ∙ l .inv .2
+    sym (any-end _ (c .before .before .args .t1) (l .i) h) ∙ l .inv .2
 
 pub stands-from-spec : {M : Type 1} → statement M
 stands-from-spec =
