@@ -93,8 +93,9 @@ module _ (r behind : List Node) (e : Empty r) where
 
   rivals : (a : ℕ) → challengerOf (r ++ behind) a ≡ gives noRival
   rivals a =
-      by-test (ltb greatestAddress a) (λ t. table-passes (r ++ behind) _ long kept ∙ ap gives (rival-past (take addresses (r ++ behind)) a (ltb-true _ _ t)))
-      (λ t. table-passes (r ++ behind) _ long kept ∙ ap gives (rival-at (take addresses (r ++ behind)) a (ltb-false _ _ t))
+      by-test (ltb greatestAddress a)
+      (λ t. table-passes (r ++ behind) _ long kept ∙ ap gives (rival-past _ a (ltb-true _ _ t)))
+      (λ t. table-passes (r ++ behind) _ long kept ∙ ap gives (rival-at _ a (ltb-false _ _ t))
       ∙ ap (λ (n : Node). gives (rivalOf n)) (absent-at a) ∙ ap gives nobody-challenges)
 
 pub empty-keeps-rules : EmptyKeepsRules
