@@ -213,7 +213,7 @@ went table id bytes =
 -- a pause is refused, or passes
 
 pub data Paused (table : List Node) (ms : ℕ) : Type 0 where
-  stopped : (n : ℕ) → pauseTold table ms ≡ refused n → tablePaused table ms ≡ table → Paused table ms
+  kept : (n : ℕ) → pauseTold table ms ≡ refused n → tablePaused table ms ≡ table → Paused table ms
   passed : pauseTold table ms ≡ gives (replacedIn ms (take addresses table)) → tablePaused table ms ≡ pausedOf ms table
       → Paused table ms
 
@@ -228,7 +228,7 @@ module _ (table : List Node) (ms : ℕ) (enough : addresses ≤ length table)
 pub paused : (table : List Node) (ms : ℕ) → Paused table ms
 paused table ms =
     by-test (ltb (length table) addresses)
-    (λ e. stopped 1 (rw e) (rw e))
+    (λ e. kept 1 (rw e) (rw e))
     (λ e. by-test (keepsRules (take addresses table))
     (λ k. let l = ltb-false _ _ e in passed (pause-told table ms l k) (pause-left table ms l k))
-    (λ k. stopped 2 (rw (e, k)) (rw (e, k))))
+    (λ k. kept 2 (rw (e, k)) (rw (e, k))))

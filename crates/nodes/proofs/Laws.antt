@@ -48,7 +48,7 @@ use Rattle.nodes.specs.declared.FoundChallenger.{FoundChallenger}
 use Rattle.nodes.specs.declared.FoundChallenger.the-variants as FoundChallenger
 use Rattle.nodes.proofs.Call.{heard-bad, heard-sound, heard-claim, heard-other, left-claim, pause-told}
 use Rattle.nodes.proofs.Call.{pause-left}
-use Rattle.nodes.proofs.Call.{Went, stopped, ignored, claimed, went, Paused, passed, paused}
+use Rattle.nodes.proofs.Call.{Went, stopped, ignored, claimed, went, Paused, kept, passed, paused}
 use Rattle.nodes.proofs.Sound.{rules-of, of-rules}
 use Rattle.nodes.proofs.Kept.{claimed-length, claimed-past, claimed-front, claimed-keeps, paused-length}
 use Rattle.nodes.proofs.Kept.{paused-past, paused-front, paused-keeps}
@@ -237,7 +237,7 @@ pub pause-refused-keeps : PauseRefusedKeeps
 pause-refused-keeps table ms r after n p e = p .table-after ∙ by (paused table ms)
   where
     by : Paused table ms → tablePaused table ms ≡ table
-    by (stopped m h l) = l
+    by (kept m h l) = l
     by (passed h l) = refused-gives (sym e ∙ p .answer ∙ h)
 
 -- the lowest number wins
@@ -303,7 +303,7 @@ pub pause-past-untouched : PausePastUntouched
 pause-past-untouched table ms = by (paused table ms)
   where
     by : Paused table ms → drop addresses (tablePaused table ms) ≡ drop addresses table
-    by (stopped n h l) = ap (drop addresses) l
+    by (kept n h l) = ap (drop addresses) l
     by (passed h l) = ap (drop addresses) l ∙ paused-past ms table
 
 -- what is left of tables that have the same records of the addresses
@@ -377,7 +377,7 @@ pub pause-length-kept : PauseLengthKept
 pause-length-kept table ms = by (paused table ms)
   where
     by : Paused table ms → length (tablePaused table ms) ≡ length table
-    by (stopped n h l) = ap length l
+    by (kept n h l) = ap length l
     by (passed h l) = ap length l ∙ paused-length ms table
 
 -- the rules
@@ -400,5 +400,5 @@ pub pause-rules-kept : PauseRulesKept
 pause-rules-kept table ms e = by (paused table ms)
   where
     by : Paused table ms → keepsFront (tablePaused table ms) ≡ true
-    by (stopped n h l) = ap keepsFront l ∙ e
+    by (kept n h l) = ap keepsFront l ∙ e
     by (passed h l) = ap keepsFront l ∙ paused-keeps ms table e

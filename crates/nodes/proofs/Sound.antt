@@ -184,7 +184,7 @@ facts-of n s =
     by-test (n .present) (λ p. present-facts n p (of-present n s p))
     (λ p. subst Facts (sym (of-absent n s p)) absent-facts)
 
-absent-sound : soundRecord absent ≡ true
+pub absent-sound : soundRecord absent ≡ true
 unfolding soundRecord
 absent-sound = refl
 

@@ -143,11 +143,11 @@ module _ {M : Type 1} (𝓤 : URA M) (H : Heap 𝓤) (A : Atoms 𝓤) (W : Given
       owned ! u32 (Is u32) (uint-makes 𝓤 H A W w32) id _ (refl, id-fits) $ fjoin ! $ owned ! (AR addresses) (Is (AR addresses)) (array-made 𝓤 H A W addresses) ns _ good $ fjoin ! $
       owned ! usize (Is usize) (uint-makes 𝓤 H A W w64) (length ys) _ (refl, room .0) $ fjoin ! $ move ! (1 ∷ 0 ∷ []) $ join ! $ nothing ! $ move ! (1 ∷ 0 ∷ []) $ done !
 
-  abbrev Judged-by : List Node → Judged → Type 0
-  Judged-by ns r = Judges (length ys) ns id bs r
+  abbrev Finds : List Node → Judged → Type 0
+  Finds ns r = Judges (length ys) ns id bs r
 
-  says-judge : (ns : List Node) (r : Judged) → ent 𝓤 (ensured 𝓤 H A judge.ended (judge.clauses 𝓤 H A mem run) (κ′, tt) (y ns) tt r) (fact 𝓤 (Judged-by ns r))
-  says-judge ns r = exE 𝓤 _ (λ ws. snd∗ 𝓤 (sem 𝓤 H A (lasts judge.ended (κ′, tt) (y ns) ws)) (fact 𝓤 (Judged-by ns r)))
+  says-judge : (ns : List Node) (r : Judged) → ent 𝓤 (ensured 𝓤 H A judge.ended (judge.clauses 𝓤 H A mem run) (κ′, tt) (y ns) tt r) (fact 𝓤 (Finds ns r))
+  says-judge ns r = exE 𝓤 _ (λ ws. snd∗ 𝓤 (sem 𝓤 H A (lasts judge.ended (κ′, tt) (y ns) ws)) (fact 𝓤 (Finds ns r)))
 
   module _ (C : Calls 𝓤 H) (Λ : Loops 𝓤 H) (fm : FmC 𝓤 H (W .laws) C) (known-records : Triple 𝓤 (C #nodes·records) (Records 𝓤 H A mem run)) (known-judge : Triple 𝓤 (C #nodes·judge) (Judge 𝓤 H A mem run)) (known-changed : Triple 𝓤 (C #nodes·changed) (Changed 𝓤 H A mem run)) where
     walk : ent 𝓤 (onEntry 𝓤 H A hear.signature (κ, (κ′, tt)) (q, (q′, tt)) x at) (WpFn 𝓤 H C Λ code.function (s ∷ vint w32 id ∷ s′ ∷ []) Post)
@@ -172,9 +172,9 @@ module _ {M : Type 1} (𝓤 : URA M) (H : Heap 𝓤) (A : Atoms 𝓤) (W : Given
         -- [what is asked; bytes'; the row; the open borrow; obs; auth; _11; …]
         calls-at ! fm (Judge 𝓤 H A mem run) known-judge (to-judge ns) (and-then ! (load ! (from ! (stop !)) (look ! 18 refl)) (and-then ! (load ! (from ! (stop !)) (look ! 16 refl)) (and-then ! (load ! (from ! (stop !)) (look ! 24 refl)) (and-then ! (load ! (from ! (stop !)) (look ! 22 refl)) (no-more !))))) (λ v.
         use1 W (later (some (λ (r : Judged). ((‵ (flft κ′ q′) ⊛ ‵ ftrue) ⊛ ‵ (J.the-row .own r (v ∷ []))) ⊛ raw (ensured 𝓤 H A judge.ended (judge.clauses 𝓤 H A mem run) (κ′, tt) (y ns) tt r)))) (id⊢ 𝓤 _) $ await ! tt $ pick ! (λ r.
-        split ! $ move ! (1 ∷ []) $ use1 W (raw (fact 𝓤 (Judged-by ns r))) (says-judge ns r) $ heard ! (Judged-by ns r) (λ e′. split ! $ move ! (1 ∷ []) $
+        split ! $ move ! (1 ∷ []) $ use1 W (raw (fact 𝓤 (Finds ns r))) (says-judge ns r) $ heard ! (Finds ns r) (λ e′. split ! $ move ! (1 ∷ []) $
         peeks ! J.the-row (Is J.the-row) (shows 𝓤 H A J.the-row) r (v ∷ []) (λ is′. drop ! $
-        let judged : Judged-by (recordsOf ys) r = subst (λ (l : List Node). Judged-by l r) e e′ in
+        let judged : Finds (recordsOf ys) r = subst (λ (l : List Node). Finds l r) e e′ in
         let enough : r .turns ≤ length ys = judged-inside ys id bs r judged in
         let parts = LL.owed J.the-type J′.the-laws r (v ∷ []) is′ in
         land ! (from ! (stop !)) (init ! 20 refl (LL.lawful J.the-type J′.the-laws 𝓤 H A W .typed r _ is′ .0)) $ rewrite ! 20 (λ (z : Val). ‵ (fat fullShare J′.mir l₄ 0 z)) (ap only (LL.tells J.the-type J′.the-laws r (v ∷ []) is′)) refl $
