@@ -290,7 +290,7 @@ impl Claim {
     }
 
     // Tells whether the state keeps its rules. One that does not is refused with 2 by `hear`, `pause`, `stands` and
-    // `our_claim`; one that they were given by `start`, and that they handed back, always does.
+    // `our_claim`. What `start` gave without a refusal, and what `hear` and `pause` made of it, always keeps them.
     pub fn keeps_rules(self) -> bool
         ensures { λ r. ⌜ KeepsRules self r ⌝ }
     {
