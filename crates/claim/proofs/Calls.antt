@@ -18,7 +18,8 @@ use Rattle.frame.specs.declared.Verdict.{Verdict}
 use Rattle.frame.specs.declared.Verdict.the-variants.{Sound, Bad}
 use Rattle.words.proofs.Words.{past-refusal, refused-gives, gives-same, not-flips, by-test}
 use Rattle.claim.specs.Candidates.{padded}
-use Rattle.claim.specs.Claim.{keepsRules, holdsList, claimId, claimBytes, begun, Outcome, nothingToDo, ownName, repeated, moved, fellSilent, outcomeOf, after}
+use Rattle.claim.specs.Claim.{keepsRules, holdsList, claimId, claimBytes, begun, Outcome, nothingToDo, ownName}
+use Rattle.claim.specs.Claim.{repeated, moved, fellSilent, outcomeOf, after}
 use Rattle.claim.specs.Promises.{Hear, toldHearing, meetsFrame, heardOf, afterTold, isSentTold, isSound, soundOf}
 use Rattle.claim.specs.Private.{metOf}
 use Rattle.claim.specs.declared.Claim.{Claim}

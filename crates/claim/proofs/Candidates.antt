@@ -23,7 +23,11 @@ unfolding isWellFormed
 well-formed l e =
     let a = both-true (1 ≤? length l) _ e in
     let b = both-true (length l ≤? longestList) _ (a .1) in
-    record { some-one = leb-true 1 (length l) (a .0); short = leb-true (length l) longestList (b .0); low = both-true (every isAddress l) _ (b .1) .0 }
+    record {
+      some-one = leb-true 1 (length l) (a .0);
+      short = leb-true (length l) longestList (b .0);
+      low = both-true (every isAddress l) _ (b .1) .0;
+    }
 
 -- every element of it is an address, and so is the default past its end
 pub address-at : (l : List ℕ) (i : ℕ) → every isAddress l ≡ true → getD l i 0 ≤ greatestAddress

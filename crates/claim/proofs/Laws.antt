@@ -16,14 +16,18 @@ use Rattle.frame.specs.Standard.{claimDgn, noAddress}
 use Rattle.frame.specs.Laws.{toldButPriority}
 use Rattle.frame.specs.declared.Parts.{Parts}
 use Rattle.frame.specs.declared.BadFrame.{BadFrame}
-use Rattle.frame.specs.declared.BadFrame.the-variants.{IdentifierTooLarge, NotEightBytes, ReservedBitSet, SourceNotAllowed}
+use Rattle.frame.specs.declared.BadFrame.the-variants.{IdentifierTooLarge, NotEightBytes, ReservedBitSet}
+use Rattle.frame.specs.declared.BadFrame.the-variants.{SourceNotAllowed}
 use Rattle.words.proofs.Words.{past-refusal, before-refusal, refused-gives, not-flips, by-test, both-true, true-false}
 use Rattle.frame.proofs.Bytes.{length-bytes}
 use Rattle.frame.proofs.Laws as frame-laws
 use Rattle.claim.specs.Candidates.{longestList, isWellFormed, padded}
-use Rattle.claim.specs.Claim.{claimPriority, keepsRules, holdsList, address, claimSource, claimId, claimBytes, Stand, held, claiming, silent, begun, Outcome, nothingToDo, ownName, repeated, moved, fellSilent, outcomeOf, after, pause}
+use Rattle.claim.specs.Claim.{claimPriority, keepsRules, holdsList, address, claimSource, claimId, claimBytes}
+use Rattle.claim.specs.Claim.{Stand, held, claiming, silent, begun, Outcome, nothingToDo, ownName, repeated}
+use Rattle.claim.specs.Claim.{moved, fellSilent, outcomeOf, after, pause}
 use Rattle.claim.specs.History.{Event, heard, paused, step, run}
-use Rattle.claim.specs.Promises.{Pause, toldStarting, toldHearing, toldPausing, toldStanding, toldSending, startedOf, meetsFrame, heardOf, afterTold, isSentTold, isSound, soundOf}
+use Rattle.claim.specs.Promises.{Pause, toldStarting, toldHearing, toldPausing, toldStanding, toldSending}
+use Rattle.claim.specs.Promises.{startedOf, meetsFrame, heardOf, afterTold, isSentTold, isSound, soundOf}
 use Rattle.claim.specs.Private.{metOf}
 use Rattle.claim.specs.Calls.{no-call, a-hear, a-pause, claimIn, eventsOf, eventsIn}
 use Rattle.claim.specs.Laws as the

@@ -12,9 +12,13 @@ use Rattle.frame.specs.Identifier.{identifierOf, identifiers}
 use Rattle.frame.specs.Frame.{frameBytes, checkedOf}
 use Rattle.frame.specs.Standard.{claimDgn, greatestAddress, noAddress, noFrame}
 use Rattle.frame.specs.declared.Parts.{Parts}
-use Rattle.claim.specs.Claim.{heldAfter, claimPriority, keepsRules, holdsList, address, claimSource, claimId, claimBytes, held, standOf, begun, nothingToDo, outcomeOf, after}
+use Rattle.claim.specs.Claim.{heldAfter, claimPriority, keepsRules, holdsList, address, claimSource, claimId}
+use Rattle.claim.specs.Claim.{claimBytes, held, standOf, begun, nothingToDo, outcomeOf, after}
 use Rattle.claim.specs.History.{Event, run, history, waitedSince}
-use Rattle.claim.specs.Promises.{Start, Hear, Pause, Stands, OurClaim, KeepsRules, HoldsList, StartingRefusal, HearingRefusal, PausingRefusal, StandingRefusal, SendingRefusal, toldStarting, toldHearing, toldPausing, toldStanding, toldSending, meetsFrame, heardOf, isSentTold, isSound, blank}
+use Rattle.claim.specs.Promises.{Start, Hear, Pause, Stands, OurClaim, KeepsRules, HoldsList, StartingRefusal}
+use Rattle.claim.specs.Promises.{HearingRefusal, PausingRefusal, StandingRefusal, SendingRefusal, toldStarting}
+use Rattle.claim.specs.Promises.{toldHearing, toldPausing, toldStanding, toldSending, meetsFrame, heardOf}
+use Rattle.claim.specs.Promises.{isSentTold, isSound, blank}
 use Rattle.claim.specs.Calls.{Call, Ran, eventsIn}
 use Rattle.claim.specs.declared.Claim.{Claim}
 use Rattle.claim.specs.declared.Starting.{Starting}

@@ -12,7 +12,9 @@ use Rattle.frame.specs.Standard.{claimDgn, Frame, noFrame}
 use Rattle.frame.specs.Promises.{refusalOf}
 use Rattle.frame.specs.declared.Parts.{Parts}
 use Rattle.claim.specs.Candidates.{longestList, isWellFormed}
-use Rattle.claim.specs.Claim.{keepsRules, holdsList, claimFrame, Stand, held, claiming, silent, standOf, begun, Outcome, nothingToDo, ownName, repeated, moved, fellSilent, outcomeOf, after, isSent, pause}
+use Rattle.claim.specs.Claim.{keepsRules, holdsList, claimFrame, Stand, held, claiming, silent, standOf, begun}
+use Rattle.claim.specs.Claim.{Outcome, nothingToDo, ownName, repeated, moved, fellSilent, outcomeOf, after}
+use Rattle.claim.specs.Claim.{isSent, pause}
 use Rattle.claim.specs.declared.Claim.{Claim}
 use Rattle.claim.specs.declared.Starting.{Starting}
 use Rattle.claim.specs.declared.Starting.the-variants as Starting

@@ -1,11 +1,13 @@
 // Claiming an address (RULES 8): the candidate list, the contest of NAMEs, the wait until an address is held.
-use frame::BadFrame;
-use frame::standard;
-ghost use Rattle.claim.specs.Promises.{Start, Hear, Pause, Stands, OurClaim, KeepsRules, HoldsList, StartingRefusal, HearingRefusal, PausingRefusal, StandingRefusal, SendingRefusal};
-
 mod contest;
 mod list;
 mod state;
+
+use frame::BadFrame;
+use frame::standard;
+ghost use Rattle.claim.specs.Promises.{Start, Hear, Pause, Stands, OurClaim, KeepsRules, HoldsList};
+ghost use Rattle.claim.specs.Promises.{StartingRefusal, HearingRefusal, PausingRefusal, StandingRefusal};
+ghost use Rattle.claim.specs.Promises.{SendingRefusal};
 
 // A candidate list has at most 16 addresses.
 pub const CANDIDATES: usize = 16;
@@ -175,7 +177,9 @@ impl Sending {
 }
 
 impl Claim {
-    // Claims the first address of the list.
+    // Claims the first address of a list of 1 to 16, no two alike and none above 253; refusal 16 for any other list.
+    // Keep the state, send the frame, and hand the state to `hear` with every frame that comes and to `pause` with the
+    // time that passes; `stands` tells when the address is held.
     pub fn start(name: u64, list: &[u8]) -> Started
         ensures { λ r. ⌜ Start name (now (list .entry)) r ⌝ }
     {
@@ -203,7 +207,9 @@ impl Claim {
         }
     }
 
-    // Hears a frame: a rival's claim at our address is a contest.
+    // Hears one frame. Refusals 2, 3 to 6 and 16 change nothing. A claim at our address with a lower NAME moves us on
+    // to the next address of the list, and where none is left it silences us; nothing else that is heard changes the
+    // state. Keep the state that is handed back, and where the answer begins with `Send`, send the frame beside it.
     pub fn hear(self, id: u32, bytes: &[u8]) -> Heard
         ensures { λ r. ⌜ Hear id (now (bytes .entry)) self r ⌝ }
     {
@@ -220,7 +226,8 @@ impl Claim {
         }
     }
 
-    // Waits.
+    // Passes so many milliseconds since the start or the last pause; the wait stops at 250, and silent does not wait.
+    // Refusals 2 and 16 change nothing. Keep the state that is handed back.
     pub fn pause(self, ms: u16) -> Paused
         ensures { λ r. ⌜ Pause ms self r ⌝ }
     {
@@ -242,7 +249,8 @@ impl Claim {
         }
     }
 
-    // Where it stands.
+    // Tells where the claim stands, and at which address: held, once the pauses since it was claimed have come to 250
+    // ms; claiming until then; or silent, for good. Refusals 2 and 16. Changes nothing.
     pub fn stands(self) -> Standing
         ensures { λ r. ⌜ Stands self r ⌝ }
     {
@@ -255,7 +263,8 @@ impl Claim {
         state::stand(self)
     }
 
-    // The frame of our claim, from the address that we claim or hold, or from 254 when silent.
+    // Tells the frame of our claim, from the address that we claim or hold, or from 254 when silent. Refusals 2 and 16
+    // tell no frame. Changes nothing: send the frame where our claim is asked for.
     pub fn our_claim(self) -> ClaimFrame
         ensures { λ r. ⌜ OurClaim self r ⌝ }
     {
@@ -280,7 +289,8 @@ impl Claim {
         }
     }
 
-    // Whether the state keeps its rules; 2 where it does not.
+    // Tells whether the state keeps its rules. One that does not is refused with 2 by `hear`, `pause`, `stands` and
+    // `our_claim`. What `start` gave without a refusal, and what `hear` and `pause` made of it, always keeps them.
     pub fn keeps_rules(self) -> bool
         ensures { λ r. ⌜ KeepsRules self r ⌝ }
     {
@@ -299,7 +309,8 @@ impl Claim {
         self.wait == 0
     }
 
-    // Whether the list that the state holds is well formed; 16 where it is not.
+    // Tells whether the list that the state holds is well formed. Where it is not, the same calls refuse with 16,
+    // unless a lower number applies.
     pub fn holds_list(self) -> bool
         ensures { λ r. ⌜ HoldsList self r ⌝ }
     {

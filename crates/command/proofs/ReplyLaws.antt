@@ -18,7 +18,8 @@ use Rattle.frame.specs.declared.Parts.{Parts}
 use Rattle.words.proofs.Words.{by-test, both-true, true-false, past-refusal, before-refusal, refused-gives, gives-same, not-flips}
 use Rattle.frame.proofs.Frame.{checked-given, source-low}
 use Rattle.frame.proofs.Laws as frame-laws
-use Rattle.claim.specs.Claim.{heldAfter, keepsRules, holdsList, address, claimSource, claimId, Stand, held, claiming, silent, standOf, claimFrame}
+use Rattle.claim.specs.Claim.{heldAfter, keepsRules, holdsList, address, claimSource, claimId, Stand, held, claiming}
+use Rattle.claim.specs.Claim.{silent, standOf, claimFrame}
 use Rattle.claim.specs.Promises.{isSound}
 use Rattle.claim.specs.declared.Claim.{Claim}
 use Rattle.claim.proofs.Sound.{rules-of, holds-of, address-low}
@@ -28,7 +29,8 @@ use Rattle.command.specs.Positions.{positionsWhere, listed}
 use Rattle.command.specs.Handed.{handedIn, addressHeld}
 use Rattle.command.specs.Commands as Commands
 use Rattle.command.specs.Commands.{hasCommand, picks, routeOf, routedOf}
-use Rattle.command.specs.Acknowledgment.{acknowledgmentPriority, acknowledgmentId, acknowledgmentBytes, acknowledgmentFrame, acknowledgedOf}
+use Rattle.command.specs.Acknowledgment.{acknowledgmentPriority, acknowledgmentId, acknowledgmentBytes}
+use Rattle.command.specs.Acknowledgment.{acknowledgmentFrame, acknowledgedOf}
 use Rattle.command.specs.Requests as Requests
 use Rattle.command.specs.Requests.{requestedDgn, Asked, askedOf, supports, isOurAddress, isOurs, nakTo, Reply, claims, supported, nak, unsupported, statusOf, replyOf, answerOf, requestedOf}
 use Rattle.command.specs.Promises.{sentIn, toldRequesting, toldAcknowledging}

@@ -8,18 +8,19 @@ use native.Mathlib.Omega.{arith}
 use lib.ListN.{length, getD, take, replicate, length-append, length-replicate}
 use lib.Dec.{ltb}
 use borrow.Author.Tests.{ltb-true, ltb-false}
+use Rattle.words.specs.Words.{gives}
 use Rattle.words.specs.Lists.{any, noTwo, firstFrom, first}
 use Rattle.words.specs.declared.Found.the-variants.{Nowhere}
-use Rattle.words.proofs.Lists.{every-replicate}
-use Rattle.words.specs.Words.{gives}
 use Rattle.frame.specs.Standard.{greatestAddress}
 use Rattle.words.proofs.Words.{by-test}
+use Rattle.words.proofs.Lists.{every-replicate}
 use Rattle.nodes.specs.Table.{addresses, absent, hasName, isChallenged, soundRecord, sharesName, keepsRules}
 use Rattle.nodes.specs.Call.{nobody, holderOf, lookedUpOf, foundOf, noRival, rivalOf, challengerOf}
 use Rattle.nodes.specs.Promises.{Empty}
 use Rattle.nodes.specs.Laws.{EmptyKeepsRules, EmptyHasNobody, EmptyHasNoName, EmptyHasNoChallenger}
 use Rattle.nodes.specs.declared.Node.{Node}
 use Rattle.nodes.proofs.Call.{table-passes, rival-past, rival-at}
+use Rattle.nodes.proofs.Sound.{absent-sound}
 use Rattle.nodes.proofs.Find.{looked-past, looked-at}
 
 -- ---- any number of them
@@ -36,10 +37,6 @@ all-alone (suc k) = all-alone k
 all-apart : (k : ℕ) → noTwo sharesName (replicate k absent) ≡ true
 all-apart zero = refl
 all-apart (suc k) = rw (all-alone k) (all-apart k)
-
-absent-sound : soundRecord absent ≡ true
-unfolding soundRecord
-absent-sound = refl
 
 all-keep : (k : ℕ) → keepsRules (replicate k absent) ≡ true
 unfolding keepsRules
@@ -93,8 +90,9 @@ module _ (r behind : List Node) (e : Empty r) where
 
   rivals : (a : ℕ) → challengerOf (r ++ behind) a ≡ gives noRival
   rivals a =
-      by-test (ltb greatestAddress a) (λ t. table-passes (r ++ behind) _ long kept ∙ ap gives (rival-past (take addresses (r ++ behind)) a (ltb-true _ _ t)))
-      (λ t. table-passes (r ++ behind) _ long kept ∙ ap gives (rival-at (take addresses (r ++ behind)) a (ltb-false _ _ t))
+      by-test (ltb greatestAddress a)
+      (λ t. table-passes (r ++ behind) _ long kept ∙ ap gives (rival-past _ a (ltb-true _ _ t)))
+      (λ t. table-passes (r ++ behind) _ long kept ∙ ap gives (rival-at _ a (ltb-false _ _ t))
       ∙ ap (λ (n : Node). gives (rivalOf n)) (absent-at a) ∙ ap gives nobody-challenges)
 
 pub empty-keeps-rules : EmptyKeepsRules

@@ -15,7 +15,8 @@ use Rattle.frame.specs.Standard.{greatestAddress, claimDgn}
 use Rattle.frame.specs.declared.Parts.{Parts}
 use Rattle.words.proofs.Words.{past-refusal, not-flips, by-test}
 use Rattle.nodes.specs.Table.{addresses, absent, claimedOf, pausedOf, replacedIn, keepsRules}
-use Rattle.nodes.specs.Call.{tableOr, claimIn, Outcome, nothingToDo, claimOutcome, heardBy, leftBy, heardOf, tableAfter}
+use Rattle.nodes.specs.Call.{tableOr, claimIn, Outcome, nothingToDo, claimOutcome, heardBy, leftBy, heardOf}
+use Rattle.nodes.specs.Call.{tableAfter}
 use Rattle.nodes.specs.Call.{pauseTold, tablePaused, nobody, holderOf, holderAt, noRival, rivalOf, rivalAt}
 use Rattle.nodes.specs.Promises.{toldHearing, toldPausing}
 use Rattle.nodes.specs.Private.{sizedOr, heardIn, changeBy, changeIn, pausedIn, pauseIn, changeOf, turnsOf}
@@ -45,7 +46,8 @@ module _ (answer : Told Outcome) (change : Told Change) (r : Judged) where
   pub judged-asked : (c : Change) → change ≡ gives c → toldHearing (r .answer) ≡ answer → r .turns ≡ turnsOf c
       → r .change ≡ c → JudgedAs answer change r
   judged-asked c e t n k =
-      record { told = t; changes = k ∙ sym (ap changeOf e); turns = n ∙ sym (ap (λ (x : Told Change). turnsOf (changeOf x)) e) }
+      let f = ap changeOf e in
+      record { told = t; changes = k ∙ sym f; turns = n ∙ sym (ap turnsOf f) }
 
 module _ (answer : Told ℕ) (change : Told Change) (r : JudgedPause) where
   pub judged-unpaused : (p : Pausing) → toldPausing p ≡ answer → changeOf change ≡ Nothing → r ≡ unpausedAs p
@@ -60,7 +62,8 @@ module _ (answer : Told ℕ) (change : Told Change) (r : JudgedPause) where
   pub judged-passed : (c : Change) → change ≡ gives c → toldPausing (r .answer) ≡ answer → r .turns ≡ turnsOf c
       → r .change ≡ c → JudgedPauseAs answer change r
   judged-passed c e t n k =
-      record { told = t; changes = k ∙ sym (ap changeOf e); turns = n ∙ sym (ap (λ (x : Told Change). turnsOf (changeOf x)) e) }
+      let f = ap changeOf e in
+      record { told = t; changes = k ∙ sym f; turns = n ∙ sym (ap turnsOf f) }
 
 -- ---- by the first refusal that applies
 
@@ -195,7 +198,9 @@ module _ (table : List Node) (id : ℕ) (bytes : List ℕ) (enough : addresses �
         answer = h .0 ∙ ap gives (heard-claim p bytes (take addresses table) d);
         after = h .1 ∙ left-claim p bytes table d;
       }))
-      (λ d. ignored (h .0 ∙ ap gives (heard-other p bytes (take addresses table) d)) (h .1 ∙ left-other p bytes table d))
+      (λ d. ignored
+      (h .0 ∙ ap gives (heard-other p bytes (take addresses table) d))
+      (h .1 ∙ left-other p bytes table d))
 
 pub went : (table : List Node) (id : ℕ) (bytes : List ℕ) → Went table id bytes
 went table id bytes =
@@ -208,7 +213,7 @@ went table id bytes =
 -- a pause is refused, or passes
 
 pub data Paused (table : List Node) (ms : ℕ) : Type 0 where
-  stopped : (n : ℕ) → pauseTold table ms ≡ refused n → tablePaused table ms ≡ table → Paused table ms
+  kept : (n : ℕ) → pauseTold table ms ≡ refused n → tablePaused table ms ≡ table → Paused table ms
   passed : pauseTold table ms ≡ gives (replacedIn ms (take addresses table)) → tablePaused table ms ≡ pausedOf ms table
       → Paused table ms
 
@@ -223,7 +228,7 @@ module _ (table : List Node) (ms : ℕ) (enough : addresses ≤ length table)
 pub paused : (table : List Node) (ms : ℕ) → Paused table ms
 paused table ms =
     by-test (ltb (length table) addresses)
-    (λ e. stopped 1 (rw e) (rw e))
+    (λ e. kept 1 (rw e) (rw e))
     (λ e. by-test (keepsRules (take addresses table))
     (λ k. let l = ltb-false _ _ e in passed (pause-told table ms l k) (pause-left table ms l k))
-    (λ k. stopped 2 (rw (e, k)) (rw (e, k))))
+    (λ k. kept 2 (rw (e, k)) (rw (e, k))))

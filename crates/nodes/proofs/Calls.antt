@@ -19,7 +19,8 @@ use prog.Routine.{Routine}
 use prog.Wp.{Heap, Env, Calls, Loops}
 use ghost.Atoms.{Atoms, sem}
 use contract.Monad.{Fun, fact}
-use types.Kit.{Given, Item, ‵, raw, _⊛_, some, later, Post, Go, Sq, runs, lands, _$_, _∵_, !, qed, move, drop, use1, use2, use3, split, join, pick, rewrite, fsplit, fjoin, feqL, feqI, frame, await, done}
+use types.Kit.{Given, Item, ‵, raw, _⊛_, some, later, Post, Go, Sq, runs, lands, _$_, _∵_, !, qed, move, drop, use1}
+use types.Kit.{use2, use3, split, join, pick, rewrite, fsplit, fjoin, feqL, feqI, frame, await, done}
 use types.Run.{Opds}
 use types.SemTy.{cells, Arr}
 use types.Share.{arr-parts}

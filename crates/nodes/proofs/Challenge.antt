@@ -16,12 +16,17 @@ use Rattle.frame.specs.Frame.{checkedOf}
 use Rattle.frame.specs.Standard.{greatestAddress, claimDgn}
 use Rattle.frame.specs.declared.Parts.{Parts}
 use Rattle.words.proofs.Words.{gives-same, true-false, by-test}
-use Rattle.nodes.specs.Table.{addresses, takesAfter, absent, held, challenged, unchallengedOf, hasName, isChallenged, hasChallenger, givesWay, mayChallenge, clearedOf, claimedAt}
-use Rattle.nodes.specs.Call.{challenges, holder, holderOf, Rival, rival, noRival, rivalOf, claimOutcome, heardOf, sourceRecord, claimIn, heardBy}
+use Rattle.nodes.specs.Table.{addresses, takesAfter, absent, held, challenged, unchallengedOf, hasName}
+use Rattle.nodes.specs.Table.{isChallenged, hasChallenger, givesWay, mayChallenge, clearedOf, claimedAt}
+use Rattle.nodes.specs.Call.{challenges, holder, holderOf, Rival, rival, noRival, rivalOf, claimOutcome, heardOf}
+use Rattle.nodes.specs.Call.{sourceRecord, claimIn, heardBy}
 use Rattle.nodes.specs.Promises.{LookUp, FindChallenger}
 use Rattle.nodes.specs.Laws.{ClaimAt}
 use Rattle.nodes.specs.Runs.{Said, nothing, claims, pauses, saidOf}
-use Rattle.nodes.specs.Runs.{Call, hearing, pausing, Leads, Ran, no-call, a-call, saidIn, saidBy, recordAfter, recordAfterAll, Sound, Quiet, AllQuiet, waited, waitedIn, Challenge, ChallengeWaits, ChallengeTakes, HolderLeaves, TakesOnlySo, ChallengeEntered, Undisputed, AllUndisputed, HolderStays}
+use Rattle.nodes.specs.Runs.{Call, hearing, pausing, Leads, Ran, no-call, a-call, saidIn, saidBy, recordAfter}
+use Rattle.nodes.specs.Runs.{recordAfterAll, Sound, Quiet, AllQuiet, waited, waitedIn, Challenge, ChallengeWaits}
+use Rattle.nodes.specs.Runs.{ChallengeTakes, HolderLeaves, TakesOnlySo, ChallengeEntered, Undisputed}
+use Rattle.nodes.specs.Runs.{AllUndisputed, HolderStays}
 use Rattle.nodes.specs.declared.Node.{Node}
 use Rattle.nodes.specs.declared.Claim.{Claim}
 use Rattle.nodes.specs.declared.LookedUp.the-variants.{Present}
@@ -32,8 +37,13 @@ use Rattle.nodes.proofs.Find.{getD-front, holder-held}
 use Rattle.nodes.proofs.Kept.{facts-here}
 use Rattle.nodes.proofs.Runs.{Left, leads-left, run-by-record}
 use Rattle.nodes.proofs.Sentences.{no-holder, no-challenger, challenged-present, every-sentence}
-use Rattle.nodes.proofs.Shown.{held-alone, looked-here, rival-here, rival-is, no-rival-is, Shows, holder-shown, rival-shown, no-rival-of, outcome-challenges, Entered, challenge-entered-at, waiting-challenged}
-use Rattle.nodes.proofs.Sound.{Facts, of-facts, has-name-of, zero-of, of-zero, has-challenger-of, not-stands, vacated-challenged, vacated-alone, cleared-holder, cleared-challenger, cleared-none, entered-taken, entered-challenges, entered-not, not-may, unchallenged-alone, elsewhere, here, paused-alone, paused-waits, paused-takes}
+use Rattle.nodes.proofs.Shown.{held-alone, looked-here, rival-here, rival-is, no-rival-is, Shows, holder-shown}
+use Rattle.nodes.proofs.Shown.{rival-shown, no-rival-of, outcome-challenges, Entered, challenge-entered-at}
+use Rattle.nodes.proofs.Shown.{waiting-challenged}
+use Rattle.nodes.proofs.Sound.{Facts, of-facts, has-name-of, zero-of, of-zero, has-challenger-of, not-stands}
+use Rattle.nodes.proofs.Sound.{vacated-challenged, vacated-alone, cleared-holder, cleared-challenger}
+use Rattle.nodes.proofs.Sound.{cleared-none, entered-taken, entered-challenges, entered-not, not-may}
+use Rattle.nodes.proofs.Sound.{unchallenged-alone, elsewhere, here, paused-alone, paused-waits, paused-takes}
 
 -- ---- the record of a holder p and its challenger c, who has waited w
 

@@ -37,7 +37,8 @@ module _ (name : ℕ) (rs : List Node) where
 
   none-in : first (hasName name) rs ≡ Nowhere → (a : ℕ) → In a → ⊥
   none-in e a i =
-      true-false (sym (has-name-of name (getD rs a absent) (i .1) (i .2)) ∙ first-none (hasName name) rs absent e a (i .0))
+      let has = has-name-of name (getD rs a absent) (i .1) (i .2) in
+      true-false (sym has ∙ first-none (hasName name) rs absent e a (i .0))
 
   of-none : ((a : ℕ) → In a → ⊥) → (w : Found) → first (hasName name) rs ≡ w → w ≡ Nowhere
   of-none h Nowhere e = refl
@@ -153,7 +154,8 @@ module _ (table : List Node) (name a : ℕ) where
       (λ t. absurd (differ (sym (looked-past table a (s .0) (s .1) (ltb-true _ _ t)) ∙ e)))
       (λ t. let l : a ≤ greatestAddress = ltb-false _ _ t in
       let h : a < addresses = omega arith in
-      let k = looked-at table a (s .0) (s .1) l ∙ ap (λ (n : Node). gives (holderOf n)) (getD-front addresses a table h) in
+      let k = looked-at table a (s .0) (s .1) l
+      ∙ ap (λ (n : Node). gives (holderOf n)) (getD-front addresses a table h) in
       let p = holder-of (getD table a absent) name (gives-same (sym k ∙ e)) in
       holds-there table name (s .0) (s .1) a (h, p .0, p .1))
     where

@@ -20,12 +20,20 @@ use Rattle.frame.specs.declared.Parts.{Parts}
 use Rattle.frame.specs.declared.BadFrame.the-variants as Bad
 use Rattle.words.proofs.Words.{refused-gives, gives-same, by-test}
 use Rattle.frame.proofs.Laws.{badBack, bad-back, priority-ignored as frame-priority}
-use Rattle.nodes.specs.Table.{addresses, hasName, givesWay, mayChallenge, claimedAt, claimedOf, pausedAt, pausedOf, eachFrom, keepsRules, replacedIn}
-use Rattle.nodes.specs.Call.{tableOr, leaves, claimIn, Outcome, nothingToDo, taken, challenges, heldByLower, silent}
-use Rattle.nodes.specs.Call.{sourceRecord, claimOutcome, heardBy, leftBy, heardOf, tableAfter, pauseTold, tablePaused}
+use Rattle.nodes.specs.Table.{addresses, hasName, givesWay, mayChallenge, claimedAt, claimedOf, pausedAt}
+use Rattle.nodes.specs.Table.{pausedOf, eachFrom, keepsRules, replacedIn}
+use Rattle.nodes.specs.Call.{tableOr, leaves, claimIn, Outcome, nothingToDo, taken, challenges, heldByLower}
+use Rattle.nodes.specs.Call.{silent}
+use Rattle.nodes.specs.Call.{sourceRecord, claimOutcome, heardBy, leftBy, tableAfter, tablePaused}
 use Rattle.nodes.specs.Call.{Holder, nobody, holder, holderAt, Rival, noRival, rival, rivalAt}
 use Rattle.nodes.specs.Promises.{toldHearing, toldPausing, toldLookedUp, toldFoundAddress, toldFoundChallenger}
-use Rattle.nodes.specs.Laws.{ToldHearingSame, ToldPausingSame, ToldLookedUpSame, ToldFoundAddressSame, ToldFoundChallengerSame, EmptyOnly, HearOnly, PauseOnly, LookUpOnly, FindAddressOnly, FindChallengerOnly, HearingRefusalOnly, PausingRefusalOnly, LookedUpRefusalOnly, FoundAddressRefusalOnly, FoundChallengerRefusalOnly, HearRefusedKeeps, PauseRefusedKeeps, HearNothingKeeps, LowestWins, PauseLowestWins, PriorityIgnored, PastUntouched, PausePastUntouched, PastUnread, LengthKept, PauseLengthKept, RulesRead, RulesKept, PauseRulesKept}
+use Rattle.nodes.specs.Laws.{ToldHearingSame, ToldPausingSame, ToldLookedUpSame, ToldFoundAddressSame}
+use Rattle.nodes.specs.Laws.{ToldFoundChallengerSame, EmptyOnly, HearOnly, PauseOnly, LookUpOnly, FindAddressOnly}
+use Rattle.nodes.specs.Laws.{FindChallengerOnly, HearingRefusalOnly, PausingRefusalOnly, LookedUpRefusalOnly}
+use Rattle.nodes.specs.Laws.{FoundAddressRefusalOnly, FoundChallengerRefusalOnly, HearRefusedKeeps}
+use Rattle.nodes.specs.Laws.{PauseRefusedKeeps, HearNothingKeeps, LowestWins, PauseLowestWins, PriorityIgnored}
+use Rattle.nodes.specs.Laws.{PastUntouched, PausePastUntouched, PastUnread, LengthKept, PauseLengthKept}
+use Rattle.nodes.specs.Laws.{RulesRead, RulesKept, PauseRulesKept}
 use Rattle.nodes.specs.declared.Node.{Node}
 use Rattle.nodes.specs.declared.Claim.{Claim}
 use Rattle.nodes.specs.declared.Hearing.{Hearing}
@@ -38,18 +46,22 @@ use Rattle.nodes.specs.declared.FoundAddress.{FoundAddress}
 use Rattle.nodes.specs.declared.FoundAddress.the-variants as FoundAddress
 use Rattle.nodes.specs.declared.FoundChallenger.{FoundChallenger}
 use Rattle.nodes.specs.declared.FoundChallenger.the-variants as FoundChallenger
-use Rattle.nodes.proofs.Call.{heard-bad, heard-sound, heard-claim, heard-other, left-claim, pause-told, pause-left}
-use Rattle.nodes.proofs.Call.{Went, stopped, ignored, claimed, went, Paused, passed, paused}
+use Rattle.nodes.proofs.Call.{heard-bad, heard-sound, heard-claim, heard-other, left-claim, pause-told}
+use Rattle.nodes.proofs.Call.{pause-left}
+use Rattle.nodes.proofs.Call.{Went, stopped, ignored, claimed, went, Paused, kept, passed, paused}
 use Rattle.nodes.proofs.Sound.{rules-of, of-rules}
-use Rattle.nodes.proofs.Kept.{claimed-length, claimed-past, claimed-front, claimed-keeps, paused-length, paused-past, paused-front, paused-keeps}
+use Rattle.nodes.proofs.Kept.{claimed-length, claimed-past, claimed-front, claimed-keeps, paused-length}
+use Rattle.nodes.proofs.Kept.{paused-past, paused-front, paused-keeps}
 pub use Rattle.nodes.proofs.Kept.{name-once, taken-by-lower}
-pub use Rattle.nodes.proofs.Blank.{empty-keeps-rules, empty-has-nobody, empty-has-no-name, empty-has-no-challenger}
+pub use Rattle.nodes.proofs.Blank.{empty-keeps-rules, empty-has-nobody, empty-has-no-name}
+pub use Rattle.nodes.proofs.Blank.{empty-has-no-challenger}
 pub use Rattle.nodes.proofs.Find.{found-there, found-nowhere, found-shown}
 pub use Rattle.nodes.proofs.Pass.{cleared-then-entered}
 pub use Rattle.nodes.proofs.Sentences.{every-sentence, replaced-counts}
 pub use Rattle.nodes.proofs.Shown.{taken-shown, challenges-shown, held-shown, taken-found}
 pub use Rattle.nodes.proofs.Runs.{run-by-record, every-run-runs}
-pub use Rattle.nodes.proofs.Challenge.{challenge-waits, challenge-takes, holder-leaves, takes-only-so, challenge-entered, holder-stays}
+pub use Rattle.nodes.proofs.Challenge.{challenge-waits, challenge-takes, holder-leaves, takes-only-so}
+pub use Rattle.nodes.proofs.Challenge.{challenge-entered, holder-stays}
 
 -- an answer is read back from what it tells
 
@@ -59,8 +71,10 @@ hearingBack (gives (taken address)) = Hearing.Taken address
 hearingBack (gives (heldByLower address)) = Hearing.HeldByLower address
 hearingBack (gives silent) = Hearing.Silent
 hearingBack (gives (challenges address)) = Hearing.Challenges address
-hearingBack (refused n) = if n =? 1 then Hearing.TableTooShort else if n =? 2 then Hearing.BrokenState else Hearing.BadFrame
-    (badBack n)
+hearingBack (refused n) =
+    if n =? 1 then Hearing.TableTooShort else
+    if n =? 2 then Hearing.BrokenState else
+    Hearing.BadFrame (badBack n)
 
 hearing-back : (r : Hearing) → hearingBack (toldHearing r) ≡ r
 unfolding hearingBack
@@ -223,7 +237,7 @@ pub pause-refused-keeps : PauseRefusedKeeps
 pause-refused-keeps table ms r after n p e = p .table-after ∙ by (paused table ms)
   where
     by : Paused table ms → tablePaused table ms ≡ table
-    by (stopped m h l) = l
+    by (kept m h l) = l
     by (passed h l) = refused-gives (sym e ∙ p .answer ∙ h)
 
 -- the lowest number wins
@@ -289,7 +303,7 @@ pub pause-past-untouched : PausePastUntouched
 pause-past-untouched table ms = by (paused table ms)
   where
     by : Paused table ms → drop addresses (tablePaused table ms) ≡ drop addresses table
-    by (stopped n h l) = ap (drop addresses) l
+    by (kept n h l) = ap (drop addresses) l
     by (passed h l) = ap (drop addresses) l ∙ paused-past ms table
 
 -- what is left of tables that have the same records of the addresses
@@ -297,7 +311,8 @@ pause-past-untouched table ms = by (paused table ms)
 abbrev Front : List Node → List Node → Type 0
 Front table other = take addresses table ≡ take addresses other
 
-claimed-alike : (c : Claim) (table other : List Node) → Front table other → Front (claimedOf c table) (claimedOf c other)
+claimed-alike : (c : Claim) (table other : List Node) → Front table other
+    → Front (claimedOf c table) (claimedOf c other)
 claimed-alike c table other e =
     claimed-front c table ∙ ap (eachFrom (claimedAt c) addresses 0) e ∙ sym (claimed-front c other)
 
@@ -346,7 +361,8 @@ past-unread table other id bytes l e =
           record { answer = p .answer ∙ told-alike table other l e (λ records. gives (rivalAt address records)) };
       paused = λ ms. told-alike table other l e (λ records. gives (replacedIn ms records));
       left-paused = λ ms.
-          table-alike table other l e (gives (pausedOf ms table)) (gives (pausedOf ms other)) (paused-alike ms table other e);
+          table-alike table other l e (gives (pausedOf ms table)) (gives (pausedOf ms other))
+          (paused-alike ms table other e);
     }
 
 pub length-kept : LengthKept
@@ -361,7 +377,7 @@ pub pause-length-kept : PauseLengthKept
 pause-length-kept table ms = by (paused table ms)
   where
     by : Paused table ms → length (tablePaused table ms) ≡ length table
-    by (stopped n h l) = ap length l
+    by (kept n h l) = ap length l
     by (passed h l) = ap length l ∙ paused-length ms table
 
 -- the rules
@@ -384,5 +400,5 @@ pub pause-rules-kept : PauseRulesKept
 pause-rules-kept table ms e = by (paused table ms)
   where
     by : Paused table ms → keepsFront (tablePaused table ms) ≡ true
-    by (stopped n h l) = ap keepsFront l ∙ e
+    by (kept n h l) = ap keepsFront l ∙ e
     by (passed h l) = ap keepsFront l ∙ paused-keeps ms table e

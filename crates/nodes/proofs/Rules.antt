@@ -14,10 +14,11 @@ use Rattle.words.specs.Words.{if_then_else_, _and_, _or_}
 use Rattle.words.specs.Lists.{any, every}
 use Rattle.words.proofs.Words.{both-true}
 use Rattle.words.proofs.Lists.{every-pass, every-stop, every-end, no-two-pass, no-two-stop, no-two-end}
-use Rattle.nodes.specs.Table.{absent, isChallenged, stands, soundChallenge, soundRecord, sharesName, keepsRules, isReplaced, replacedIn}
+use Rattle.nodes.specs.Table.{absent, isChallenged, stands, soundChallenge, soundRecord, sharesName, keepsRules}
+use Rattle.nodes.specs.Table.{isReplaced, replacedIn}
 use Rattle.nodes.specs.declared.Node.{Node}
 
--- a record that shares a NAME with none: its holder stands in none, and its challenger does not, each searched by itself
+-- whether a record shares a NAME with another: its holder is looked for, and its challenger, each by itself
 
 and-false : (a : Bool) → a and false ≡ false
 and-false true = refl

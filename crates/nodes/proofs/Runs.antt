@@ -19,7 +19,8 @@ use Rattle.words.proofs.Words.{refused-gives, refused-same, by-test}
 use Rattle.nodes.specs.Table.{addresses, absent, claimedOf, pausedOf, replacedIn}
 use Rattle.nodes.specs.Call.{claimIn, claimOutcome, heardBy, leftBy, heardOf, tableAfter, tablePaused}
 use Rattle.nodes.specs.Promises.{toldHearing}
-use Rattle.nodes.specs.Runs.{Call, hearing, pausing, Leads, no-call, a-call, Said, nothing, claims, pauses, saidOf}
+use Rattle.nodes.specs.Runs.{Call, hearing, pausing, Leads, no-call, a-call, Said, nothing, claims, pauses}
+use Rattle.nodes.specs.Runs.{saidOf}
 use Rattle.nodes.specs.Runs.{saidIn, saidBy, recordAfter, recordAfterAll, Sound, RunByRecord, EveryRunRuns}
 use Rattle.nodes.specs.declared.Node.{Node}
 use Rattle.nodes.specs.declared.Claim.{Claim}
@@ -27,7 +28,8 @@ use Rattle.nodes.specs.declared.Hearing.{Hearing}
 use Rattle.nodes.specs.declared.Hearing.the-variants as Hearing
 use Rattle.nodes.specs.declared.Pausing.the-variants as Pausing
 use Rattle.nodes.proofs.Call.{heard-bad, heard-sound, heard-claim, heard-other, pause-told, pause-left}
-use Rattle.nodes.proofs.Kept.{claimed-length, claimed-past, claimed-keeps, claimed-at, paused-length, paused-past, paused-keeps, paused-at}
+use Rattle.nodes.proofs.Kept.{claimed-length, claimed-past, claimed-keeps, claimed-at, paused-length}
+use Rattle.nodes.proofs.Kept.{paused-past, paused-keeps, paused-at}
 use Rattle.nodes.proofs.Shown.{Came, was-silent, was-taken, was-challenge, was-held, came}
 
 -- ---- one call

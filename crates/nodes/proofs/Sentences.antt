@@ -8,11 +8,16 @@ use native.Mathlib.Omega.{arith}
 use lib.Dec.{ltb}
 use borrow.Author.Tests.{ltb-true, ltb-false, lt-leb, le-leb}
 use Rattle.words.proofs.Words.{true-false, by-test}
-use Rattle.nodes.specs.Table.{takesAfter, held, challenged, unchallengedOf, hasName, isChallenged, hasChallenger, givesWay, clearedOf, enteredOf, isReplaced}
+use Rattle.nodes.specs.Table.{takesAfter, held, challenged, unchallengedOf, hasName, isChallenged, hasChallenger}
+use Rattle.nodes.specs.Table.{givesWay, clearedOf, enteredOf, isReplaced}
 use Rattle.nodes.specs.Laws.{EverySentence, ReplacedCounts}
 use Rattle.nodes.specs.declared.Node.{Node}
 use Rattle.nodes.specs.declared.Claim.{Claim}
-use Rattle.nodes.proofs.Sound.{Facts, facts-of, name-of, above-zero, challenger-of, stands-not, vacated-challenged, vacated-alone, cleared-holder, cleared-challenger, cleared-none, entered-taken, entered-challenges, entered-not, gives-absent, gives-lower, gives-not, may-alone, may-lower, may-not, unchallenged-alone, elsewhere, here, holder-entered, paused-alone, paused-waits, paused-takes}
+use Rattle.nodes.proofs.Sound.{Facts, facts-of, name-of, above-zero, challenger-of, stands-not}
+use Rattle.nodes.proofs.Sound.{vacated-challenged, vacated-alone, cleared-holder, cleared-challenger}
+use Rattle.nodes.proofs.Sound.{cleared-none, entered-taken, entered-challenges, entered-not, gives-absent}
+use Rattle.nodes.proofs.Sound.{gives-lower, gives-not, may-alone, may-lower, may-not, unchallenged-alone}
+use Rattle.nodes.proofs.Sound.{elsewhere, here, holder-entered, paused-alone, paused-waits, paused-takes}
 
 -- a NAME that is not in a record
 module _ (name : ℕ) (n : Node) where

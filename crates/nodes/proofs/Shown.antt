@@ -13,9 +13,11 @@ use Rattle.words.specs.Words.{gives}
 use Rattle.frame.specs.Bytes.{numberOf}
 use Rattle.frame.specs.Standard.{greatestAddress}
 use Rattle.words.proofs.Words.{refused-gives, gives-same, true-false, by-test}
-use Rattle.nodes.specs.Table.{addresses, absent, held, challenged, isChallenged, givesWay, mayChallenge, clearedOf}
+use Rattle.nodes.specs.Table.{addresses, absent, held, challenged, isChallenged, givesWay, mayChallenge}
+use Rattle.nodes.specs.Table.{clearedOf}
 use Rattle.nodes.specs.Table.{enteredOf, claimedOf, stands, keepsRules}
-use Rattle.nodes.specs.Call.{nothingToDo, taken, challenges, heldByLower, silent, sourceRecord, claimOutcome, heardOf}
+use Rattle.nodes.specs.Call.{nothingToDo, taken, challenges, heldByLower, silent, sourceRecord, claimOutcome}
+use Rattle.nodes.specs.Call.{heardOf}
 use Rattle.nodes.specs.Call.{tableAfter, nobody, holder, holderOf, lookedUpOf}
 use Rattle.nodes.specs.Call.{Challenger, Rival, noRival, rival, rivalOf, challengerOf}
 use Rattle.nodes.specs.Laws.{TakenShown, ChallengesShown, HeldShown, TakenFound}
@@ -25,7 +27,8 @@ use Rattle.nodes.proofs.Call.{table-passes, table-sound, rival-past, ri
 use Rattle.nodes.proofs.Call.{Claimed, Went, stopped, ignored, claimed, went}
 use Rattle.nodes.proofs.Find.{getD-front, looked-past, looked-at, holder-held, holder-of, found-shown}
 use Rattle.nodes.proofs.Kept.{claimed-length, claimed-keeps, claimed-at, facts-here}
-use Rattle.nodes.proofs.Sound.{Facts, challenged-of, has-challenger-of, stands-challenger, entered-taken, entered-challenges, entered-not, not-may, cleared-facts, above-holder, gone, here}
+use Rattle.nodes.proofs.Sound.{Facts, challenged-of, has-challenger-of, stands-challenger, entered-taken}
+use Rattle.nodes.proofs.Sound.{entered-challenges, entered-not, not-may, cleared-facts, above-holder, gone, here}
 
 -- ---- a table that is not refused, and its record of an address
 

@@ -9,11 +9,15 @@ use native.Mathlib.Nat.{not-suc-le-zero, le-of-suc-le-suc}
 use native.Mathlib.Omega.{arith}
 use lib.ListN.{length, getD}
 use lib.Dec.{ltb, leb, eqb}
-use borrow.Author.Tests.{eqb-true, eqb-false, ltb-true, ltb-false, leb-false, eq-eqb, ne-eqb, lt-ltb, lt-leb, le-ltb, not-false}
+use borrow.Author.Tests.{eqb-true, eqb-false, ltb-true, ltb-false, leb-false, eq-eqb, ne-eqb, lt-ltb, lt-leb, le-ltb}
+use borrow.Author.Tests.{not-false}
 use Rattle.words.specs.Words.{_and_, _or_}
 use Rattle.words.specs.Lists.{any, every, noTwo}
 use Rattle.words.proofs.Words.{both-true, true-false, by-test}
-use Rattle.nodes.specs.Table.{takesAfter, absent, held, challenged, unchallengedOf, hasName, isChallenged, hasChallenger, stands, givesWay, mayChallenge, vacatedOf, clearedOf, enteredOf, claimedHere, claimedAt, pausedAt, soundChallenge, soundRecord, sharesName, keepsRules}
+use Rattle.nodes.specs.Table.{takesAfter, absent, held, challenged, unchallengedOf, hasName, isChallenged}
+use Rattle.nodes.specs.Table.{hasChallenger, stands, givesWay, mayChallenge, vacatedOf, clearedOf, enteredOf}
+use Rattle.nodes.specs.Table.{claimedHere, claimedAt, pausedAt, soundChallenge, soundRecord, sharesName}
+use Rattle.nodes.specs.Table.{keepsRules}
 use Rattle.nodes.specs.Laws.{Rules}
 use Rattle.nodes.specs.declared.Node.{Node}
 use Rattle.nodes.specs.declared.Claim.{Claim}
@@ -180,7 +184,7 @@ facts-of n s =
     by-test (n .present) (λ p. present-facts n p (of-present n s p))
     (λ p. subst Facts (sym (of-absent n s p)) absent-facts)
 
-absent-sound : soundRecord absent ≡ true
+pub absent-sound : soundRecord absent ≡ true
 unfolding soundRecord
 absent-sound = refl
 

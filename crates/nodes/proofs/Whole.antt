@@ -1,7 +1,6 @@
 -- From what the core judges of the records read out to what the public calls promise of the whole table.
 -- Assumes nothing.
-use mathlib.Core.Path.{_≡_, refl, sym, ap, _∙_}
-use mathlib.Core.Bool.{true, false}
+use mathlib.Core.Path.{_≡_, refl, _∙_}
 use mathlib.Core.List.{List}
 use Prim.Native.Nat.{ℕ, _≤_}
 use native.Mathlib.Omega.{arith}
@@ -15,10 +14,11 @@ use Rattle.frame.specs.Frame.{checkedOf}
 use Rattle.frame.specs.Standard.{claimDgn}
 use Rattle.frame.specs.declared.Parts.{Parts}
 use Rattle.nodes.specs.Table.{addresses, hasName, claimedOf, pausedOf, replacedIn, eachFrom, keepsRules}
-use Rattle.nodes.specs.Call.{tableOr, leaves, heardBy, leftBy, tableAfter, tablePaused, holderAt, rivalAt}
-use Rattle.nodes.specs.Promises.{Hear, Pause, LookUp, FindAddress, FindChallenger, toldLookedUp, toldFoundAddress, toldFoundChallenger}
+use Rattle.nodes.specs.Call.{tableOr, leaves, Outcome, heardBy, leftBy, holderAt, rivalAt}
+use Rattle.nodes.specs.Promises.{Hear, Pause, LookUp, FindAddress, FindChallenger, toldLookedUp, toldFoundAddress}
+use Rattle.nodes.specs.Promises.{toldFoundChallenger}
 use Rattle.nodes.specs.Private.{sizedOr, heardIn, changeBy, changeIn, pausedIn, pauseIn, changeOf, turnsOf}
-use Rattle.nodes.specs.Private.{JudgedAs, JudgedPauseAs, recordsOf, afterOf}
+use Rattle.nodes.specs.Private.{Judges, JudgesPause, recordsOf, afterOf}
 use Rattle.nodes.specs.declared.Node.{Node}
 use Rattle.nodes.specs.declared.Change.{Change}
 use Rattle.nodes.specs.declared.Change.the-variants.{Nothing, Claims, Pauses}
@@ -55,7 +55,8 @@ turns-inside table told =
 abbrev passOver : Told Change → List Node → List Node
 passOver told table = eachFrom (afterOf (changeOf told)) (turnsOf (changeOf told)) 0 table
 
-pass-left : (table : List Node) (change : Told Change) (left : Told (List Node)) → passOver change table ≡ leaves table left
+pass-left : (table : List Node) (change : Told Change) (left : Told (List Node))
+    → passOver change table ≡ leaves table left
     → passOver (tableOr table change) table ≡ leaves table (tableOr table left)
 unfolding eachFrom
 pass-left table change left h =
@@ -85,12 +86,14 @@ module _ (table : List Node) (id : ℕ) (bytes : List ℕ) where
   abbrev change : Told Change
   change = given checkedOf id (length bytes) then λ parts. gives (changeBy parts bytes)
 
+  abbrev heard : List Node → Told Outcome
+  heard records = given checkedOf id (length bytes) then λ parts. gives (heardBy parts bytes records)
+
   change-same : changeIn (length table) (recordsOf table) id bytes ≡ tableOr table change
   unfolding changeIn
   change-same = read-same table (λ records. change)
 
-  module _ (r : Judged)
-      (j : JudgedAs (heardIn (length table) (recordsOf table) id bytes) (changeIn (length table) (recordsOf table) id bytes) r) where
+  module _ (r : Judged) (j : Judges (length table) (recordsOf table) id bytes r) where
     pub judged-inside : r .turns ≤ length table
     judged-inside = rw (j .turns, change-same) (turns-inside table change)
 
@@ -98,8 +101,7 @@ module _ (table : List Node) (id : ℕ) (bytes : List ℕ) where
     unfolding heardIn
     judged-heard =
         record {
-          answer = j .told
-              ∙ read-same table (λ records. given checkedOf id (length bytes) then λ parts. gives (heardBy parts bytes records));
+          answer = j .told ∙ read-same table heard;
           table-after = rw (j .turns, j .changes, change-same)
               (pass-left table change _ (frame-left bytes table (checkedOf id (length bytes))));
         }
@@ -111,8 +113,7 @@ module _ (table : List Node) (ms : ℕ) where
   unfolding pauseIn
   pause-same = read-same table (λ records. gives (Pauses ms))
 
-  module _ (r : JudgedPause)
-      (j : JudgedPauseAs (pausedIn (length table) (recordsOf table) ms) (pauseIn (length table) (recordsOf table) ms) r) where
+  module _ (r : JudgedPause) (j : JudgesPause (length table) (recordsOf table) ms r) where
     pub paused-inside : r .turns ≤ length table
     paused-inside = rw (j .turns, pause-same) (turns-inside table (gives (Pauses ms)))
 

@@ -1,5 +1,5 @@
--- What a call on the node table is told, and what it leaves (RULES 9.2, 9.7, 9.8, 9.10, 9.11, 9.18 and 9.19). It goes by
--- the length of the table and the records of the addresses; no other record is read.
+-- What a call on the node table is told, and what it leaves (RULES 9.2, 9.7, 9.8, 9.10, 9.11, 9.18 and 9.19). It goes
+-- by the length of the table and the records of the addresses; no other record is read.
 use mathlib.Core.Bool.{not}
 use mathlib.Core.List.{List}
 use Prim.Native.Nat.{ℕ}

@@ -13,11 +13,15 @@ use Rattle.frame.specs.Identifier.{identifiers}
 use Rattle.frame.specs.Frame.{checkedOf}
 use Rattle.frame.specs.Standard.{claimDgn, greatestAddress}
 use Rattle.frame.specs.declared.Parts.{Parts}
-use Rattle.nodes.specs.Table.{addresses, takesAfter, absent, held, challenged, unchallengedOf, hasName, isChallenged, hasChallenger, stands, clearedOf, enteredOf, claimedAt, pausedAt, isReplaced, replacedIn, keepsRules, soundRecord, claimedOf, pausedOf}
+use Rattle.nodes.specs.Table.{addresses, takesAfter, absent, held, challenged, unchallengedOf, hasName}
+use Rattle.nodes.specs.Table.{isChallenged, hasChallenger, stands, clearedOf, enteredOf, claimedAt, pausedAt}
+use Rattle.nodes.specs.Table.{isReplaced, replacedIn, keepsRules, soundRecord, claimedOf, pausedOf}
 use Rattle.nodes.specs.Call.{claimIn, nothingToDo, taken, challenges, heldByLower, claimOutcome, heardOf}
 use Rattle.nodes.specs.Call.{tableAfter, pauseTold, tablePaused, Holder, nobody, holder, lookedUpOf, foundOf}
 use Rattle.nodes.specs.Call.{Rival, noRival, rival, challengerOf}
-use Rattle.nodes.specs.Promises.{Empty, Hear, Pause, LookUp, FindAddress, FindChallenger, HearingRefusal, PausingRefusal, LookedUpRefusal, FoundAddressRefusal, FoundChallengerRefusal, toldHearing, toldPausing, toldLookedUp, toldFoundAddress, toldFoundChallenger}
+use Rattle.nodes.specs.Promises.{Empty, Hear, Pause, LookUp, FindAddress, FindChallenger, HearingRefusal}
+use Rattle.nodes.specs.Promises.{PausingRefusal, LookedUpRefusal, FoundAddressRefusal, FoundChallengerRefusal}
+use Rattle.nodes.specs.Promises.{toldHearing, toldPausing, toldLookedUp, toldFoundAddress, toldFoundChallenger}
 use Rattle.nodes.specs.declared.Node.{Node}
 use Rattle.nodes.specs.declared.Claim.{Claim}
 use Rattle.nodes.specs.declared.Hearing.{Hearing}

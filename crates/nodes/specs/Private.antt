@@ -59,6 +59,9 @@ pub record JudgedAs (answer : Told Outcome) (change : Told Change) (r : Judged) 
   pub changes : r .change ≡ changeOf change
   pub turns : r .turns ≡ turnsOf (changeOf change)
 
+abbrev pub Judges : ℕ → List Node → ℕ → List ℕ → Judged → Type 0
+Judges size records id bytes r = JudgedAs (heardIn size records id bytes) (changeIn size records id bytes) r
+
 abbrev pub unaskedAs : Hearing → Judged
 unaskedAs answer = record { answer = answer; turns = 0; change = Nothing }
 
@@ -66,6 +69,9 @@ pub record JudgedPauseAs (answer : Told ℕ) (change : Told Change) (r : JudgedP
   pub told : toldPausing (r .answer) ≡ answer
   pub changes : r .change ≡ changeOf change
   pub turns : r .turns ≡ turnsOf (changeOf change)
+
+abbrev pub JudgesPause : ℕ → List Node → ℕ → JudgedPause → Type 0
+JudgesPause size records ms r = JudgedPauseAs (pausedIn size records ms) (pauseIn size records ms) r
 
 abbrev pub unpausedAs : Pausing → JudgedPause
 unpausedAs answer = record { answer = answer; turns = 0; change = Nothing }

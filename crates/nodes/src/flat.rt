@@ -19,10 +19,15 @@ ghost use Prim.Native.Nat.{_≤_};
 ghost use lib.ListN.{drop};
 ghost use Rattle.words.specs.Words.{if_then_else_, _and_, gives};
 ghost use Rattle.words.specs.Lists.{any, first};
-ghost use Rattle.nodes.specs.Table.{addresses, absent as absentNode, held as heldBy, challenged as challengedBy, unchallengedOf, hasName, isChallenged, hasChallenger, stands as standsFor, givesWay, mayChallenge, vacatedOf, clearedOf, enteredOf, claimedHere, claimedAt, isReplaced, pausedAt, replacedIn, soundChallenge, soundRecord, sharesName, keepsRules};
+ghost use Rattle.nodes.specs.Table.{addresses, absent as absentNode, held as heldBy, challenged as challengedBy};
+ghost use Rattle.nodes.specs.Table.{unchallengedOf, hasName, isChallenged, hasChallenger, stands as standsFor};
+ghost use Rattle.nodes.specs.Table.{givesWay, mayChallenge, vacatedOf, clearedOf, enteredOf, claimedHere};
+ghost use Rattle.nodes.specs.Table.{claimedAt, pausedAt, isReplaced, replacedIn};
+ghost use Rattle.nodes.specs.Table.{soundChallenge, soundRecord, sharesName, keepsRules};
 ghost use Rattle.nodes.specs.Call.{claimOutcome, heardBy, holderAt, rivalAt};
 ghost use Rattle.nodes.specs.Promises.{toldHearing, toldLookedUp, toldFoundAddress, toldFoundChallenger};
-ghost use Rattle.nodes.specs.Private.{sizedOr, heardIn, changeBy, changeIn, pausedIn, pauseIn, JudgedAs, unaskedAs, JudgedPauseAs, unpausedAs, readableOf, afterOf};
+ghost use Rattle.nodes.specs.Private.{sizedOr, changeBy, JudgedAs, Judges, unaskedAs, JudgesPause, unpausedAs};
+ghost use Rattle.nodes.specs.Private.{readableOf, afterOf};
 
 // How many records are read of a table with `size`: those of all the addresses, or none.
 pub fn readable(size: usize) -> usize
@@ -36,7 +41,7 @@ pub fn readable(size: usize) -> usize
 
 // Judges a call on values: everything that is refused, what the frame asks, and what comes of it.
 pub fn judge(size: usize, records: [Node; RECORDS], id: u32, bytes: &[u8]) -> Judged
-    ensures { λ r. ⌜ JudgedAs (heardIn size records id (now (bytes .entry))) (changeIn size records id (now (bytes .entry))) r ⌝ }
+    ensures { λ r. ⌜ Judges size records id (now (bytes .entry)) r ⌝ }
 {
     if size < RECORDS {
         return unasked(Hearing::TableTooShort);
@@ -103,7 +108,7 @@ fn outcome(records: [Node; RECORDS], claim: Claim) -> Hearing
 
 // Judges a pause on values: everything that is refused, and in how many records the challenger takes the address.
 pub fn judge_pause(size: usize, records: [Node; RECORDS], ms: u16) -> JudgedPause
-    ensures { λ r. ⌜ JudgedPauseAs (pausedIn size records ms) (pauseIn size records ms) r ⌝ }
+    ensures { λ r. ⌜ JudgesPause size records ms r ⌝ }
 {
     if size < RECORDS {
         return unpaused(Pausing::TableTooShort);

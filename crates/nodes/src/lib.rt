@@ -2,11 +2,14 @@
 // records that the caller lends; record a stands for address a.
 mod flat; // the work on values
 
+use frame::BadFrame;
 ghost use mathlib.Core.Path.{_≡_};
 ghost use Prim.Native.Nat.{_≤_};
 ghost use lib.ListN.{length};
-ghost use Rattle.nodes.specs.Promises.{Empty, Hear, Pause, LookUp, FindAddress, FindChallenger, HearingRefusal, PausingRefusal, LookedUpRefusal, FoundAddressRefusal, FoundChallengerRefusal};
 ghost use Rattle.nodes.specs.Table.{eachFrom};
+ghost use Rattle.nodes.specs.Promises.{Empty, Hear, Pause, LookUp, FindAddress, FindChallenger};
+ghost use Rattle.nodes.specs.Promises.{HearingRefusal, PausingRefusal, LookedUpRefusal, FoundAddressRefusal};
+ghost use Rattle.nodes.specs.Promises.{FoundChallengerRefusal};
 ghost use Rattle.nodes.specs.Private.{afterOf, recordsOf};
 
 // A table has a record for each of the addresses 0 to 253; what stands past them is neither read nor written.
@@ -36,10 +39,10 @@ pub enum Hearing {
     NothingToDo,
     TableTooShort,
     BrokenState,
-    BadFrame(frame::BadFrame),
+    BadFrame(BadFrame),
 }
 
-// In how many records the challenger took the address, or refusal 1 or 2.
+// In how many records the challenger took the address; or refusal 1 or 2.
 pub enum Pausing {
     Replaced(u8),
     TableTooShort,
@@ -68,6 +71,33 @@ pub enum FoundChallenger {
     NoChallenger,
     TableTooShort,
     BrokenState,
+}
+
+// A claim: who sends it, and its NAME.
+struct Claim {
+    source: u8,
+    name: u64,
+}
+
+// What is done to a table. What it makes of one record `flat::after` alone says.
+enum Change {
+    Nothing,
+    Claims(Claim),
+    Pauses(u16),
+}
+
+// A call judged: its answer, over how many records its change goes, and the change.
+struct Judged {
+    answer: Hearing,
+    turns: usize,
+    change: Change,
+}
+
+// A pause judged in the same way.
+struct JudgedPause {
+    answer: Pausing,
+    turns: usize,
+    change: Change,
 }
 
 impl Hearing {
@@ -148,7 +178,7 @@ impl FoundChallenger {
     }
 }
 
-// A table to start from: nobody has an address.
+// Gives a table to start from: nobody has an address. Lend it to the other calls, or a longer one that begins with it.
 pub fn empty() -> [Node; RECORDS]
     ensures { λ r. ⌜ Empty r ⌝ }
 {
@@ -160,10 +190,11 @@ pub fn empty() -> [Node; RECORDS]
     }; RECORDS]
 }
 
-// Hears a frame; one that is no claim is nothing to do. A claim clears its NAME from the records of all other
-// addresses: one that it held goes to its challenger, or to nobody. At its own address the holder's claim ends a
-// challenge; another NAME takes the record from a higher one or from nobody, and challenges a lower one, unless a lower
-// NAME than its own does. Refusals 1, 2 and 3 to 6 leave the table as it is.
+// Hears one frame. Refusals 1, 2 and 3 to 6 leave the table as it is, and so does a frame that is no claim: it is
+// nothing to do. A claim clears its NAME from the records of all other addresses: one that it held goes to its
+// challenger, or to nobody. At its own address the holder's claim ends a challenge; another NAME takes the record from
+// a higher one or from nobody, and challenges a lower one, unless a lower NAME than its own does. Let the table hear
+// every frame that comes, and the claims that you send yourself.
 pub fn hear(table: &mut [Node], id: u32, bytes: &[u8]) -> Hearing
     ensures { λ r. ⌜ Hear (now (table .entry)) id (now (bytes .entry)) r (now (table .exit)) ⌝ }
 {
@@ -172,8 +203,8 @@ pub fn hear(table: &mut [Node], id: u32, bytes: &[u8]) -> Hearing
     judged.answer
 }
 
-// Passes time: every challenger waits so much longer, and one that has waited 250 ms takes its record. The answer is in
-// how many records that was so. Refusals 1 and 2 leave the table as it is.
+// Passes so many milliseconds since the last pause: every challenger waits so much longer, and one that has waited 250
+// ms takes its record. The answer is in how many records that was so. Refusals 1 and 2 leave the table as it is.
 pub fn pause(table: &mut [Node], ms: u16) -> Pausing
     ensures { λ r. ⌜ Pause (now (table .entry)) ms r (now (table .exit)) ⌝ }
 {
@@ -182,52 +213,28 @@ pub fn pause(table: &mut [Node], ms: u16) -> Pausing
     judged.answer
 }
 
-// Looks up who has an address: the holder, until a challenger takes the record. Above 253 nobody has one.
+// Looks up who has an address: the holder, until a challenger takes the record. Above 253 nobody has one. Refusals 1
+// and 2. Only reads the table.
 pub fn look_up(table: &[Node], address: u8) -> LookedUp
     ensures { λ r. ⌜ LookUp (now (table .entry)) address r ⌝ }
 {
     flat::looked_up(table.len(), records(table), address)
 }
 
-// Finds the address that a NAME has: that of the one record present with it. A challenger has none yet.
+// Finds the address that a NAME has: that of the one record present with it. A challenger has none yet. Refusals 1 and
+// 2. Only reads the table.
 pub fn find_address(table: &[Node], name: u64) -> FoundAddress
     ensures { λ r. ⌜ FindAddress (now (table .entry)) name r ⌝ }
 {
     flat::found_address(table.len(), records(table), name)
 }
 
-// Finds out who challenges the holder of an address, and for how long it has. Above 253 nobody does.
+// Finds out who challenges the holder of an address, and for how many milliseconds it has, up to 249. Above 253 nobody
+// does. Refusals 1 and 2. Only reads the table.
 pub fn find_challenger(table: &[Node], address: u8) -> FoundChallenger
     ensures { λ r. ⌜ FindChallenger (now (table .entry)) address r ⌝ }
 {
     flat::found_challenger(table.len(), records(table), address)
-}
-
-// A claim: who sends it, and its NAME.
-struct Claim {
-    source: u8,
-    name: u64,
-}
-
-// What is done to a table. What it makes of one record `flat::after` alone says.
-enum Change {
-    Nothing,
-    Claims(Claim),
-    Pauses(u16),
-}
-
-// A call judged: its answer, over how many records its change goes, and the change.
-struct Judged {
-    answer: Hearing,
-    turns: usize,
-    change: Change,
-}
-
-// A pause judged in the same way.
-struct JudgedPause {
-    answer: Pausing,
-    turns: usize,
-    change: Change,
 }
 
 // The one pass over the lent table: what the change makes of each of the first `turns` records.

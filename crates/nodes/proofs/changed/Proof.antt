@@ -23,9 +23,12 @@ use prog.Wp.{Heap, Out, Env, afterSeq, afterBlock, afterTurn, Calls, Loops, Wp, 
 use ghost.Atoms.{Atoms, sem}
 use contract.Monad.{Fun, fact}
 use contract.Running.{givenOf, tables, tablesOf}
-use types.Kit.{Given, Item, ‵, raw, _⊛_, some, later, ⋆, runs, anyQ, atRet, Sq, _$_, _∵_, !, qed, by, move, drop, use0, use1, split, join, pick, rewrite, fsplit, fjoin, feqI, suffices, frame, await, done}
+use types.Kit.{Given, Item, ‵, raw, _⊛_, some, later, ⋆, runs, anyQ, atRet, Sq, _$_, _∵_, !, qed, by, move, drop, use0}
+use types.Kit.{use1, split, join, pick, rewrite, fsplit, fjoin, feqI, suffices, frame, await, done}
 use types.Part.{whole, sub, look-in}
-use types.Run.{look, look-raw, init, store, store-raw, forget, stop, hop, fld, from, load, lit, unit-lit, no-more, and-then, of-opd, bin, assigns, assigns-last, land, first, blocks, stays, leaves-loop, returns, enter, alloc1, alloc0, params1, pass1, pass0, free1, free0, exec, Below, again, loops}
+use types.Run.{look, look-raw, init, store, store-raw, forget, stop, hop, fld, from, load, lit, unit-lit, no-more}
+use types.Run.{and-then, of-opd, bin, assigns, assigns-last, land, first, blocks, stays, leaves-loop, returns, enter}
+use types.Run.{alloc1, alloc0, params1, pass1, pass0, free1, free0, exec, Below, again, loops}
 use sound.WpLaws.{fmOf, WpFn-mono}
 use borrow.Author.Tests.{ltb-true, ltb-false}
 use denote.RattleType.{owns}
@@ -47,7 +50,8 @@ use denote.Triple.Entry.{Vals, onEntry}
 use denote.Triple.Spec.{Meets, tripleOf}
 use denote.Triple.Statement.{Contract, Triple}
 use denote.Triple.Table.{entered, cited}
-use denote.Triple.Walked.{says, needs, Stays, stay-slice, stay-dropped, walkOf, goes-slice, goes-dropped, Walks, ends-at, walked, walk-meets}
+use denote.Triple.Walked.{says, needs, Stays, stay-slice, stay-dropped, walkOf, goes-slice, goes-dropped, Walks}
+use denote.Triple.Walked.{ends-at, walked, walk-meets}
 use denote.Exit.{yes}
 use Rattle.nodes.specs.declared.Node.{Node}
 use Rattle.nodes.specs.Table.{absent, eachFrom}

@@ -17,9 +17,11 @@ use prog.Wp.{Heap, Calls, Loops, WpFn, Tables}
 use ghost.Atoms.{Atoms, sem}
 use contract.Monad.{Fun, fact}
 use contract.Running.{givenOf, tables, tablesOf}
-use types.Kit.{Given, ‵, raw, _⊛_, some, later, ⋆, _$_, _∵_, !, qed, by, move, drop, use1, use2, split, join, pick, rewrite, fsplit, fjoin, suffices, frame, await, done}
+use types.Kit.{Given, ‵, raw, _⊛_, some, later, ⋆, _$_, _∵_, !, qed, by, move, drop, use1, use2, split, join, pick}
+use types.Kit.{rewrite, fsplit, fjoin, suffices, frame, await, done}
 use types.Part.{agg, whole, sub, look-in}
-use types.Run.{look, init, forget, stop, hop, fld, from, load, addr, no-more, and-then, of-opd, assigns, land, returns, enter, alloc1, alloc0, params1, pass1, pass0, free1, free0}
+use types.Run.{look, init, forget, stop, hop, fld, from, load, addr, no-more, and-then, of-opd, assigns, land, returns}
+use types.Run.{enter, alloc1, alloc0, params1, pass1, pass0, free1, free0}
 use sound.WpLaws.{FmC, fmOf, WpFn-mono}
 use denote.RattleType.{owns}
 use denote.Array.{array-vals}
@@ -28,7 +30,8 @@ use denote.Laws.{Is, shows}
 use denote.Plain.{uint-vals, uint-tells, uint-makes}
 use denote.Builtin.{u8, u32, usize}
 use denote.Ref.{RefT}
-use denote.Slice.{sliceVal, MutSlice, ShrSlice, heres, Room, slice-vals, mut-slice-tells, shr-slice-tells, shr-slice-copy, at-slice, codedHoleys}
+use denote.Slice.{sliceVal, MutSlice, ShrSlice, heres, Room, slice-vals, mut-slice-tells, shr-slice-tells}
+use denote.Slice.{shr-slice-copy, at-slice, codedHoleys}
 use denote.Lend.{Held}
 use denote.Index.{opens-slice, closes-slice}
 use denote.Signature.{plain}
@@ -41,14 +44,15 @@ use denote.Triple.Entry.{Vals, onEntry}
 use denote.Triple.Spec.{Meets, tripleOf}
 use denote.Triple.Statement.{Contract, Triple}
 use denote.Triple.Table.{entered, cited}
-use denote.Triple.Walked.{says, Stays, stay-slice, stay-none-slice, stay-dropped, walkOf, goes-slice, goes-none-slice, goes-dropped, Walks, ends-at, walked, walk-meets}
+use denote.Triple.Walked.{says, Stays, stay-slice, stay-none-slice, stay-dropped, walkOf, goes-slice, goes-none-slice}
+use denote.Triple.Walked.{goes-dropped, Walks, ends-at, walked, walk-meets}
 use denote.Exit.{yes}
 use Rattle.nodes.specs.declared.Node.{Node}
 use Rattle.nodes.specs.declared.Hearing.{Hearing}
 use Rattle.nodes.specs.declared.Judged.{Judged}
 use Rattle.nodes.specs.Table.{addresses, eachFrom}
 use Rattle.nodes.specs.Promises.{Hear}
-use Rattle.nodes.specs.Private.{heardIn, changeIn, JudgedAs, recordsOf, afterOf}
+use Rattle.nodes.specs.Private.{Judges, recordsOf, afterOf}
 use Rattle.nodes.proofs.Array.{arrayTy, array-told, array-made, array-law}
 use Rattle.nodes.proofs.Calls.{Records, Changed, calls-records, calls-changed}
 use Rattle.nodes.proofs.Each.{each-length}
@@ -114,7 +118,8 @@ module _ {M : Type 1} (𝓤 : URA M) (H : Heap 𝓤) (A : Atoms 𝓤) (W : Given
   abbrev Post : Val → SProp 𝓤
   Post = walkOf 𝓤 H A hear.ended stayed (hear.clauses 𝓤 H A mem run) .post (((κ, (κ′, tt)), (q, (q′, tt)), tt, x, at), tt)
 
-  exits : (r : Hearing) (v : Val) (zs : List Node) → length zs ≡ length ys → Is E.the-row r (v ∷ []) → Hear ys id bs r zs
+  exits : (r : Hearing) (v : Val) (zs : List Node) → length zs ≡ length ys → Is E.the-row r (v ∷ [])
+      → Hear ys id bs r zs
       → ent 𝓤 (⋆ 𝓤 H A (‵ (fobs γ (codedHoleys R .code (heres R zs))) ∷ ‵ (fbor κ (Held R (length zs) b o γ)) ∷ ‵ (flft κ q) ∷ (‵ (flft κ′ q′) ⊛ ‵ ftrue) ∷ ‵ Own ∷ [])) (Post v)
   exits r v zs long is e =
       qed W (‵ (fobs γ (codedHoleys R .code (heres R zs))) ∷ ‵ (fbor κ (Held R (length zs) b o γ)) ∷ ‵ (flft κ q) ∷ (‵ (flft κ′ q′) ⊛ ‵ ftrue) ∷ ‵ Own ∷ []) ∵
@@ -138,11 +143,11 @@ module _ {M : Type 1} (𝓤 : URA M) (H : Heap 𝓤) (A : Atoms 𝓤) (W : Given
       owned ! u32 (Is u32) (uint-makes 𝓤 H A W w32) id _ (refl, id-fits) $ fjoin ! $ owned ! (AR addresses) (Is (AR addresses)) (array-made 𝓤 H A W addresses) ns _ good $ fjoin ! $
       owned ! usize (Is usize) (uint-makes 𝓤 H A W w64) (length ys) _ (refl, room .0) $ fjoin ! $ move ! (1 ∷ 0 ∷ []) $ join ! $ nothing ! $ move ! (1 ∷ 0 ∷ []) $ done !
 
-  abbrev Judges : List Node → Judged → Type 0
-  Judges ns r = JudgedAs (heardIn (length ys) ns id bs) (changeIn (length ys) ns id bs) r
+  abbrev Finds : List Node → Judged → Type 0
+  Finds ns r = Judges (length ys) ns id bs r
 
-  says-judge : (ns : List Node) (r : Judged) → ent 𝓤 (ensured 𝓤 H A judge.ended (judge.clauses 𝓤 H A mem run) (κ′, tt) (y ns) tt r) (fact 𝓤 (Judges ns r))
-  says-judge ns r = exE 𝓤 _ (λ ws. snd∗ 𝓤 (sem 𝓤 H A (lasts judge.ended (κ′, tt) (y ns) ws)) (fact 𝓤 (Judges ns r)))
+  says-judge : (ns : List Node) (r : Judged) → ent 𝓤 (ensured 𝓤 H A judge.ended (judge.clauses 𝓤 H A mem run) (κ′, tt) (y ns) tt r) (fact 𝓤 (Finds ns r))
+  says-judge ns r = exE 𝓤 _ (λ ws. snd∗ 𝓤 (sem 𝓤 H A (lasts judge.ended (κ′, tt) (y ns) ws)) (fact 𝓤 (Finds ns r)))
 
   module _ (C : Calls 𝓤 H) (Λ : Loops 𝓤 H) (fm : FmC 𝓤 H (W .laws) C) (known-records : Triple 𝓤 (C #nodes·records) (Records 𝓤 H A mem run)) (known-judge : Triple 𝓤 (C #nodes·judge) (Judge 𝓤 H A mem run)) (known-changed : Triple 𝓤 (C #nodes·changed) (Changed 𝓤 H A mem run)) where
     walk : ent 𝓤 (onEntry 𝓤 H A hear.signature (κ, (κ′, tt)) (q, (q′, tt)) x at) (WpFn 𝓤 H C Λ code.function (s ∷ vint w32 id ∷ s′ ∷ []) Post)
@@ -167,9 +172,9 @@ module _ {M : Type 1} (𝓤 : URA M) (H : Heap 𝓤) (A : Atoms 𝓤) (W : Given
         -- [what is asked; bytes'; the row; the open borrow; obs; auth; _11; …]
         calls-at ! fm (Judge 𝓤 H A mem run) known-judge (to-judge ns) (and-then ! (load ! (from ! (stop !)) (look ! 18 refl)) (and-then ! (load ! (from ! (stop !)) (look ! 16 refl)) (and-then ! (load ! (from ! (stop !)) (look ! 24 refl)) (and-then ! (load ! (from ! (stop !)) (look ! 22 refl)) (no-more !))))) (λ v.
         use1 W (later (some (λ (r : Judged). ((‵ (flft κ′ q′) ⊛ ‵ ftrue) ⊛ ‵ (J.the-row .own r (v ∷ []))) ⊛ raw (ensured 𝓤 H A judge.ended (judge.clauses 𝓤 H A mem run) (κ′, tt) (y ns) tt r)))) (id⊢ 𝓤 _) $ await ! tt $ pick ! (λ r.
-        split ! $ move ! (1 ∷ []) $ use1 W (raw (fact 𝓤 (Judges ns r))) (says-judge ns r) $ heard ! (Judges ns r) (λ e′. split ! $ move ! (1 ∷ []) $
+        split ! $ move ! (1 ∷ []) $ use1 W (raw (fact 𝓤 (Finds ns r))) (says-judge ns r) $ heard ! (Finds ns r) (λ e′. split ! $ move ! (1 ∷ []) $
         peeks ! J.the-row (Is J.the-row) (shows 𝓤 H A J.the-row) r (v ∷ []) (λ is′. drop ! $
-        let judged : Judges (recordsOf ys) r = subst (λ (l : List Node). Judges l r) e e′ in
+        let judged : Finds (recordsOf ys) r = subst (λ (l : List Node). Finds l r) e e′ in
         let enough : r .turns ≤ length ys = judged-inside ys id bs r judged in
         let parts = LL.owed J.the-type J′.the-laws r (v ∷ []) is′ in
         land ! (from ! (stop !)) (init ! 20 refl (LL.lawful J.the-type J′.the-laws 𝓤 H A W .typed r _ is′ .0)) $ rewrite ! 20 (λ (z : Val). ‵ (fat fullShare J′.mir l₄ 0 z)) (ap only (LL.tells J.the-type J′.the-laws r (v ∷ []) is′)) refl $

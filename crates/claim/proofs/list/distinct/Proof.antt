@@ -33,7 +33,8 @@ returns : tie.Need-returns Inv-loop μ-loop
 returns c =
     let l = c .before .before .before .before .loop in
     let h : l .i < length (c .before .before .before .before .before .before .args .list .now) = omega arith in
-    sym (l .inv .1 ∙ no-two-stop _ _ _ 0 h (not-false _ (sym (c .before .absent .ensures) ∙ not-true _ (c .if1 .taken))))
+    let a = sym (c .before .absent .ensures) ∙ not-true _ (c .if1 .taken) in
+    sym (l .inv .1 ∙ no-two-stop _ _ _ 0 h (not-false _ a))
 
 add-i : tie.Need-add-i Inv-loop μ-loop
 add-i c = search needs
@@ -45,7 +46,8 @@ loop-again : tie.Need-loop-again Inv-loop μ-loop
 loop-again c =
     let l = c .before .before .before .before .loop in
     let h : l .i < length (c .before .before .before .before .before .before .args .list .now) = omega arith in
-    (search needs, l .inv .1 ∙ no-two-pass _ _ _ 0 h (not-true _ (sym (c .before .absent .ensures) ∙ not-false _ (c .if1 .left))))
+    let a = sym (c .before .absent .ensures) ∙ not-false _ (c .if1 .left) in
+    (search needs, l .inv .1 ∙ no-two-pass _ _ _ 0 h (not-true _ a))
 
 returns-2 : tie.Need-returns-2 Inv-loop μ-loop
 returns-2 c =

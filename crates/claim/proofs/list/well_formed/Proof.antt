@@ -23,7 +23,8 @@ addresses-requires c κs = search needs
 returns-3 : tie.Need-returns-3
 unfolding isWellFormed
 returns-3 c =
-    let e : every isAddress (c .before .before .before .before .before .args .list .now) ≡ false = sym (c .before .addresses .ensures) ∙ not-true _ (c .if3 .taken) in
+    let l = c .before .before .before .before .before .args .list .now in
+    let e : every isAddress l ≡ false = sym (c .before .addresses .ensures) ∙ not-true _ (c .if3 .taken) in
     search (tests, e)
 
 distinct-requires : tie.Need-distinct-requires
@@ -32,7 +33,9 @@ distinct-requires c κs = search needs
 returns-4 : tie.Need-returns-4
 unfolding isWellFormed
 returns-4 c =
-    let e : every isAddress (c .before .before .before .before .before .before .args .list .now) ≡ true = sym (c .before .before .addresses .ensures) ∙ not-false _ (c .before .if3 .left) in
+    let l = c .before .before .before .before .before .before .args .list .now in
+    let k = c .before .before .addresses .ensures in
+    let e : every isAddress l ≡ true = sym k ∙ not-false _ (c .before .if3 .left) in
     c .distinct .ensures ∙ search (tests, e)
 
 pub well-formed-spec : {M : Type 1} → statement M

@@ -14,7 +14,8 @@ use Rattle.nodes.proofs.flat.address_in.Tie as tie
 
 abbrev Inv-loop : tie.InvT-loop
 Inv-loop name records i₀ i =
-    (i ≤ addresses) × (length records ≡ addresses) × (firstFrom (hasName name) i (drop i records) ≡ first (hasName name) records)
+    (i ≤ addresses) × (length records ≡ addresses)
+    × (firstFrom (hasName name) i (drop i records) ≡ first (hasName name) records)
 
 abbrev μ-loop : tie.MeasureT-loop
 μ-loop name records i₀ i = addresses - i

@@ -1,8 +1,6 @@
 -- `nodes::flat::asked` meets its contract. Assumes nothing.
-use mathlib.Core.Path.{refl, sym, ap, _∙_}
+use mathlib.Core.Path.{refl, _∙_}
 use borrow.Author.Needs.{needs}
-use borrow.Author.Tests.{eq-eqb, ne-eqb}
-use Rattle.words.specs.Words.{gives}
 use Rattle.words.proofs.Tests.{tests}
 use Rattle.nodes.specs.Call.{heardBy}
 use Rattle.nodes.specs.Private.{changeBy}

@@ -17,7 +17,8 @@ keeps-rules-requires c κs = search needs
 returns-2 : tie.Need-returns-2
 returns-2 c =
     let k = c .before in
-    sym (sized-broken _ _ _ (k .before .if1 .left) (sym (k .keeps-rules .ensures) ∙ not-true (k .keeps-rules .result) (c .if2 .taken)))
+    let e = sym (k .keeps-rules .ensures) ∙ not-true (k .keeps-rules .result) (c .if2 .taken) in
+    sym (sized-broken _ _ _ (k .before .if1 .left) e)
 
 returns-3 : tie.Need-returns-3
 returns-3 c =

@@ -36,7 +36,8 @@ add-count : tie.Need-add-count Inv-loop μ-loop
 add-count c =
     let l = c .before .before .before .loop in
     let a = c .before .before .before .before .args in
-    omega (arith, one-at-most (isReplaced (a .ms) (getD (a .t1) (l .i) absent)), c .replaces .ensures, l .inv .0, l .inv .2)
+    let one = one-at-most (isReplaced (a .ms) (getD (a .t1) (l .i) absent)) in
+    omega (arith, one, c .replaces .ensures, l .inv .0, l .inv .2)
 
 add-i : tie.Need-add-i Inv-loop μ-loop
 add-i c = search needs
