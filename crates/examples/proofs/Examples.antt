@@ -64,7 +64,8 @@ told sender events =
     ∙ ap (λ (ps : List (Seat Open)). toldTo longMessages sender (run longMessages ps events)) (blank-view layout placeCount storageOfZeros))
 
 ninth :
-    answers (toldTo longMessages 9 (onBusyBus longMessages (eightSenders ++ (Examples.announcementBy 9 nineBytes ∷ []))))
+    answers
+    (toldTo longMessages 9 (onBusyBus longMessages (eightSenders ++ (Examples.announcementBy 9 nineBytes ∷ []))))
     ≡ 8 ∷ []
 unfolding priorityOf reservedOf dgnOf sourceOf identifierOf numberOf sourceAllowed checkedOf bytesTo announced meant meaningOf
 ninth = refl

@@ -1,15 +1,14 @@
 -- The splitter, case by case, and the bytes of a packet.
 -- Assumes nothing.
 use mathlib.Core.Path.{_≡_, refl, sym, ap, _∙_}
-use mathlib.Core.Bool.{true, false}
-use mathlib.Core.List.{List, [], _∷_, _++_, append-nil}
+use mathlib.Core.List.{List, _∷_, _++_, append-nil}
 use Prim.Native.Nat.{ℕ, zero, suc, _+_, _-_, _*_, _≤_, _<_, min}
 use native.Mathlib.Nat.{le-refl, sub-self, le-of-suc-le-suc, not-suc-le-zero}
 use native.Mathlib.Omega.{arith}
 use borrow.Author.Tests.{eq-eqb, ne-eqb, lt-ltb, le-ltb, leb-true, leb-false, ltb-false}
 use lib.ListN.{length, take, drop, replicate, length-drop}
 use lib.Seq.{paste, take-all, take-append-le, take-append-add}
-use Rattle.words.specs.Words.{if_then_else_, _=?_, _<?_, _≤?_, _or_, Told, refused, gives}
+use Rattle.words.specs.Words.{if_then_else_, _<?_, _≤?_, Told, refused, gives}
 use Rattle.frame.specs.Frame.{frameBytes}
 use Rattle.frame.specs.Identifier.{greatestDgn}
 use Rattle.frame.specs.Standard.{unused}

@@ -8,19 +8,18 @@ use Prim.Native.Nat.{ℕ, _+_, _<_, _≤_}
 use native.Mathlib.Omega.{arith}
 use borrow.Author.Tests.{leb-true, eqb-true, eqb-false, not-true, eq-eqb, ne-eqb, lt-ltb, le-ltb}
 use lib.ListN.{length, getD, set}
-use Rattle.words.specs.Words.{if_then_else_, _≤?_, _=?_, _<?_, _and_, Told, refused, gives}
+use Rattle.words.specs.Words.{if_then_else_, _≤?_, _=?_, Told, refused, gives}
 use Rattle.words.specs.Lists.{every, first}
 use Rattle.frame.specs.Identifier.{greatestDgn}
 use Rattle.frame.specs.Frame.{checkedOf}
 use Rattle.frame.specs.declared.Parts.{Parts}
 use Rattle.words.proofs.Words.{both-true, by-test}
-use Rattle.places.specs.Layout.{oneEach}
 use Rattle.words.proofs.Lists.{found-at, every-at}
 use Rattle.words.specs.declared.Found.{Found}
 use Rattle.words.specs.declared.Found.the-variants.{At, Nowhere}
-use Rattle.message.specs.LongMessage.{shortest, longest, packetsOf, idleLimit, Meaning, meant, meaningOf}
-use Rattle.message.specs.Receiver.{greatestSender, room, freePlace, isFree, isOpenBy, layout, placeKeepsRules}
-use Rattle.message.specs.Receiver.{keepsRules, Outcome, stored, finished, wholeAt, After, leaves, orElse}
+use Rattle.message.specs.LongMessage.{shortest, longest, packetsOf, idleLimit, meant, meaningOf}
+use Rattle.message.specs.Receiver.{greatestSender, room, freePlace, isFree, isOpenBy, placeKeepsRules}
+use Rattle.message.specs.Receiver.{keepsRules, Outcome, stored, finished, wholeAt, After, leaves}
 use Rattle.message.specs.Receiver.{placeFor, openedAt, hearsAnnouncement, keptAt, expecting, advanced, packetAt}
 use Rattle.message.specs.Receiver.{carries, byMeaning, heard}
 use Rattle.message.specs.Promises.{toldAnswer, LeftBy}

@@ -7,7 +7,7 @@ use mathlib.Core.List.{List}
 use mathlib.Core.Logic.{_≢_, _⊎_}
 use Prim.Native.Nat.{ℕ, _+_, _-_, _*_, _≤_, _<_}
 use lib.ListN.{length, getD, set}
-use Rattle.words.specs.Words.{Told, refused, gives}
+use Rattle.words.specs.Words.{refused, gives}
 use Rattle.words.specs.Lists.{first}
 use Rattle.frame.specs.Identifier.{greatestDgn}
 use Rattle.frame.specs.Frame.{checkedOf}

@@ -1,6 +1,5 @@
 -- Long messages on the bus (RULES 4.1 to 4.7 and 4.11; J1939-21's broadcast transfer): what an announcement and a data
 -- packet are, and the limits.
-use mathlib.Core.Bool.{Bool}
 use mathlib.Core.List.{List}
 use Prim.Native.Nat.{ℕ, _+_, _-_, _*_, _/_, min}
 use lib.ListN.{length, take, drop, getD}
@@ -8,7 +7,6 @@ use Rattle.words.specs.Words.{if_then_else_, _≤?_, _=?_, _and_, Told, refused
 use Rattle.frame.specs.Bytes.{numberOf}
 use Rattle.frame.specs.Identifier.{greatestDgn}
 use Rattle.frame.specs.Frame.{checkedOf}
-use Rattle.frame.specs.declared.Parts.{Parts}
 use Rattle.frame.specs.Standard.{announcementDgn, packetDgn}
 
 -- the lengths of a long message, in bytes

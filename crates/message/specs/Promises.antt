@@ -1,14 +1,13 @@
 -- What each public call of this crate promises (RULES 5 and 13.7): one proposition over answer, state and every lent
 -- byte. The answers are read as numbers and values (RULES 2.10).
 use mathlib.Core.Path.{_≡_}
-use mathlib.Core.Bool.{Bool, true, false}
-use mathlib.Core.List.{List, [], map}
+use mathlib.Core.List.{List, []}
 use Prim.Native.Nat.{ℕ, _≤_, _*_}
 use lib.ListN.{length, take, drop, replicate}
 use Rattle.words.specs.Words.{if_then_else_, _<?_, _≤?_, _or_, Told, refused, gives, numberIn}
 use Rattle.frame.specs.Frame.{frameBytes}
 use Rattle.frame.specs.Promises.{refusalOf}
-use Rattle.message.specs.LongMessage.{longest, packetsOf, Meaning, other, announcement, packet}
+use Rattle.message.specs.LongMessage.{longest}
 use Rattle.message.specs.Receiver.{placeCount, room, freePlace, Outcome, nothingToDo, opened, stored, finished}
 use Rattle.message.specs.Receiver.{After, heard, pausedPlaces, pausedAnswer}
 use Rattle.message.specs.Splitter.{announcementOf, packetOf}

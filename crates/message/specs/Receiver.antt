@@ -1,6 +1,6 @@
 -- The receiver: eight places over lent storage (RULES 5.1 to 5.13).
 use mathlib.Core.Path.{refl}
-use mathlib.Core.Bool.{Bool, true, false, not}
+use mathlib.Core.Bool.{Bool, not}
 use mathlib.Core.List.{List, map}
 use Prim.Native.Nat.{ℕ, _+_, _-_, _*_}
 use lib.ListN.{length, take, drop, getD, set}

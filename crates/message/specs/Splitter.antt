@@ -1,8 +1,8 @@
 -- The splitter: a message as an announcement and numbered data packets (RULES 5.14 and 5.15).
-use mathlib.Core.List.{List, [], _∷_, _++_}
+use mathlib.Core.List.{List, _∷_, _++_}
 use Prim.Native.Nat.{ℕ, _+_, _-_, _*_}
 use lib.ListN.{length, take, drop, replicate}
-use Rattle.words.specs.Words.{if_then_else_, _<?_, _≤?_, _=?_, _or_, Told, refused, gives, given_then_}
+use Rattle.words.specs.Words.{if_then_else_, _<?_, _=?_, _or_, Told, refused, gives, given_then_}
 use Rattle.frame.specs.Bytes.{bytesOf}
 use Rattle.frame.specs.Identifier.{greatestDgn}
 use Rattle.frame.specs.Standard.{unused}

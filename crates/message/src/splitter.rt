@@ -1,6 +1,6 @@
 // The splitter's parts: whether a message can be split, and the bytes of its frames.
 ghost use mathlib.Core.Path.{_≡_};
-ghost use Prim.Native.Nat.{ℕ, _<_, _≤_};
+ghost use Prim.Native.Nat.{_<_, _≤_};
 ghost use lib.ListN.{length, replicate};
 ghost use Rattle.frame.specs.Frame.{frameBytes};
 ghost use Rattle.message.specs.LongMessage.{longest, packetsOf};

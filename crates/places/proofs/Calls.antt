@@ -1,14 +1,13 @@
 -- The statements of specs/Calls.antt, proved for all calls that keep to their places: a run of calls is a run of the places.
 -- Assumes nothing.
 use mathlib.Core.Path.{_≡_, refl, sym, ap, ap₂, _∙_, subst, subst⁻¹}
-use mathlib.Core.List.{List, [], _∷_, map}
+use mathlib.Core.List.{[], _∷_, map}
 use mathlib.Core.Option.{none}
-use Prim.Native.Nat.{ℕ}
-use Rattle.words.specs.Words.{Told, gives}
-use Rattle.places.specs.Format.{Format, Event, frame, pause}
+use Rattle.words.specs.Words.{gives}
+use Rattle.places.specs.Format.{Format, frame, pause}
 use Rattle.places.specs.OneKey.{solo}
-use Rattle.places.specs.Places.{said, heard, paused, lookup, hear, pass, closedBy, eightFree, after, History, run}
-use Rattle.places.specs.Places.{eventsOf, toldTo, only, admitted}
+use Rattle.places.specs.Places.{said, heard, paused, lookup, hear, closedBy, eightFree, after, History, run}
+use Rattle.places.specs.Places.{eventsOf, toldTo, admitted}
 use Rattle.places.specs.Statements.{EightOthersOpen, ClosedByRules}
 use Rattle.places.specs.Calls.{Calls, Ran, no-call, a-frame, a-pause, FromStart, BusyBus, OpenOnBus, ToldOnBus}
 use Rattle.places.specs.Calls.{NoPlaceFree, PauseCount, SumsOnBus, KeepsPlaces, StartKept, RulesKept}

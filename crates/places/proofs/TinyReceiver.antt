@@ -1,6 +1,6 @@
 -- The receiver of the made-up format keeps to its places.
 -- Assumes nothing.
-use mathlib.Core.Path.{_≡_, refl, sym, ap, _∙_, subst⁻¹}
+use mathlib.Core.Path.{_≡_, refl, ap, _∙_, subst⁻¹}
 use mathlib.Core.Bool.{Bool, true, false, not}
 use mathlib.Core.List.{List, [], _∷_, _++_, map}
 use mathlib.Core.Logic.{_≢_}
@@ -9,23 +9,22 @@ use native.Mathlib.Nat.{sub-self}
 use native.Mathlib.Omega.{arith}
 use borrow.Author.Tests.{eq-eqb, ne-eqb, eqb-true, eqb-false, le-leb, lt-leb, leb-true, leb-false, not-true}
 use lib.ListN.{length, take, getD, set, length-take, length-drop, length-map}
-use lib.Seq.{paste, length-paste, take-paste}
-use Rattle.words.specs.Words.{if_then_else_, _<?_, _≤?_, _=?_, _and_, Told, gives}
+use lib.Seq.{length-paste, take-paste}
+use Rattle.words.specs.Words.{if_then_else_, _<?_, _≤?_, _=?_, gives}
 use Rattle.words.specs.Lists.{every, count, first}
 use Rattle.words.proofs.Words.{by-test, both-true}
 use Rattle.places.specs.Format.{finishes, opens, feeds, goes, ends}
-use Rattle.places.specs.Places.{Out, full, said, placeCount, rest, closes}
-use Rattle.places.specs.Layout.{stretch, AgreeBut, openBy, seat, view, oneEach}
-use Rattle.places.specs.Calls.{KeepsPlaces}
-use Rattle.places.specs.Tiny.{Card, Pile, Word, opened, stored, unknown, finished, newPile, mostPackets}
+use Rattle.places.specs.Places.{said, placeCount, rest, closes}
+use Rattle.places.specs.Layout.{stretch, AgreeBut, openBy, seat, view}
+use Rattle.places.specs.Tiny.{Card, opened, stored, unknown, finished, newPile, mostPackets}
 use Rattle.places.specs.Tiny.{tinyIdleLimit, tinyAsks, tinyFeed, tinyWait, tiny}
 use Rattle.places.specs.TinyReceiver.{Slot, freeSlot, isFreeSlot, pileIn, tinyLayout, TinyHeld, slotKeepsRules}
-use Rattle.places.specs.TinyReceiver.{TinyKeeps, TinyAfter, tinyLeaves, written, handed, tinyFinishes, newSlot}
+use Rattle.places.specs.TinyReceiver.{TinyKeeps, TinyAfter, written, handed, tinyFinishes, newSlot}
 use Rattle.places.specs.TinyReceiver.{tinyOpens, nextSlot, tinyStores, tinyFeeds, tinyHeard, slotCloses}
-use Rattle.places.specs.TinyReceiver.{slotIdled, TinyStarts, TinyHears, TinyPauses, tinyCalls, TinyKeepsPlaces}
+use Rattle.places.specs.TinyReceiver.{slotIdled, TinyStarts, TinyKeepsPlaces}
 use Rattle.words.specs.declared.Found.{Found}
 use Rattle.words.specs.declared.Found.the-variants.{At, Nowhere}
-use Rattle.words.proofs.Lists.{found-at, every-at, every-set, every-map, every-replicate}
+use Rattle.words.proofs.Lists.{found-at, every-at, every-set, every-map}
 use Rattle.places.proofs.Stretch.{stretch-same, stretch-other}
 use Rattle.places.proofs.View.{one-each-view, length-view, blank-view, view-pass, view-closes}
 use Rattle.places.proofs.Receiver.{Shows, shows-opens-held, shows-opens-free, shows-finishes-held}

@@ -12,7 +12,7 @@ use lib.ListN.{length}
 use Rattle.words.specs.Words.{Told, gives}
 use Rattle.places.specs.Format.{Format, Event}
 use Rattle.places.specs.OneKey.{pauseAlone, solo}
-use Rattle.places.specs.Places.{Out, full, Happened, heard, paused, lookup, OnePlaceEach, placeCount}
+use Rattle.places.specs.Places.{Out, full, heard, paused, lookup, OnePlaceEach, placeCount}
 use Rattle.places.specs.Places.{Places, hear, pass, closedBy, eightFree, History, eventsOf, toldTo}
 use Rattle.places.specs.Places.{admitted, NeverFull, answered}
 use Rattle.places.specs.Statements.{onQuietBus, openByRules, isOpening, closedAlone}

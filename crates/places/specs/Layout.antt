@@ -1,7 +1,7 @@
 -- Places as code keeps them: an array of place structs of any type P, and a storage of which each place owns a stretch
 -- (RULES 5.2; RULES 12.14 has another stride). A layout says how to read them as places.
 use mathlib.Core.Path.{_≡_}
-use mathlib.Core.Bool.{Bool, true, false, not}
+use mathlib.Core.Bool.{Bool, true, not}
 use mathlib.Core.List.{List, [], _∷_}
 use mathlib.Core.Logic.{_≢_}
 use Prim.Native.Nat.{ℕ, suc, _*_}

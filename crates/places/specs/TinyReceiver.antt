@@ -9,7 +9,7 @@ use lib.ListN.{length, take, getD, set, replicate}
 use lib.Seq.{paste}
 use Rattle.words.specs.Words.{if_then_else_, _<?_, _≤?_, _=?_, _and_, Told, gives}
 use Rattle.words.specs.Lists.{every, count, first}
-use Rattle.places.specs.Places.{Place, Out, full, said, placeCount}
+use Rattle.places.specs.Places.{Out, full, said, placeCount}
 use Rattle.places.specs.Layout.{stretch, Layout, openBy, view, oneEach}
 use Rattle.places.specs.Calls.{Calls, KeepsPlaces}
 use Rattle.places.specs.Tiny.{Card, Pile, Word, opened, stored, unknown, finished}
