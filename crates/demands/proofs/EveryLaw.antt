@@ -1,7 +1,5 @@
 -- Every law of the parts, by its name.
 -- Assumes nothing.
-use mathlib.Core.List.{List}
-use Prim.Native.Nat.{ℕ}
 use Rattle.frame.proofs.Laws as Frame
 use Rattle.places.specs.Format.{Format}
 use Rattle.places.specs.Calls.{Calls, KeepsPlaces}

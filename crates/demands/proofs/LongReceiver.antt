@@ -2,16 +2,15 @@
 -- rules leads to one that keeps them.
 -- Assumes nothing.
 use mathlib.Core.Path.{_≡_, refl, sym, ap, ap₂, _∙_, subst⁻¹}
-use mathlib.Core.Bool.{Bool, true, false, not}
-use mathlib.Core.List.{List, [], _∷_, _++_, map}
+use mathlib.Core.Bool.{true, false, not}
+use mathlib.Core.List.{List, map}
 use mathlib.Core.Logic.{_≢_}
-use mathlib.Core.Option.{Option, some, none}
-use Prim.Native.Nat.{ℕ, _+_, _-_, _*_, _≤_, _<_, min}
+use Prim.Native.Nat.{ℕ, _+_, _-_, _*_, _≤_, _<_}
 use native.Mathlib.Omega.{arith}
-use borrow.Author.Tests.{eq-eqb, ne-eqb, eqb-true, eqb-false, lt-ltb, le-ltb, le-leb, lt-leb, ltb-false, not-true}
-use lib.ListN.{length, take, drop, getD, set, replicate, length-take, length-drop, length-map}
-use lib.Seq.{paste, length-paste, take-paste, take-take}
-use Rattle.words.specs.Words.{if_then_else_, _≤?_, _<?_, _=?_, _and_, Told, refused, gives}
+use borrow.Author.Tests.{eq-eqb, ne-eqb, eqb-true, eqb-false, le-ltb, le-leb, lt-leb, ltb-false}
+use lib.ListN.{length, take, drop, getD, set, length-take, length-drop, length-map}
+use lib.Seq.{length-paste, take-paste, take-take}
+use Rattle.words.specs.Words.{if_then_else_, _<?_, _=?_, Told, refused, gives}
 use Rattle.words.specs.Lists.{every, count, first}
 use Rattle.frame.specs.Identifier.{sourceOf, greatestDgn}
 use Rattle.frame.specs.Frame.{frameBytes}
@@ -20,20 +19,20 @@ use Rattle.frame.specs.declared.BadFrame.the-variants.{IdentifierTooLarge, NotE
 use Rattle.frame.specs.declared.BadFrame.the-variants.{SourceNotAllowed}
 use Rattle.words.proofs.Words.{by-test, both-true}
 use Rattle.places.specs.Format.{fixed, opens, feeds, goes, ends}
-use Rattle.places.specs.Places.{Out, full, said, rest, closes}
+use Rattle.places.specs.Places.{Out, said, rest, closes}
 use Rattle.places.specs.Layout.{stretch, AgreeBut, openBy, seat, view, oneEach}
 use Rattle.places.specs.Calls.{KeepsPlaces}
 use Rattle.words.specs.declared.Found.{Found}
 use Rattle.words.specs.declared.Found.the-variants.{At, Nowhere}
-use Rattle.words.proofs.Lists.{found-at, every-at, every-set, every-map, every-replicate}
+use Rattle.words.proofs.Lists.{found-at, every-set, every-map}
 use Rattle.places.proofs.Stretch.{stretch-same, stretch-other}
 use Rattle.places.proofs.View.{one-each-view, length-view, blank-view, view-pass, view-closes}
 use Rattle.places.proofs.Receiver.{Shows, shows-fixed, shows-opens-held, shows-opens-free, shows-full}
 use Rattle.places.proofs.Receiver.{shows-feeds-nowhere, shows-feeds-goes, shows-feeds-ends, shows-keeps, pass-keeps}
 use Rattle.message.specs.LongMessage.{shortest, longest, packetBytes, packetsOf, idleLimit, needed, Meaning, other}
 use Rattle.message.specs.LongMessage.{announcement, packet, meaningOf}
-use Rattle.message.specs.OneSender.{Open, Part, Tells, announcedBy, joined, wholeOf, expectingNext, fedBy}
-use Rattle.message.specs.OneSender.{waits, asksBy, longMessages}
+use Rattle.message.specs.OneSender.{Part, Tells, announcedBy, joined, wholeOf, expectingNext, fedBy}
+use Rattle.message.specs.OneSender.{asksBy, longMessages}
 use Rattle.message.specs.OneSender as OneSender
 use Rattle.message.specs.Receiver.{greatestSender, placeCount, room, freePlace, isFree, openMessage, layout, isOpenBy}
 use Rattle.message.specs.Receiver.{isZero, placeKeepsRules, keepsRules, Outcome, After, leaves, placeFor}
@@ -47,7 +46,7 @@ use Rattle.message.specs.declared.Answer.{Answer}
 use Rattle.message.specs.declared.Answer.the-variants.{BadFrame, MalformedAnnouncement, NoPlaceFree, NoOpenMessage}
 use Rattle.message.specs.declared.Answer.the-variants.{UnexpectedPacket, NothingToDo, Opened, Stored, Finished}
 use Rattle.message.specs.declared.Pausing.the-variants as Pausing
-use Rattle.message.proofs.Steps.{found-below, OpenRules, open-rules, rules-at, announcing-at, announcing-nowhere}
+use Rattle.message.proofs.Steps.{found-below, OpenRules, open-rules, rules-at}
 use Rattle.message.proofs.Steps.{advanced-last, advanced-next, packet-expected, packet-other, carries-at}
 use Rattle.message.proofs.Steps.{carries-nowhere, heard-kept}
 use Rattle.message.proofs.Frames.{Known, meaning-known}

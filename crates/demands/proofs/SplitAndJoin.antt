@@ -1,15 +1,15 @@
 -- The statements of specs/SplitAndJoin.antt, proved: the message's frames mean what they are to mean, and each packet adds its part.
 -- Assumes nothing.
 use mathlib.Core.Path.{_≡_, refl, sym, ap, ap₂, _∙_}
-use mathlib.Core.Bool.{Bool, true, false}
+use mathlib.Core.Bool.{true}
 use mathlib.Core.List.{List, [], _∷_, _++_, append-assoc}
 use mathlib.Core.Option.{Option, some, none}
-use Prim.Native.Nat.{ℕ, suc, _+_, _-_, _*_, _≤_, _<_, min}
+use Prim.Native.Nat.{ℕ, suc, _+_, _-_, _*_, _≤_, _<_}
 use native.Mathlib.Omega.{arith}
 use borrow.Author.Tests.{eq-eqb, ne-eqb, le-ltb, le-leb}
 use lib.ListN.{length, take, drop, replicate, length-drop, length-take, length-append}
 use lib.Seq.{take-add, take-all, take-append-le, take-take}
-use Rattle.words.specs.Words.{if_then_else_, _=?_, _<?_, _≤?_, _or_, _and_, Told, refused, gives}
+use Rattle.words.specs.Words.{if_then_else_, Told, refused, gives}
 use Rattle.frame.specs.Bytes.{bytesOf}
 use Rattle.frame.specs.Identifier.{sourceOf, dgnOf, reservedOf, identifierOf, identifiers, greatestDgn, lowestPriority}
 use Rattle.frame.specs.Frame.{frameBytes, sourceAllowed}
