@@ -7,7 +7,8 @@ use lib.ListN.{take, drop, length, replicate}
 use Rattle.words.specs.Words.{Told, refused, gives}
 use Rattle.frame.specs.Bytes.{numberOf}
 use Rattle.frame.specs.Identifier.{sourceOf, dgnOf, catalogueForm}
-use Rattle.message.specs.Receiver.{placeCount, room, freePlace, Outcome, nothingToDo, opened, stored, finished, After, heard, pausedPlaces}
+use Rattle.places.specs.Places.{placeCount}
+use Rattle.message.specs.Receiver.{room, freePlace, Outcome, nothingToDo, opened, stored, finished, After, heard, pausedPlaces}
 use Rattle.message.specs.Promises.{messageIn}
 use Rattle.message.specs.declared.Place.{Place}
 use Rattle.catalogue.specs.Rows.{rows}

@@ -14,12 +14,12 @@ use Rattle.words.specs.Words.{if_then_else_, _<?_, _=?_, Told, refused, gives}
 use Rattle.words.specs.Lists.{every, count, first}
 use Rattle.frame.specs.Identifier.{sourceOf, greatestDgn}
 use Rattle.frame.specs.Frame.{frameBytes}
-use Rattle.frame.specs.Standard.{Frame}
+use Rattle.frame.specs.Standard.{Frame, greatestAddress}
 use Rattle.frame.specs.declared.BadFrame.the-variants.{IdentifierTooLarge, NotEightBytes, ReservedBitSet}
 use Rattle.frame.specs.declared.BadFrame.the-variants.{SourceNotAllowed}
 use Rattle.words.proofs.Words.{by-test, both-true}
 use Rattle.places.specs.Format.{fixed, opens, feeds, goes, ends}
-use Rattle.places.specs.Places.{Out, said, rest, closes}
+use Rattle.places.specs.Places.{Out, said, rest, closes, placeCount}
 use Rattle.places.specs.Layout.{stretch, AgreeBut, openBy, seat, view, oneEach}
 use Rattle.places.specs.Calls.{KeepsPlaces}
 use Rattle.words.specs.declared.Found.{Found}
@@ -34,7 +34,7 @@ use Rattle.message.specs.LongMessage.{announcement, packet, meaningOf}
 use Rattle.message.specs.OneSender.{Part, Tells, announcedBy, joined, wholeOf, expectingNext, fedBy}
 use Rattle.message.specs.OneSender.{asksBy, longMessages}
 use Rattle.message.specs.OneSender as OneSender
-use Rattle.message.specs.Receiver.{greatestSender, placeCount, room, freePlace, isFree, openMessage, layout, isOpenBy}
+use Rattle.message.specs.Receiver.{room, freePlace, isFree, openMessage, layout, isOpenBy}
 use Rattle.message.specs.Receiver.{isZero, placeKeepsRules, keepsRules, Outcome, After, leaves, placeFor}
 use Rattle.message.specs.Receiver.{hearsAnnouncement, keptAt, expecting, advanced, packetAt, carries, byMeaning, heard}
 use Rattle.message.specs.Receiver.{idled, pausedPlaces, pausedAnswer}
@@ -153,7 +153,7 @@ module _ (f : Frame) (ps : List Place) (s : List ℕ) (eight : length ps ≡ pla
   kept t a e k x = record { shows = rw k (shows-fixed longMessages layout f ps s a e); rules = each-rules; long = refl; answers = x }
 
   -- an announcement
-  module _ (sender size dgn : ℕ) (by : sourceOf (f .id) ≡ sender) (named : sender ≤ greatestSender) (long : shortest ≤ size) (short : size ≤ longest) (about : dgn ≤ greatestDgn)
+  module _ (sender size dgn : ℕ) (by : sourceOf (f .id) ≡ sender) (named : sender ≤ greatestAddress) (long : shortest ≤ size) (short : size ≤ longest) (about : dgn ≤ greatestDgn)
       (asks : longMessages .asks f ≡ opens (announcedBy sender size dgn) (gives OneSender.opened)) where
     abbrev new : Place
     new = record { sender = sender; length = size; dgn = dgn; expected = 1; idle = 0 }

@@ -10,19 +10,18 @@ use borrow.Author.Tests.{eq-eqb, ne-eqb, le-ltb, le-leb}
 use lib.ListN.{length, take, drop, replicate, length-drop, length-take, length-append}
 use lib.Seq.{take-add, take-all, take-append-le, take-take}
 use Rattle.words.specs.Words.{if_then_else_, Told, refused, gives}
-use Rattle.frame.specs.Bytes.{bytesOf}
+use Rattle.frame.specs.Bytes.{bytesOf, byteAt}
 use Rattle.frame.specs.Identifier.{sourceOf, dgnOf, reservedOf, identifierOf, identifiers, greatestDgn, lowestPriority}
 use Rattle.frame.specs.Frame.{frameBytes, sourceAllowed}
-use Rattle.frame.specs.Standard.{Frame, announcementDgn, packetDgn, unused}
+use Rattle.frame.specs.Standard.{Frame, announcementDgn, packetDgn, unused, greatestAddress}
 use Rattle.words.proofs.Words.{true-false}
 use Rattle.frame.proofs.Bytes.{number-of-bytes}
 use Rattle.frame.proofs.Laws.{lowest-wins}
 use Rattle.places.specs.Format.{Event, frame, pause, step, fixed}
 use Rattle.places.specs.OneKey.{solo, hearAlone, pauseAlone, openAfter}
-use Rattle.message.specs.LongMessage.{shortest, longest, packetBytes, packetsOf, idleLimit, toAll, byteAt, bytesTo}
+use Rattle.message.specs.LongMessage.{shortest, longest, packetBytes, packetsOf, idleLimit, toAll, bytesTo}
 use Rattle.message.specs.LongMessage.{needed, Meaning, other, announcement, packet, announced, meant, meaningOf}
 use Rattle.message.specs.OneSender.{Open, Tells, joined, asksBy, longMessages, nothingToDo, finished, opened, stored}
-use Rattle.message.specs.Receiver.{greatestSender}
 use Rattle.message.specs.Splitter.{announcementBytes, packetBytesOf}
 use Rattle.message.specs.Promises.{Announcement, Packet}
 use Rattle.message.specs.declared.Announced.{Announced}
@@ -34,7 +33,7 @@ use Rattle.demands.proofs.BusyBus.{told-on-bus}
 
 -- a frame as sent passes refusals 3 to 6, and its parts are those that it was formed from
 
-module _ (priority dgn sender : ℕ) (high : priority ≤ lowestPriority) (about : dgn ≤ greatestDgn) (low : sender ≤ greatestSender) where
+module _ (priority dgn sender : ℕ) (high : priority ≤ lowestPriority) (about : dgn ≤ greatestDgn) (low : sender ≤ greatestAddress) where
   abbrev id : ℕ
   id = identifierOf priority dgn sender
 

@@ -10,7 +10,7 @@ use Prim.Native.Nat.{ℕ, _+_, _≤_, _<_}
 use lib.ListN.{length}
 use Rattle.words.specs.Words.{Told, refused, gives}
 use Rattle.frame.specs.Identifier.{identifierOf, greatestDgn, lowestPriority}
-use Rattle.frame.specs.Standard.{Frame, announcementDgn, packetDgn}
+use Rattle.frame.specs.Standard.{Frame, announcementDgn, packetDgn, greatestAddress}
 use Rattle.places.specs.Format.{Event, frame, pause}
 use Rattle.places.specs.OneKey.{solo}
 use Rattle.places.specs.Places.{History, toldTo, admitted, answered}
@@ -18,7 +18,6 @@ use Rattle.places.specs.Calls.{FromStart}
 use Rattle.message.specs.LongMessage.{shortest, longest, packetsOf, idleLimit, Meaning, other, announcement, packet}
 use Rattle.message.specs.LongMessage.{meaningOf}
 use Rattle.message.specs.OneSender.{Open, Tells, finished, longMessages}
-use Rattle.message.specs.Receiver.{greatestSender}
 use Rattle.message.specs.Promises.{Announcement, Packet}
 use Rattle.message.specs.Calls.{Held, receiverCalls}
 use Rattle.message.specs.declared.Announced.{Announced}
@@ -62,7 +61,7 @@ pub record Sendable (message : List ℕ) (dgn sender : ℕ) : Type 0 where
   pub long : shortest ≤ length message
   pub short : length message ≤ longest
   pub about : dgn ≤ greatestDgn
-  pub named : sender ≤ greatestSender
+  pub named : sender ≤ greatestAddress
 
 -- On any bus, in any run of calls: where the sender's own frames without those answered 8, and the pauses, end with
 -- such a message, the last thing that it is told is that message.

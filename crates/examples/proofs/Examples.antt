@@ -13,12 +13,12 @@ use Rattle.frame.specs.Frame.{sourceAllowed, checkedOf, formedOf}
 use Rattle.frame.specs.Standard.{Frame}
 use Rattle.words.proofs.Words.{by-test}
 use Rattle.places.specs.Format.{Event, frame, pause}
-use Rattle.places.specs.Places.{Place as Seat, Out, hear, run, toldTo}
+use Rattle.places.specs.Places.{Place as Seat, Out, hear, run, toldTo, placeCount}
 use Rattle.places.specs.Statements.{onBusyBus}
 use Rattle.places.proofs.View.{blank-view, view-pass}
 use Rattle.message.specs.LongMessage.{bytesTo, announced, meant, meaningOf}
 use Rattle.message.specs.OneSender.{Open, Tells, longMessages}
-use Rattle.message.specs.Receiver.{placeCount, room, freePlace, layout, idled, isZero, placeKeepsRules, keepsRules, closes, pausedAnswer}
+use Rattle.message.specs.Receiver.{room, freePlace, layout, idled, isZero, placeKeepsRules, keepsRules, closes, pausedAnswer}
 use Rattle.message.specs.Splitter.{splits, announcementBytes, announcementOf}
 use Rattle.message.specs.Calls.{Held, Starts, Keeps, openIn}
 use Rattle.message.specs.declared.Place.{Place}

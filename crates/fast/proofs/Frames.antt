@@ -16,7 +16,8 @@ use Rattle.frame.specs.Frame.{sourceAllowed, checkedOf, frameBytes}
 use Rattle.frame.specs.Standard.{greatestAddress, announcementDgn, packetDgn}
 use Rattle.frame.specs.declared.Parts.{Parts}
 use Rattle.words.proofs.Words.{both-true, by-test, not-flips, true-false}
-use Rattle.fast.specs.FastPacket.{sequenceOf, frameNumberOf, greatestSequence, longest, byteAt, Meaning, other}
+use Rattle.frame.specs.Bytes.{byteAt}
+use Rattle.fast.specs.FastPacket.{sequenceOf, frameNumberOf, greatestSequence, longest, Meaning, other}
 use Rattle.fast.specs.FastPacket.{begins, continues, begun, carried, meant, meaningOf}
 use Rattle.fast.specs.Names.{mayBeNamed, isNamed}
 

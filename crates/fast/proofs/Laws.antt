@@ -14,7 +14,7 @@ use lib.Seq.{paste, getD-take, getD-drop, getD-append-add, take-paste, drop-past
 use Rattle.words.specs.Words.{if_then_else_, _=?_, _<?_, _≤?_, _and_, bits, Told, refused, gives, numberIn}
 use Rattle.words.specs.Lists.{every, count, first, Distinct}
 use Rattle.frame.specs.Identifier.{greatestDgn}
-use Rattle.frame.specs.Standard.{announcementDgn, packetDgn}
+use Rattle.frame.specs.Standard.{announcementDgn, packetDgn, bytesIn}
 use Rattle.frame.specs.Frame.{frameBytes}
 use Rattle.frame.specs.Promises.{refusalOf}
 use Rattle.frame.specs.declared.BadFrame as Frames
@@ -27,8 +27,9 @@ use Rattle.places.specs.Places.{placeCount}
 use Rattle.words.specs.declared.Found.{Found}
 use Rattle.words.specs.declared.Found.the-variants.{At, Nowhere}
 use Rattle.words.proofs.Lists.{every-at, every-replicate, distinct-cons, distinct-head, distinct-tail}
+use Rattle.frame.specs.Bytes.{byteAt}
 use Rattle.fast.specs.FastPacket.{greatestSequence, firstBytes, longest, offsetOf, lastFrame, neededFirst, needed}
-use Rattle.fast.specs.FastPacket.{pairOf, frameNumberOf, byteAt, Meaning, other, NewMessage, LaterFrame, begins}
+use Rattle.fast.specs.FastPacket.{pairOf, frameNumberOf, Meaning, other, NewMessage, LaterFrame, begins}
 use Rattle.fast.specs.FastPacket.{continues, begun, carried, meaningOf}
 use Rattle.fast.specs.Names.{mostNamed, mayBeNamed, isNamed, isWellFormed}
 use Rattle.fast.specs.Receiver.{room, freePlace, isOpenBy, namesOf, isZero, placeKeepsRules, keepsRules, Outcome}
@@ -37,7 +38,6 @@ use Rattle.fast.specs.Receiver.{firstKept, keptAt, frameAt, byMeaning, h
 use Rattle.fast.specs.Receiver as Receiver
 use Rattle.fast.specs.Splitter.{refusalIn, frameBytesOf, frameOf}
 use Rattle.fast.specs.Promises.{startingNumber, toldAnswer, toldPausing, splittingNumber, naming, namingNone}
-use Rattle.fast.specs.Promises.{bytesIn}
 use Rattle.fast.specs.Laws.{StartingNumberSame, ToldAnswerSame, ToldPausingSame, SplittingNumberSame, StartOnly}
 use Rattle.fast.specs.Laws.{HearOnly, PauseOnly, MessageOnly, FrameOfOnly, StartingRefusalOnly, AnswerRefusalOnly}
 use Rattle.fast.specs.Laws.{PausingRefusalOnly, SplittingRefusalOnly, PairSame, FirstByteRead, FramesNeeded}

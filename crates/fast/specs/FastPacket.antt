@@ -5,6 +5,7 @@ use Prim.Native.Nat.{ℕ, _+_, _-_, _*_, _/_, min}
 use lib.ListN.{length, getD}
 use Rattle.words.specs.Words.{if_then_else_, _≤?_, _=?_, _and_, bits, Told, refused, gives, given_then_}
 use Rattle.frame.specs.Frame.{checkedOf}
+use Rattle.frame.specs.Bytes.{byteAt}
 use Rattle.fast.specs.Names.{isNamed}
 
 -- The first byte of a frame: the message's sequence number in the top three bits, the frame's number in the low five.
@@ -55,10 +56,6 @@ idleLimit = 750
 -- A message belongs to a pair of sender and DGN, kept as one number: an identifier's bits 24 to 0.
 abbrev pub pairOf : ℕ → ℕ → ℕ
 pairOf sender dgn = dgn * 256 + sender
-
--- byte `at` of a frame
-abbrev pub byteAt : ℕ → List ℕ → ℕ
-byteAt at bytes = getD bytes at 0
 
 -- What a frame means to the receiver: frame 0 of a message, a later frame by its number, or anything else.
 

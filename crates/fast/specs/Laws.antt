@@ -15,8 +15,9 @@ use Rattle.frame.specs.Standard.{announcementDgn, packetDgn}
 use Rattle.frame.specs.declared.Parts.{Parts}
 use Rattle.places.specs.Places.{placeCount}
 use Rattle.words.specs.declared.Found.the-variants.{At}
+use Rattle.frame.specs.Bytes.{byteAt}
 use Rattle.fast.specs.FastPacket.{frameNumberOf, sequenceOf, firstByteOf, greatestSequence, firstBytes}
-use Rattle.fast.specs.FastPacket.{laterBytes, longest, offsetOf, lastFrame, neededFirst, needed, pairOf, byteAt}
+use Rattle.fast.specs.FastPacket.{laterBytes, longest, offsetOf, lastFrame, neededFirst, needed, pairOf}
 use Rattle.fast.specs.FastPacket.{NewMessage, LaterFrame, begins, continues, meaningOf}
 use Rattle.fast.specs.Names.{mostNamed, mayBeNamed, isNamed}
 use Rattle.fast.specs.Receiver.{room, freePlace, isOpenBy, namesOf, keepsRules, placing, placeFor, nothingToDo}

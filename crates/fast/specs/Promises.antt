@@ -8,6 +8,7 @@ use Rattle.words.specs.Words.{if_then_else_, _<?_, _≤?_, _or_, Told, refused,
 use Rattle.words.specs.Lists.{filledTo}
 use Rattle.frame.specs.Frame.{frameBytes}
 use Rattle.frame.specs.Promises.{refusalOf}
+use Rattle.frame.specs.Standard.{bytesIn}
 use Rattle.places.specs.Places.{placeCount}
 use Rattle.fast.specs.FastPacket.{longest}
 use Rattle.fast.specs.Names.{mostNamed, isWellFormed}
@@ -122,11 +123,6 @@ splittingNumber Splitting.NoSuchFrame = 15
 
 pub record SplittingRefusal (answer : Splitting) (r : ℕ) : Type 0 where
   pub number : r ≡ splittingNumber answer
-
--- the eight bytes that a definition tells: zeros beside a refusal
-abbrev pub bytesIn : Told (List ℕ) → List ℕ
-bytesIn (gives bytes) = bytes
-bytesIn (refused n) = replicate frameBytes 0
 
 pub record SplitBy (told : Told (List ℕ)) (r : Split) : Type 0 where
   pub number : splittingNumber (r .answer) ≡ numberIn told

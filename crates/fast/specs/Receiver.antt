@@ -6,7 +6,7 @@ use Prim.Native.Nat.{ℕ, _+_, _*_}
 use lib.ListN.{length, take, drop, getD, set}
 use lib.Seq.{paste}
 use Rattle.words.specs.Words.{if_then_else_, _<?_, _≤?_, _=?_, _and_, Told, refused, gives}
-use Rattle.words.specs.Lists.{every, count, first}
+use Rattle.words.specs.Lists.{every, count, first, orElse}
 use Rattle.frame.specs.Standard.{greatestAddress}
 use Rattle.words.specs.declared.Found.{Found}
 use Rattle.words.specs.declared.Found.the-variants.{At, Nowhere}
@@ -120,10 +120,6 @@ placing r i p = holding r (set (r .places) i p)
 
 -- Frame 0: a pair that has a message open stays in its place, any other takes the lowest-numbered free one. The frame's
 -- bytes are kept there; a message of six bytes or fewer is handed over, and the place is free.
-
-abbrev pub orElse : Found → Found → Found
-orElse (At i) found = At i
-orElse Nowhere found = found
 
 unfoldable pub placeFor : ℕ → List Place → Found
 placeFor pair places = orElse (first (isOpenBy pair) places) (first isFree places)

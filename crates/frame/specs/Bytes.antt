@@ -14,6 +14,10 @@ unfoldable pub bytesOf : ℕ → ℕ → List ℕ
 bytesOf zero n = []
 bytesOf (suc count) n = n % 256 ∷ bytesOf count (n / 256)
 
+-- byte `at` of a frame
+abbrev pub byteAt : ℕ → List ℕ → ℕ
+byteAt at bytes = getD bytes at 0
+
 -- each element is a byte
 abbrev pub AreBytes : List ℕ → Type 0
 AreBytes bs = (k : ℕ) → getD bs k 0 < 256

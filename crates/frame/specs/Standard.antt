@@ -3,6 +3,7 @@
 use mathlib.Core.List.{List}
 use Prim.Native.Nat.{ℕ}
 use lib.ListN.{take, drop, replicate}
+use Rattle.words.specs.Words.{Told, refused, gives}
 use Rattle.frame.specs.Bytes.{numberOf, bytesOf}
 use Rattle.frame.specs.Frame.{frameBytes}
 
@@ -49,6 +50,11 @@ pub record Frame : Type 0 where
 -- Where nothing is to be sent: an identifier that no bus takes, since it has more than 29 bits, and zeros.
 abbrev pub noFrame : Frame
 noFrame = record { id = 0xFFFFFFFF; bytes = replicate frameBytes 0 }
+
+-- The eight bytes that a definition tells: zeros beside a refusal.
+abbrev pub bytesIn : Told (List ℕ) → List ℕ
+bytesIn (gives bytes) = bytes
+bytesIn (refused n) = replicate frameBytes 0
 
 -- A DGN as three bytes, low byte first, and read from three bytes of a frame, from number `at` on.
 abbrev pub dgnBytes : ℕ → List ℕ

@@ -12,12 +12,12 @@ use lib.ListN.{length}
 use Rattle.words.specs.Words.{if_then_else_, _≤?_, _=?_, _and_, Told, refused, gives}
 use Rattle.frame.specs.Identifier.{sourceOf, dgnOf, reservedOf, partsOf, identifiers, greatestDgn}
 use Rattle.frame.specs.Frame.{sourceAllowed, checkedOf, frameBytes}
-use Rattle.frame.specs.Standard.{announcementDgn, packetDgn}
+use Rattle.frame.specs.Standard.{announcementDgn, packetDgn, greatestAddress}
 use Rattle.frame.specs.declared.Parts.{Parts}
 use Rattle.words.proofs.Words.{both-true, by-test, not-flips, true-false}
-use Rattle.message.specs.LongMessage.{shortest, longest, packetsOf, toAll, byteAt, bytesTo, Meaning, other}
+use Rattle.frame.specs.Bytes.{byteAt}
+use Rattle.message.specs.LongMessage.{shortest, longest, packetsOf, toAll, bytesTo, Meaning, other}
 use Rattle.message.specs.LongMessage.{announcement, packet, announced, meant, meaningOf}
-use Rattle.message.specs.Receiver.{greatestSender}
 
 by-if : {A : Type 0} (P : A → Type 0) (b : Bool) (x y : A) → (b ≡ true → P x) → (b ≡ false → P y) → P (if b then x else y)
 by-if P true x y f g = f refl
@@ -39,7 +39,7 @@ checked-sound id size =
     (λ a. (refl, eqb-true size frameBytes (not-flips (size =? frameBytes) s), a)) (λ _. (omega arith, omega arith)))))
 
 -- a sender of an announcement is no higher than 253
-sender-low : (source dgn : ℕ) → source < 256 → dgn ≡ announcementDgn → sourceAllowed source dgn ≡ true → source ≤ greatestSender
+sender-low : (source dgn : ℕ) → source < 256 → dgn ≡ announcementDgn → sourceAllowed source dgn ≡ true → source ≤ greatestAddress
 unfolding sourceAllowed
 sender-low source dgn h e f =
     by-test (source =? 255)
@@ -53,11 +53,11 @@ abbrev pub Known : ℕ → List ℕ → Told Meaning → Type 0
 Known id bytes (refused n) = (2 < n) × (n < 8)
 Known id bytes (gives other) = Unit {0}
 Known id bytes (gives (announcement m)) =
-    (m .sender ≡ sourceOf id) × (m .sender ≤ greatestSender) × (shortest ≤ m .size) × (m .size ≤ longest)
+    (m .sender ≡ sourceOf id) × (m .sender ≤ greatestAddress) × (shortest ≤ m .size) × (m .size ≤ longest)
     × (m .dgn ≤ greatestDgn)
 Known id bytes (gives (packet p)) = (p .sender ≡ sourceOf id) × (length bytes ≡ frameBytes)
 
-announced-known : (id size count dgn : ℕ) (bytes : List ℕ) → sourceOf id ≤ greatestSender → Known id bytes (announced (sourceOf id) size count dgn)
+announced-known : (id size count dgn : ℕ) (bytes : List ℕ) → sourceOf id ≤ greatestAddress → Known id bytes (announced (sourceOf id) size count dgn)
 unfolding announced
 announced-known id size count dgn bytes h =
     by-if (Known id bytes) ((shortest ≤? size) and (size ≤? longest) and (count =? packetsOf size) and (dgn ≤? greatestDgn)) _ _

@@ -22,14 +22,16 @@ use Rattle.words.proofs.Tests.{tests}
 use Rattle.frame.proofs.Laws.{badBack, bad-back}
 use Rattle.words.specs.declared.Found.{Found}
 use Rattle.words.specs.declared.Found.the-variants.{At, Nowhere}
+use Rattle.frame.specs.Standard.{bytesIn}
+use Rattle.places.specs.Places.{placeCount}
 use Rattle.message.specs.LongMessage.{shortest, longest, packetBytes, packetsOf, needed, Meaning, other}
 use Rattle.message.specs.LongMessage.{announcement, PacketFrom, packet, meaningOf}
-use Rattle.message.specs.Receiver.{placeCount, room, freePlace, isOpenBy, keepsRules, Outcome, nothingToDo}
+use Rattle.message.specs.Receiver.{room, freePlace, isOpenBy, keepsRules, Outcome, nothingToDo}
 use Rattle.message.specs.Receiver.{opened, stored, finished, After, leaves, placeFor, openedAt, hearsAnnouncement}
 use Rattle.message.specs.Receiver.{keptAt, packetAt, carries, byMeaning, heard, pausedPlaces, pausedAnswer}
 use Rattle.message.specs.Receiver as Receiver
 use Rattle.message.specs.Splitter.{mostPackets, splits, numbered}
-use Rattle.message.specs.Promises.{toldAnswer, toldPausing, announcingNumber, splittingNumber, bytesIn}
+use Rattle.message.specs.Promises.{toldAnswer, toldPausing, announcingNumber, splittingNumber}
 use Rattle.message.specs.Laws.{ToldAnswerSame, ToldPausingSame, AnnouncingNumberSame, SplittingNumberSame}
 use Rattle.message.specs.Laws.{NewOnly, HearOnly, PauseOnly, MessageOnly, AnnouncementOnly, PacketOnly}
 use Rattle.message.specs.Laws.{AnswerRefusalOnly, PausingRefusalOnly, UnsplittableRefusalOnly}

@@ -17,8 +17,9 @@ use Rattle.words.proofs.Words.{both-true, by-test}
 use Rattle.words.proofs.Lists.{found-at, every-at}
 use Rattle.words.specs.declared.Found.{Found}
 use Rattle.words.specs.declared.Found.the-variants.{At, Nowhere}
+use Rattle.frame.specs.Standard.{greatestAddress}
 use Rattle.message.specs.LongMessage.{shortest, longest, packetsOf, idleLimit, meant, meaningOf}
-use Rattle.message.specs.Receiver.{greatestSender, room, freePlace, isFree, isOpenBy, placeKeepsRules}
+use Rattle.message.specs.Receiver.{room, freePlace, isFree, isOpenBy, placeKeepsRules}
 use Rattle.message.specs.Receiver.{keepsRules, Outcome, stored, finished, wholeAt, After, leaves}
 use Rattle.message.specs.Receiver.{placeFor, openedAt, hearsAnnouncement, keptAt, expecting, advanced, packetAt}
 use Rattle.message.specs.Receiver.{carries, byMeaning, heard}
@@ -105,7 +106,7 @@ module _ (sender number : ℕ) (bytes : List ℕ) (ps : List Place) (s : List �
 
 -- the rules of an open place, one by one
 pub record OpenRules (p : Place) : Type 0 where
-  pub named : p .sender ≤ greatestSender
+  pub named : p .sender ≤ greatestAddress
   pub long : shortest ≤ p .length
   pub short : p .length ≤ longest
   pub about : p .dgn ≤ greatestDgn
@@ -116,7 +117,7 @@ pub record OpenRules (p : Place) : Type 0 where
 pub open-rules : (p : Place) → isFree p ≡ false → placeKeepsRules p ≡ true → OpenRules p
 unfolding placeKeepsRules
 open-rules p f e =
-    let r₁ = both-true (p .sender ≤? greatestSender) _ (rw f at e) in
+    let r₁ = both-true (p .sender ≤? greatestAddress) _ (rw f at e) in
     let r₂ = both-true (shortest ≤? p .length) _ (r₁ .1) in
     let r₃ = both-true (p .length ≤? longest) _ (r₂ .1) in
     let r₄ = both-true (p .dgn ≤? greatestDgn) _ (r₃ .1) in

@@ -8,12 +8,12 @@ use Prim.Native.Nat.{ℕ, _≤_}
 use lib.ListN.{length}
 use Rattle.words.specs.Words.{if_then_else_, _=?_, Told, refused, gives}
 use Rattle.frame.specs.Standard.{Frame}
-use Rattle.places.specs.Places.{Place as Seat, Out, full, said}
+use Rattle.places.specs.Places.{Place as Seat, Out, full, said, placeCount}
 use Rattle.places.specs.Layout.{view}
 use Rattle.places.specs.Calls.{Calls}
 use Rattle.message.specs.OneSender.{Open, Tells, nothingToDo, opened, stored, finished, longMessages}
 use Rattle.message.specs.Receiver as Receiver
-use Rattle.message.specs.Receiver.{Outcome, placeCount, room, layout, keepsRules}
+use Rattle.message.specs.Receiver.{Outcome, room, layout, keepsRules}
 use Rattle.message.specs.Promises.{toldAnswer, toldPausing, New, Hear, Message, Pause}
 use Rattle.message.specs.declared.Receiver as Receivers
 use Rattle.message.specs.declared.Answer.{Answer}

@@ -12,9 +12,10 @@ use Rattle.words.specs.Lists.{first}
 use Rattle.frame.specs.Identifier.{greatestDgn}
 use Rattle.frame.specs.Frame.{checkedOf}
 use Rattle.words.specs.declared.Found.the-variants.{At}
+use Rattle.places.specs.Places.{placeCount}
 use Rattle.message.specs.LongMessage.{shortest, longest, packetBytes, packetsOf, needed, PacketFrom, packet}
 use Rattle.message.specs.LongMessage.{meaningOf}
-use Rattle.message.specs.Receiver.{placeCount, room, freePlace, isOpenBy, keepsRules, heard}
+use Rattle.message.specs.Receiver.{room, freePlace, isOpenBy, keepsRules, heard}
 use Rattle.message.specs.Splitter.{announcementBytes, packetBytesOf}
 use Rattle.message.specs.Promises.{toldAnswer, toldPausing, announcingNumber, splittingNumber, New, Hear, Pause}
 use Rattle.message.specs.Promises.{Message, Announcement, Packet, AnswerRefusal, PausingRefusal}

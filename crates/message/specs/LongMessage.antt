@@ -4,7 +4,7 @@ use mathlib.Core.List.{List}
 use Prim.Native.Nat.{ℕ, _+_, _-_, _*_, _/_, min}
 use lib.ListN.{length, take, drop, getD}
 use Rattle.words.specs.Words.{if_then_else_, _≤?_, _=?_, _and_, Told, refused, gives, given_then_}
-use Rattle.frame.specs.Bytes.{numberOf}
+use Rattle.frame.specs.Bytes.{numberOf, byteAt}
 use Rattle.frame.specs.Identifier.{greatestDgn}
 use Rattle.frame.specs.Frame.{checkedOf}
 use Rattle.frame.specs.Standard.{announcementDgn, packetDgn}
@@ -32,10 +32,7 @@ idleLimit = 750
 abbrev pub toAll : ℕ
 toAll = 32
 
--- byte `at` of a frame, and the number in its bytes `from` to `to`, low byte first
-abbrev pub byteAt : ℕ → List ℕ → ℕ
-byteAt at bytes = getD bytes at 0
-
+-- the number in the bytes `from` to `to` of a frame, low byte first
 unfoldable pub bytesTo : ℕ → ℕ → List ℕ → ℕ
 bytesTo from to bytes = numberOf (take (to + 1 - from) (drop from bytes))
 

@@ -7,8 +7,10 @@ use lib.ListN.{length, take, drop, replicate}
 use Rattle.words.specs.Words.{if_then_else_, _<?_, _≤?_, _or_, Told, refused, gives, numberIn}
 use Rattle.frame.specs.Frame.{frameBytes}
 use Rattle.frame.specs.Promises.{refusalOf}
+use Rattle.frame.specs.Standard.{bytesIn}
+use Rattle.places.specs.Places.{placeCount}
 use Rattle.message.specs.LongMessage.{longest}
-use Rattle.message.specs.Receiver.{placeCount, room, freePlace, Outcome, nothingToDo, opened, stored, finished}
+use Rattle.message.specs.Receiver.{room, freePlace, Outcome, nothingToDo, opened, stored, finished}
 use Rattle.message.specs.Receiver.{After, heard, pausedPlaces, pausedAnswer}
 use Rattle.message.specs.Splitter.{announcementOf, packetOf}
 use Rattle.message.specs.declared.Place.{Place}
@@ -107,11 +109,6 @@ pub record UnsplittableRefusal (why : Unsplittable) (r : ℕ) : Type 0 where
 abbrev pub announcingNumber : Announcing → ℕ
 announcingNumber Announcing.Bytes = 0
 announcingNumber (Announcing.Refused why) = refusalWhy why
-
--- the eight bytes that a definition tells: zeros beside a refusal
-abbrev pub bytesIn : Told (List ℕ) → List ℕ
-bytesIn (gives bytes) = bytes
-bytesIn (refused n) = replicate frameBytes 0
 
 pub record AnnouncingRefusal (answer : Announcing) (r : ℕ) : Type 0 where
   pub number : r ≡ announcingNumber answer

@@ -6,26 +6,21 @@ use Prim.Native.Nat.{ℕ, _+_, _-_, _*_}
 use lib.ListN.{length, take, drop, getD, set}
 use lib.Seq.{paste}
 use Rattle.words.specs.Words.{if_then_else_, _<?_, _≤?_, _=?_, _and_, Told, refused, gives}
-use Rattle.words.specs.Lists.{every, count, first}
+use Rattle.words.specs.Lists.{every, count, first, orElse}
 use Rattle.frame.specs.Identifier.{greatestDgn}
 use Rattle.words.specs.declared.Found.{Found}
 use Rattle.words.specs.declared.Found.the-variants.{At, Nowhere}
+use Rattle.frame.specs.Standard.{greatestAddress}
 use Rattle.places.specs.Layout.{Layout, openBy, oneEach}
+use Rattle.places.specs.Places.{placeCount}
 use Rattle.message.specs.OneSender.{Open}
 use Rattle.message.specs.LongMessage.{shortest, longest, packetBytes, packetsOf, idleLimit, needed, Meaning}
 use Rattle.message.specs.LongMessage.{other, announcement, packet, meaningOf}
 use Rattle.message.specs.declared.Place.{Place}
 
 -- eight places own the storage's first bytes, each as many as the longest message has
-abbrev pub placeCount : ℕ
-placeCount = 8
-
 abbrev pub room : ℕ
 room = placeCount * longest
-
--- sources that an open place may have
-abbrev pub greatestSender : ℕ
-greatestSender = 253
 
 -- A place is free where its length is 0, which no message has; closing sets zeros.
 
@@ -70,7 +65,7 @@ isZero p = (p .sender =? 0) and (p .dgn =? 0) and (p .expected =? 0) and (p .idl
 unfoldable pub placeKeepsRules : Place → Bool
 placeKeepsRules p =
     if isFree p then isZero p
-    else (p .sender ≤? greatestSender) and (shortest ≤? p .length) and (p .length ≤? longest)
+    else (p .sender ≤? greatestAddress) and (shortest ≤? p .length) and (p .length ≤? longest)
     and (p .dgn ≤? greatestDgn) and (p .idle ≤? idleLimit)
     and (1 ≤? p .expected) and (p .expected ≤? packetsOf (p .length))
 
@@ -105,10 +100,6 @@ abbrev pub leaves : List Place → List ℕ → Told Outcome → After
 leaves places storage answer = record { places = places; storage = storage; answer = answer }
 
 -- An announcement: who has a message open stays in its place, anyone else takes the lowest-numbered free one.
-
-abbrev pub orElse : Found → Found → Found
-orElse (At i) found = At i
-orElse Nowhere found = found
 
 unfoldable pub placeFor : ℕ → List Place → Found
 placeFor sender places = orElse (first (isOpenBy sender) places) (first isFree places)

@@ -30,6 +30,11 @@ firstFrom f i (p ∷ ps) = if f p then At i else firstFrom f (suc i) ps
 abbrev pub first : {P : Type 0} → (P → Bool) → List P → Found
 first f ps = firstFrom f 0 ps
 
+-- what the one search found, or else the other
+abbrev pub orElse : Found → Found → Found
+orElse (At i) found = At i
+orElse Nowhere found = found
+
 -- no two are alike: each is compared with all that come after it
 abbrev pub noTwo : {P : Type 0} → (P → P → Bool) → List P → Bool
 noTwo alike [] = true

@@ -4,7 +4,8 @@ use Prim.Native.Nat.{_%_}
 use native.Mathlib.Omega.{arith}
 use borrow.Author.Needs.{needs}
 use Rattle.words.proofs.Tests.{tests}
-use Rattle.fast.specs.FastPacket.{carried, frameNumberOf, byteAt}
+use Rattle.frame.specs.Bytes.{byteAt}
+use Rattle.fast.specs.FastPacket.{carried, frameNumberOf}
 use Rattle.fast.proofs.meaning.meaning_of.Statement.{statement}
 use Rattle.fast.proofs.meaning.meaning_of.Tie as tie
 
