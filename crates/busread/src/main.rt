@@ -10,7 +10,6 @@ ghost use Rattle.busread.specs.Reader.{outRoom, Ready};
 mod reader;
 mod report;
 mod step;
-mod text;
 
 use libc::STDIN_FILENO;
 use libc::STDOUT_FILENO;

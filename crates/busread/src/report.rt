@@ -4,7 +4,6 @@ ghost use Prim.Native.Nat.{_+_, _≤_, _<_, _^_};
 ghost use lib.ListN.{length};
 ghost use Rattle.busread.specs.Text.{Wrote};
 ghost use Rattle.busread.specs.Report.{keyed, headText, refusalText, messageText, className, placeText, fieldText, closingText};
-use crate::text;
 use catalogue::Class;
 use catalogue::Field;
 use catalogue::Row;
@@ -21,9 +20,9 @@ pub fn put_head(out: &mut [u8], at: usize, number: u32, source: u8, dgn: u32) ->
     requires { ⌜ at + 32 ≤ length (now out) ⌝ }
     ensures { λ r. ⌜ Wrote (now (out .entry)) at (headText number source dgn) (now (out .exit)) r × (r ≤ at + 32) ⌝ }
 {
-    let number_end = text::put_decimal(out, at, b"frame=", number);
-    let source_end = text::put_hex(out, number_end, b" sa=", source as u32, 2);
-    text::put_hex(out, source_end, b" dgn=", dgn, 5)
+    let number_end = text::put_decimal(out, at, b"frame=", number as u64);
+    let source_end = text::put_hex(out, number_end, b" sa=", source as u64, 2);
+    text::put_hex(out, source_end, b" dgn=", dgn as u64, 5)
 }
 
 // A refused line.
@@ -31,8 +30,8 @@ pub fn put_refusal(out: &mut [u8], at: usize, number: u32, refusal: u32) -> usiz
     requires { ⌜ at + 64 ≤ length (now out) ⌝ }
     ensures { λ r. ⌜ Wrote (now (out .entry)) at (refusalText number refusal) (now (out .exit)) r × (r ≤ at + 64) ⌝ }
 {
-    let number_end = text::put_decimal(out, at, b"frame=", number);
-    let refusal_end = text::put_decimal(out, number_end, b" refusal=", refusal);
+    let number_end = text::put_decimal(out, at, b"frame=", number as u64);
+    let refusal_end = text::put_decimal(out, number_end, b" refusal=", refusal as u64);
     text::put(out, refusal_end, b"\n")
 }
 
@@ -49,7 +48,7 @@ pub fn put_message(
     ensures { λ r. ⌜ Wrote (now (out .entry)) at (messageText number source dgn (now (bytes .entry))) (now (out .exit)) r × (r ≤ at + 4096) ⌝ }
 {
     let head_end = put_head(out, at, number, source, dgn);
-    let length_end = text::put_decimal(out, head_end, b" length=", bytes.len() as u32);
+    let length_end = text::put_decimal(out, head_end, b" length=", bytes.len() as u64);
     let bytes_end = text::put_bytes(out, length_end, b" bytes=", bytes);
     text::put(out, bytes_end, b"\n")
 }
@@ -76,7 +75,7 @@ pub fn put_field(out: &mut [u8], at: usize, head: &[u8], row: Row, field: Field)
     let place_end = put_place(out, head_end, row);
     let class = field.class;
     let class_end = put_class(out, place_end, class);
-    let raw_end = text::put_decimal(out, class_end, b" raw=", field.code as u32);
+    let raw_end = text::put_decimal(out, class_end, b" raw=", field.code);
     text::put(out, raw_end, b"\n")
 }
 
@@ -85,8 +84,8 @@ fn put_place(out: &mut [u8], at: usize, row: Row) -> usize
     requires { ⌜ at + 32 ≤ length (now out) ⌝ }
     ensures { λ r. ⌜ Wrote (now (out .entry)) at (placeText row) (now (out .exit)) r × (r ≤ at + 32) ⌝ }
 {
-    let bit_end = text::put_decimal(out, at, b" bit=", row.first as u32);
-    text::put_decimal(out, bit_end, b" width=", row.width as u32)
+    let bit_end = text::put_decimal(out, at, b" bit=", row.first as u64);
+    text::put_decimal(out, bit_end, b" width=", row.width as u64)
 }
 
 // The closing line.
@@ -94,8 +93,8 @@ pub fn put_closing(out: &mut [u8], at: usize, counts: Counts) -> usize
     requires { ⌜ at + 128 ≤ length (now out) ⌝ }
     ensures { λ r. ⌜ Wrote (now (out .entry)) at (closingText counts) (now (out .exit)) r ⌝ }
 {
-    let frames_end = text::put_decimal(out, at, b"frames=", counts.frames);
-    let refused_end = text::put_decimal(out, frames_end, b" refused=", counts.refused);
-    let messages_end = text::put_decimal(out, refused_end, b" messages=", counts.messages);
+    let frames_end = text::put_decimal(out, at, b"frames=", counts.frames as u64);
+    let refused_end = text::put_decimal(out, frames_end, b" refused=", counts.refused as u64);
+    let messages_end = text::put_decimal(out, refused_end, b" messages=", counts.messages as u64);
     text::put(out, messages_end, b"\n")
 }

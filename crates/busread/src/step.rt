@@ -112,7 +112,7 @@ fn put_fields(
     let dgn = id / 256 % 131072;
     let content = frame::number_of(bytes);
     let span = catalogue::rows_in(table, dgn);
-    let mut head = [0u8; 32];
+    let mut head = [0u8; 48];
     let size = report::put_head(&mut head, 0, number, source, dgn);
     let mut next = at;
     let mut i: usize = 0;
