@@ -6,11 +6,13 @@ use Prim.Native.Nat.{ℕ, zero, suc, _+_, _-_, _≤_, _<_}
 use native.Mathlib.Omega.{arith}
 use borrow.Author.Tests.{ltb-true, ltb-false, leb-true, leb-false, eqb-true, eqb-false, lt-ltb, le-ltb, eq-eqb, ne-eqb}
 use lib.ListN.{length, take, drop, length-append, length-drop}
-use lib.Seq.{take-paste, length-paste, take-all, take-nil, drop-drop}
+use lib.Seq.{take-all, take-nil, drop-drop}
 use Rattle.words.specs.Words.{_<?_, _≤?_, _=?_}
 use Rattle.words.proofs.Words.{by-test}
 use Rattle.capture.specs.Stream.{newline, longestLine, mostLines, linesFrom, lineIn, Piece, whole, tooLong, pieceOf, linesOf}
-use Rattle.capture.specs.Cutter.{fresh, kept, isTooLong, carriedOn, closed, lineAt, hasNewline, cuttingOf, cutterAfter, nextAfter, endingOf}
+use Rattle.text.specs.Pieces.{placed}
+use Rattle.text.proofs.Pieces.{placed-head, length-placed}
+use Rattle.capture.specs.Cutter.{fresh, isTooLong, carriedOn, closed, lineAt, hasNewline, cuttingOf, cutterAfter, nextAfter, endingOf}
 use Rattle.capture.specs.Promises.{Next}
 use Rattle.capture.specs.Feeding.{joined, Yield, brings, used, over, yieldIn, yieldOf, lastPieces, Place, between, inside, Fed, a-piece, a-block-used, all-lines-read, a-block, the-end}
 use Rattle.capture.specs.Laws.{BlocksDoNotMatter, NextAdvances, WithinBlock, CarriedFits, LastFits, EveryStreamIsFed}
@@ -85,18 +87,17 @@ is-short c begun part h t =
 
 -- and a part put behind it goes on
 kept-on : (c : Cutter) (begun part : List ℕ) → Holds c begun → c .length + length part ≤ longestLine
-    → take (c .length + length part) (kept (c .carry) (c .length) part) ≡ begun ++ part
+    → take (c .length + length part) (placed (c .carry) (c .length) part) ≡ begun ++ part
 kept-on c begun part h t =
     let s = is-short c begun part h t in
     let r = h .room in
-    take-paste (c .carry) (c .length) part (length part) (omega arith) (omega arith)
-    ∙ rw (s .1, take-all (length part) part (omega arith))
+    placed-head (c .carry) part (c .length) (omega arith) ∙ rw (s .1)
 
 kept-room : (c : Cutter) (begun part : List ℕ) → Holds c begun → c .length + length part ≤ longestLine
-    → length (kept (c .carry) (c .length) part) ≡ longestLine
+    → length (placed (c .carry) (c .length) part) ≡ longestLine
 kept-room c begun part h t =
     let r = h .room in
-    length-paste (c .carry) (c .length) part (length part) (omega arith) (omega arith) ∙ r
+    length-placed (c .carry) part (c .length) (omega arith) ∙ r
 
 holds-more : (c : Cutter) (begun part : List ℕ) → Holds c begun → Holds (carriedOn c part) (begun ++ part)
 unfolding carriedOn isTooLong

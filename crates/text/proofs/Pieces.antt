@@ -22,7 +22,7 @@ use Rattle.text.proofs.Digits.{length-digits}
 head-length : (d s : List ℕ) (at : ℕ) → at ≤ length d → length (take at d ++ s) ≡ at + length s
 head-length d s at h = rw (length-append, length-take-le at d h)
 
-placed-head : (d s : List ℕ) (at : ℕ) → at ≤ length d → take (at + length s) (placed d at s) ≡ take at d ++ s
+pub placed-head : (d s : List ℕ) (at : ℕ) → at ≤ length d → take (at + length s) (placed d at s) ≡ take at d ++ s
 placed-head d s at h = take-at (take at d ++ s) (drop (at + length s) d) (at + length s) (head-length d s at h)
 
 placed-rest : (d s : List ℕ) (at : ℕ) → at ≤ length d → drop (at + length s) (placed d at s) ≡ drop (at + length s) d
@@ -137,14 +137,19 @@ keyed-none at size key value s h = put-none at (length key + size) (key ++ value
 
 -- What fits is written, and texts written one behind the other are one text.
 
-pub fits-wrote : {before after word : List ℕ} {at r : ℕ} → Put before at word r after → at + length word ≤ length before → Wrote before at word after r
+pub put-placed : {before after word : List ℕ} {at r : ℕ} → Put before at word r after → at + length word ≤ length before
+    → (after ≡ placed before at word) × (r ≡ at + length word)
 unfolding putIn endOf
-fits-wrote {before} {after} {word} {at} {r} p h =
+put-placed {before} {after} {word} {at} p h =
     let t = le-leb (at + length word) (length before) h in
-    let a : after ≡ placed before at word = p .bytes ∙ rw t in
-    let e : r ≡ at + length word = p .behind ∙ rw t in
-    let l : length after ≡ length before = ap length a ∙ length-placed before word at h in
-    record { next = e; written = rw (e, a) (placed-head before word at (omega arith)); fits = omega arith; room = l }
+    (p .bytes ∙ rw t, p .behind ∙ rw t)
+
+pub fits-wrote : {before after word : List ℕ} {at r : ℕ} → Put before at word r after → at + length word ≤ length before
+    → Wrote before at word after r
+fits-wrote {before} {after} {word} {at} {r} p h =
+    let w = put-placed p h in
+    let l : length after ≡ length before = ap length (w .0) ∙ length-placed before word at h in
+    record { next = w .1; written = rw (w .1, w .0) (placed-head before word at (omega arith)); fits = omega (arith, w .1); room = l }
 
 pub nothing : (d : List ℕ) (at : ℕ) → at ≤ length d → Wrote d at [] d at
 nothing d at h = record { next = omega arith; written = sym (simp append-nil); fits = h; room = refl }
