@@ -66,7 +66,7 @@ pub next-only : NextOnly
 next-only block at c r s p q =
     let a : r .answer ≡ s .answer = p .answer ∙ sym (q .answer) in
     let b : r .cutter ≡ s .cutter = p .cutter ∙ sym (q .cutter) in
-    let d : r .next ≡ s .next = p .next ∙ sym (q .next) in
+    let d : r .«read_to» ≡ s .«read_to» = p .read-to ∙ sym (q .read-to) in
     rw (a, b, d)
 
 pub last-only : LastOnly

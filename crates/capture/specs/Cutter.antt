@@ -60,8 +60,8 @@ cutterAfter c rest =
     if length rest =? 0 then c else
     carriedOn c rest
 
-unfoldable pub nextAfter : Cutter → ℕ → List ℕ → ℕ
-nextAfter c at rest =
+unfoldable pub readTo : Cutter → ℕ → List ℕ → ℕ
+readTo c at rest =
     if mostLines ≤? c .lines then at else
     if hasNewline rest then at + length (lineIn rest) + 1 else
     at + length rest

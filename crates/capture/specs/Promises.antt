@@ -8,7 +8,7 @@ use Rattle.words.specs.Words.{Told, refused, gives, numberIn}
 use Rattle.words.specs.Lists.{filledTo}
 use Rattle.frame.specs.Frame.{frameBytes}
 use Rattle.capture.specs.Line.{Frame, lineOf, lineRead, longestSound}
-use Rattle.capture.specs.Cutter.{fresh, cuttingOf, cutterAfter, nextAfter, endingOf}
+use Rattle.capture.specs.Cutter.{fresh, cuttingOf, cutterAfter, readTo, endingOf}
 use Rattle.capture.specs.declared.Reading.{Reading}
 use Rattle.capture.specs.declared.Reading.the-variants as Reading
 use Rattle.capture.specs.declared.Line.{Line}
@@ -61,7 +61,7 @@ pub record New (r : Cutter) : Type 0 where
 pub record Next (block : List ℕ) (at : ℕ) (c : Cutter) (r : Cut) : Type 0 where
   pub answer : r .answer ≡ cuttingOf c at (drop at block)
   pub cutter : r .cutter ≡ cutterAfter c (drop at block)
-  pub next : r .next ≡ nextAfter c at (drop at block)
+  pub read-to : r .«read_to» ≡ readTo c at (drop at block)
 
 -- Cutter::last
 

@@ -60,11 +60,11 @@ pub enum Cutting {
     AllRead,
 }
 
-// The cutter afterwards, the answer, and the position in the block at which to go on.
+// The cutter afterwards, the answer, and the position up to which the block was read, at which the next call goes on.
 pub struct Cut {
     pub cutter: Cutter,
     pub answer: Cutting,
-    pub next: usize,
+    pub read_to: usize,
 }
 
 // What the end of the stream ends.
@@ -152,14 +152,14 @@ impl Cutter {
             return Cut {
                 cutter: self,
                 answer: Cutting::AllRead,
-                next: at,
+                read_to: at,
             };
         }
         if block.len() <= at {
             return Cut {
                 cutter: self,
                 answer: Cutting::BlockUsed,
-                next: at,
+                read_to: at,
             };
         }
         let end = blocks::newline(block, at);
@@ -167,13 +167,13 @@ impl Cutter {
             return Cut {
                 cutter: blocks::carry_on(self, &block[at..]),
                 answer: Cutting::BlockUsed,
-                next: end,
+                read_to: end,
             };
         }
         Cut {
             cutter: blocks::close(self, &block[at..end]),
             answer: blocks::line(self.length, at, end),
-            next: end + 1,
+            read_to: end + 1,
         }
     }
 
