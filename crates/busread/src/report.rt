@@ -1,8 +1,8 @@
 // The lines of the report, put into lent bytes behind what stands there.
 ghost use mathlib.Core.Path.{_≡_};
-ghost use Prim.Native.Nat.{_+_, _≤_, _<_, _^_};
+ghost use Prim.Native.Nat.{_+_, _≤_};
 ghost use lib.ListN.{length};
-ghost use Rattle.busread.specs.Text.{Wrote};
+ghost use Rattle.text.specs.Pieces.{Wrote};
 ghost use Rattle.busread.specs.Report.{keyed, headText, refusalText, messageText, className, placeText, fieldText, closingText};
 use catalogue::Class;
 use catalogue::Field;
@@ -17,8 +17,8 @@ pub struct Counts {
 
 // What a frame's lines begin with.
 pub fn put_head(out: &mut [u8], at: usize, number: u32, source: u8, dgn: u32) -> usize
-    requires { ⌜ at + 32 ≤ length (now out) ⌝ }
-    ensures { λ r. ⌜ Wrote (now (out .entry)) at (headText number source dgn) (now (out .exit)) r × (r ≤ at + 32) ⌝ }
+    requires { ⌜ at + 48 ≤ length (now out) ⌝ }
+    ensures { λ r. ⌜ Wrote (now (out .entry)) at (headText number source dgn) (now (out .exit)) r × (r ≤ at + 48) ⌝ }
 {
     let number_end = text::put_decimal(out, at, b"frame=", number as u64);
     let source_end = text::put_hex(out, number_end, b" sa=", source as u64, 2);
@@ -68,8 +68,8 @@ fn put_class(out: &mut [u8], at: usize, class: Class) -> usize
 
 // A field of a catalogued frame, behind the head of its frame.
 pub fn put_field(out: &mut [u8], at: usize, head: &[u8], row: Row, field: Field) -> usize
-    requires { ⌜ (at + 128 ≤ length (now out)) × (length (now head) ≤ 32) × (field .code < 2 ^ 32) ⌝ }
-    ensures { λ r. ⌜ Wrote (now (out .entry)) at (fieldText (now (head .entry)) row field) (now (out .exit)) r × (r ≤ at + 128) ⌝ }
+    requires { ⌜ (at + 160 ≤ length (now out)) × (length (now head) ≤ 48) ⌝ }
+    ensures { λ r. ⌜ Wrote (now (out .entry)) at (fieldText (now (head .entry)) row field) (now (out .exit)) r × (r ≤ at + 160) ⌝ }
 {
     let head_end = text::put(out, at, head);
     let place_end = put_place(out, head_end, row);
@@ -81,8 +81,8 @@ pub fn put_field(out: &mut [u8], at: usize, head: &[u8], row: Row, field: Field)
 
 // Where a field lies.
 fn put_place(out: &mut [u8], at: usize, row: Row) -> usize
-    requires { ⌜ at + 32 ≤ length (now out) ⌝ }
-    ensures { λ r. ⌜ Wrote (now (out .entry)) at (placeText row) (now (out .exit)) r × (r ≤ at + 32) ⌝ }
+    requires { ⌜ at + 64 ≤ length (now out) ⌝ }
+    ensures { λ r. ⌜ Wrote (now (out .entry)) at (placeText row) (now (out .exit)) r × (r ≤ at + 64) ⌝ }
 {
     let bit_end = text::put_decimal(out, at, b" bit=", row.first as u64);
     text::put_decimal(out, bit_end, b" width=", row.width as u64)

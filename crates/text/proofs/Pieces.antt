@@ -3,7 +3,7 @@
 use mathlib.Core.Path.{_≡_, refl, sym, ap, _∙_}
 use mathlib.Core.Bool.{Bool, true, false, not}
 use mathlib.Core.List.{List, [], _∷_, _++_, append-assoc, append-nil}
-use Prim.Native.Nat.{ℕ, zero, suc, _+_, _-_, _/_, _%_, _≤_, _<_}
+use Prim.Native.Nat.{ℕ, zero, suc, _+_, _*_, _-_, _/_, _%_, _^_, _≤_, _<_}
 use native.Mathlib.Nat.{add-assoc, add-zero}
 use native.Mathlib.Numerals.{add-one}
 use native.Mathlib.Omega.{arith}
@@ -12,10 +12,10 @@ use lib.ListN.{length, getD, take, drop, set, length-append, length-set, length-
 use lib.Seq.{paste, paste-zero, paste-suc, take-set-le, set-split, drop-at, take-at, take-all, take-length, drop-drop, length-take-le}
 use Rattle.words.specs.Words.{_≤?_}
 use Rattle.words.proofs.Words.{by-test}
-use Rattle.text.specs.Text.{glyph, digits}
+use Rattle.text.specs.Text.{glyph, digits, decimalWidth, decimal, bytePairs}
 use Rattle.text.specs.Pieces.{placed, putIn, endOf, Wrote}
-use Rattle.text.specs.Promises.{Put}
-use Rattle.text.proofs.Digits.{length-digits}
+use Rattle.text.specs.Promises.{Put, PutDecimal, PutHex, PutBytes}
+use Rattle.text.proofs.Digits.{length-digits, length-decimal, length-pairs, width-most}
 
 -- what a piece that was placed leaves before and behind it
 
@@ -150,6 +150,29 @@ fits-wrote {before} {after} {word} {at} {r} p h =
     let w = put-placed p h in
     let l : length after ≡ length before = ap length (w .0) ∙ length-placed before word at h in
     record { next = w .1; written = rw (w .1, w .0) (placed-head before word at (omega arith)); fits = omega (arith, w .1); room = l }
+
+pub wrote-decimal : {before after : List ℕ} {at r : ℕ} (key : List ℕ) (n : ℕ) → PutDecimal before at key n r after → n < 2 ^ 64 → at + length key + 20 ≤ length before
+    → Wrote before at (key ++ decimal n) after r × (r ≤ at + length key + 20)
+wrote-decimal key n p h l =
+    let w : decimalWidth n ≤ 20 = width-most n 20 (omega arith) (omega arith) in
+    let s : length (key ++ decimal n) ≡ length key + decimalWidth n = rw (length-append, length-decimal n) in
+    let t = fits-wrote p (omega arith) in
+    (t, omega (arith, t .next))
+
+pub wrote-hex : {before after : List ℕ} {at r : ℕ} (key : List ℕ) (n count : ℕ) → PutHex before at key n count r after → at + length key + count ≤ length before
+    → Wrote before at (key ++ digits 16 count n) after r × (r ≡ at + length key + count)
+wrote-hex key n count p l =
+    let s : length (key ++ digits 16 count n) ≡ length key + count = rw (length-append, length-digits 16 count n) in
+    let t = fits-wrote p (omega arith) in
+    (t, omega (arith, t .next))
+
+pub wrote-bytes : {before after : List ℕ} {at r : ℕ} (key bytes : List ℕ) → PutBytes before at key bytes r after
+    → at + length key + 2 * length bytes ≤ length before
+    → Wrote before at (key ++ bytePairs bytes) after r × (r ≡ at + length key + 2 * length bytes)
+wrote-bytes key bytes p l =
+    let s : length (key ++ bytePairs bytes) ≡ length key + 2 * length bytes = rw (length-append, length-pairs bytes) in
+    let t = fits-wrote p (omega arith) in
+    (t, omega (arith, t .next))
 
 pub nothing : (d : List ℕ) (at : ℕ) → at ≤ length d → Wrote d at [] d at
 nothing d at h = record { next = omega arith; written = sym (simp append-nil); fits = h; room = refl }
