@@ -158,7 +158,13 @@ fn line(
 }
 
 // Passes over a line of more than 80 bytes.
-fn long_line(reader: Reader, cutter: Cutter, read_to: usize, out: &mut [u8], written_to: usize) -> Run
+fn long_line(
+    reader: Reader,
+    cutter: Cutter,
+    read_to: usize,
+    out: &mut [u8],
+    written_to: usize,
+) -> Run
     requires { ⌜ (outRoom ≤ length (now out)) × («written_to» ≤ half) × OneMore (reader .counts) ⌝ }
     ensures { λ r. ⌜ WentPast reader cutter «read_to» (now (out .entry)) «written_to» r (now (out .exit)) ⌝ }
 {

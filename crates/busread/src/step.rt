@@ -174,7 +174,15 @@ fn hear(
     let bytes = line.bytes;
     let heard = quiet.hear(storage, line.id, &bytes);
     let answer = heard.answer;
-    let end = put_answer(out, written_to, counts.frames + 1, line, answer, storage, table);
+    let end = put_answer(
+        out,
+        written_to,
+        counts.frames + 1,
+        line,
+        answer,
+        storage,
+        table,
+    );
     let after = heard.receiver;
     Step {
         receiver: after,
