@@ -2,21 +2,21 @@
 use crate::arguments;
 use crate::notes;
 use crate::say;
-use crate::words;
+use crate::typing;
 use std::num::wrapping_add_usize;
 
 // The parts, in the order of the lists below.
 pub fn part(notes: &[u64]) -> usize {
-    words::part(
+    typing::part(
         notes,
         b"frame message fast catalogue claim nodes command faults capture exercise",
     )
 }
 
-// Which call of a part the line asks for, counted from 0, or `words::NONE`. Its arguments are read and noted; where
+// Which call of a part the line asks for, counted from 0, or `typing::NONE`. Its arguments are read and noted; where
 // they do not fit, that is said, and there is nothing more to answer.
 pub fn asked(notes: &mut [u64], part: usize) -> usize {
-    let n = words::find(
+    let n = typing::find(
         notes,
         b"take_apart form check destination_of catalogue_form number_of bytes_of dgn_bytes dgn_of |\
           Receiver::new Receiver::hear Receiver::pause message announcement packet |\
@@ -52,7 +52,7 @@ pub fn asked(notes: &mut [u64], part: usize) -> usize {
 
 // The number of the last answer of a type. The notes of the types stand in this order.
 pub fn refusals(notes: &[u64]) {
-    let n = words::asked(
+    let n = typing::asked(
         notes,
         b"frame::Apart::refusal frame::Formed::refusal frame::BadFrame::refusal frame::Verdict::refusal \
           message::Answer::refusal message::Pausing::refusal message::Unsplittable::refusal \
@@ -70,10 +70,10 @@ pub fn refusals(notes: &[u64]) {
           faults::Stepping::refusal faults::Requesting::refusal \
           capture::Reading::refusal",
     );
-    if n == words::NONE {
+    if n == typing::NONE {
         return say::unknown();
     }
-    if words::ends_here(notes, 1) {
+    if typing::ends_here(notes, 1) {
         say::form(b"#\n", notes, wrapping_add_usize(notes::REFUSALS, n));
     }
 }

@@ -3,7 +3,7 @@ use crate::notes;
 use crate::notes::byte_at;
 use crate::notes::get;
 use crate::notes::put;
-use crate::words;
+use crate::typing;
 use libc::STDOUT_FILENO;
 use std::num::wrapping_add_usize;
 
@@ -49,7 +49,7 @@ pub fn number(pattern: &[u8], number: u64) {
 
 // One of these words, counted from 0.
 pub fn word(words: &[u8], n: usize) {
-    let word = words::nth_name(words, 0, n);
+    let word = typing::nth_name(words, 0, n);
     characters(words, word.from, word.to);
 }
 

@@ -1,8 +1,8 @@
--- `console::words::same` is safe and ends. Assumes nothing.
+-- `console::typing::same` is safe and ends. Assumes nothing.
 use Prim.Native.Nat.{_≤_, _-_}
 use borrow.Author.Needs.{needs}
-use Rattle.console.proofs.words.same.Statement.{statement}
-use Rattle.console.proofs.words.same.Tie as tie
+use Rattle.console.proofs.typing.same.Statement.{statement}
+use Rattle.console.proofs.typing.same.Tie as tie
 
 abbrev Inv-loop : tie.InvT-loop
 Inv-loop notes word names name size i₀ i = 0 ≤ i

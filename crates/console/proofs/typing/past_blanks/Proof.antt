@@ -1,14 +1,14 @@
--- `console::words::end_of` is safe and ends. Assumes nothing.
+-- `console::typing::past_blanks` is safe and ends. Assumes nothing.
 use Prim.Native.Nat.{_≤_, _-_}
 use borrow.Author.Needs.{needs}
-use Rattle.console.proofs.words.end_of.Statement.{statement}
-use Rattle.console.proofs.words.end_of.Tie as tie
+use Rattle.console.proofs.typing.past_blanks.Statement.{statement}
+use Rattle.console.proofs.typing.past_blanks.Tie as tie
 
 abbrev Inv-loop : tie.InvT-loop
-Inv-loop notes at end quoted₀ i₀ quoted i = 0 ≤ i
+Inv-loop notes at end i₀ i = 0 ≤ i
 
 abbrev μ-loop : tie.MeasureT-loop
-μ-loop notes at end quoted₀ i₀ quoted i = end - i
+μ-loop notes at end i₀ i = end - i
 
 length-requires : tie.Need-length-requires Inv-loop μ-loop
 length-requires c κs = search needs
@@ -19,8 +19,8 @@ loop-holds c = search needs
 letter-requires : tie.Need-letter-requires Inv-loop μ-loop
 letter-requires c κs = search needs
 
-ends-word-requires : tie.Need-ends-word-requires Inv-loop μ-loop
-ends-word-requires c κs = search needs
+is-blank-requires : tie.Need-is-blank-requires Inv-loop μ-loop
+is-blank-requires c κs = search needs
 
 returns : tie.Need-returns Inv-loop μ-loop
 returns c = search needs
@@ -37,8 +37,8 @@ loop-again c = search needs
 returns-2 : tie.Need-returns-2 Inv-loop μ-loop
 returns-2 c = search needs
 
-pub end-of-spec : {M : Type 1} → statement M
-end-of-spec =
+pub past-blanks-spec : {M : Type 1} → statement M
+past-blanks-spec =
     tie.close
     (tie.spec
     Inv-loop
@@ -46,7 +46,7 @@ end-of-spec =
     length-requires
     loop-holds
     letter-requires
-    ends-word-requires
+    is-blank-requires
     returns
     add-i
     loop-less

@@ -1,8 +1,8 @@
--- `console::words::nth_word` is safe and ends. Assumes nothing.
+-- `console::typing::nth_word` is safe and ends. Assumes nothing.
 use Prim.Native.Nat.{_≤_}
 use borrow.Author.Needs.{needs}
-use Rattle.console.proofs.words.nth_word.Statement.{statement}
-use Rattle.console.proofs.words.nth_word.Tie as tie
+use Rattle.console.proofs.typing.nth_word.Statement.{statement}
+use Rattle.console.proofs.typing.nth_word.Tie as tie
 
 abbrev Inv-loop : tie.InvT-loop
 Inv-loop notes n from₀ to₀ left₀ from to left = 0 ≤ left

@@ -1,17 +1,14 @@
--- `console::words::past_blanks` is safe and ends. Assumes nothing.
+-- `console::typing::head_end` is safe and ends. Assumes nothing.
 use Prim.Native.Nat.{_≤_, _-_}
 use borrow.Author.Needs.{needs}
-use Rattle.console.proofs.words.past_blanks.Statement.{statement}
-use Rattle.console.proofs.words.past_blanks.Tie as tie
+use Rattle.console.proofs.typing.head_end.Statement.{statement}
+use Rattle.console.proofs.typing.head_end.Tie as tie
 
 abbrev Inv-loop : tie.InvT-loop
-Inv-loop notes at end i₀ i = 0 ≤ i
+Inv-loop notes word i₀ i = 0 ≤ i
 
 abbrev μ-loop : tie.MeasureT-loop
-μ-loop notes at end i₀ i = end - i
-
-length-requires : tie.Need-length-requires Inv-loop μ-loop
-length-requires c κs = search needs
+μ-loop notes word i₀ i = word .to - i
 
 loop-holds : tie.Need-loop-holds Inv-loop μ-loop
 loop-holds c = search needs
@@ -19,8 +16,8 @@ loop-holds c = search needs
 letter-requires : tie.Need-letter-requires Inv-loop μ-loop
 letter-requires c κs = search needs
 
-is-blank-requires : tie.Need-is-blank-requires Inv-loop μ-loop
-is-blank-requires c κs = search needs
+ends-part-requires : tie.Need-ends-part-requires Inv-loop μ-loop
+ends-part-requires c κs = search needs
 
 returns : tie.Need-returns Inv-loop μ-loop
 returns c = search needs
@@ -37,16 +34,15 @@ loop-again c = search needs
 returns-2 : tie.Need-returns-2 Inv-loop μ-loop
 returns-2 c = search needs
 
-pub past-blanks-spec : {M : Type 1} → statement M
-past-blanks-spec =
+pub head-end-spec : {M : Type 1} → statement M
+head-end-spec =
     tie.close
     (tie.spec
     Inv-loop
     μ-loop
-    length-requires
     loop-holds
     letter-requires
-    is-blank-requires
+    ends-part-requires
     returns
     add-i
     loop-less

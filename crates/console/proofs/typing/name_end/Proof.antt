@@ -1,23 +1,24 @@
--- `console::words::head_end` is safe and ends. Assumes nothing.
+-- `console::typing::name_end` is safe and ends. Assumes nothing.
 use Prim.Native.Nat.{_≤_, _-_}
 use borrow.Author.Needs.{needs}
-use Rattle.console.proofs.words.head_end.Statement.{statement}
-use Rattle.console.proofs.words.head_end.Tie as tie
+use lib.ListN.{length}
+use Rattle.console.proofs.typing.name_end.Statement.{statement}
+use Rattle.console.proofs.typing.name_end.Tie as tie
 
 abbrev Inv-loop : tie.InvT-loop
-Inv-loop notes word i₀ i = 0 ≤ i
+Inv-loop names at i₀ i = 0 ≤ i
 
 abbrev μ-loop : tie.MeasureT-loop
-μ-loop notes word i₀ i = word .to - i
+μ-loop names at i₀ i = length names - i
 
 loop-holds : tie.Need-loop-holds Inv-loop μ-loop
 loop-holds c = search needs
 
-letter-requires : tie.Need-letter-requires Inv-loop μ-loop
-letter-requires c κs = search needs
+shared-slice-read-ends-name : tie.Need-shared-slice-read-ends-name Inv-loop μ-loop
+shared-slice-read-ends-name c = search needs
 
-ends-part-requires : tie.Need-ends-part-requires Inv-loop μ-loop
-ends-part-requires c κs = search needs
+ends-name-requires : tie.Need-ends-name-requires Inv-loop μ-loop
+ends-name-requires c κs = search needs
 
 returns : tie.Need-returns Inv-loop μ-loop
 returns c = search needs
@@ -34,15 +35,15 @@ loop-again c = search needs
 returns-2 : tie.Need-returns-2 Inv-loop μ-loop
 returns-2 c = search needs
 
-pub head-end-spec : {M : Type 1} → statement M
-head-end-spec =
+pub name-end-spec : {M : Type 1} → statement M
+name-end-spec =
     tie.close
     (tie.spec
     Inv-loop
     μ-loop
     loop-holds
-    letter-requires
-    ends-part-requires
+    shared-slice-read-ends-name
+    ends-name-requires
     returns
     add-i
     loop-less

@@ -1,10 +1,10 @@
--- `console::words::count` is safe and ends. Assumes nothing.
+-- `console::typing::count` is safe and ends. Assumes nothing.
 use mathlib.Core.Path.{_≡_}
 use Prim.Native.Nat.{_≤_, _-_}
 use borrow.Author.Needs.{needs}
 use lib.ListN.{length}
-use Rattle.console.proofs.words.count.Statement.{statement}
-use Rattle.console.proofs.words.count.Tie as tie
+use Rattle.console.proofs.typing.count.Statement.{statement}
+use Rattle.console.proofs.typing.count.Tie as tie
 
 abbrev Inv-loop : tie.InvT-loop
 Inv-loop notes₀ i₀ notes i = (i ≤ 2048) × (length notes ≡ length notes₀)

@@ -1,8 +1,8 @@
--- `console::words::digits` is safe and ends. Assumes nothing.
+-- `console::typing::digits` is safe and ends. Assumes nothing.
 use Prim.Native.Nat.{_≤_, _-_}
 use borrow.Author.Needs.{needs}
-use Rattle.console.proofs.words.digits.Statement.{statement}
-use Rattle.console.proofs.words.digits.Tie as tie
+use Rattle.console.proofs.typing.digits.Statement.{statement}
+use Rattle.console.proofs.typing.digits.Tie as tie
 
 abbrev Inv-loop : tie.InvT-loop
 Inv-loop notes from to hexadecimal number₀ i₀ number i = 0 ≤ i

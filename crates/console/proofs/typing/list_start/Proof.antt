@@ -1,9 +1,9 @@
--- `console::words::list_start` is safe and ends. Assumes nothing.
+-- `console::typing::list_start` is safe and ends. Assumes nothing.
 use Prim.Native.Nat.{_≤_, _-_}
 use borrow.Author.Needs.{needs}
 use lib.ListN.{length}
-use Rattle.console.proofs.words.list_start.Statement.{statement}
-use Rattle.console.proofs.words.list_start.Tie as tie
+use Rattle.console.proofs.typing.list_start.Statement.{statement}
+use Rattle.console.proofs.typing.list_start.Tie as tie
 
 abbrev Inv-loop : tie.InvT-loop
 Inv-loop lists n left₀ i₀ left i = 0 ≤ i

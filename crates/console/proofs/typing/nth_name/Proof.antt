@@ -1,8 +1,8 @@
--- `console::words::nth_name` is safe and ends. Assumes nothing.
+-- `console::typing::nth_name` is safe and ends. Assumes nothing.
 use Prim.Native.Nat.{_≤_}
 use borrow.Author.Needs.{needs}
-use Rattle.console.proofs.words.nth_name.Statement.{statement}
-use Rattle.console.proofs.words.nth_name.Tie as tie
+use Rattle.console.proofs.typing.nth_name.Statement.{statement}
+use Rattle.console.proofs.typing.nth_name.Tie as tie
 
 abbrev Inv-loop : tie.InvT-loop
 Inv-loop lists list n from₀ to₀ left₀ from to left = 0 ≤ left

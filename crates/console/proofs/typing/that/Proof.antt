@@ -1,10 +1,10 @@
--- `console::words::that` is safe and ends. Assumes nothing.
+-- `console::typing::that` is safe and ends. Assumes nothing.
 use mathlib.Core.Path.{_≡_}
 use Prim.Native.Nat.{_≤_, _-_}
 use borrow.Author.Needs.{needs}
 use lib.ListN.{length}
-use Rattle.console.proofs.words.that.Statement.{statement}
-use Rattle.console.proofs.words.that.Tie as tie
+use Rattle.console.proofs.typing.that.Statement.{statement}
+use Rattle.console.proofs.typing.that.Tie as tie
 
 abbrev Inv-loop : tie.InvT-loop
 Inv-loop notes₀ eight i₀ notes i = (i ≤ 8) × ((length eight ≡ 8) × (length notes ≡ length notes₀))

@@ -1,9 +1,9 @@
--- `console::words::digit_pairs` is safe and ends. Assumes nothing.
+-- `console::typing::digit_pairs` is safe and ends. Assumes nothing.
 use mathlib.Core.Path.{_≡_}
 use borrow.Author.Needs.{needs}
 use lib.ListN.{length}
-use Rattle.console.proofs.words.digit_pairs.Statement.{statement}
-use Rattle.console.proofs.words.digit_pairs.Tie as tie
+use Rattle.console.proofs.typing.digit_pairs.Statement.{statement}
+use Rattle.console.proofs.typing.digit_pairs.Tie as tie
 
 abbrev Inv-loop : tie.InvT-loop
 Inv-loop notes₀ word p₀ left₀ notes p left = length notes ≡ length notes₀

@@ -1,8 +1,8 @@
--- `console::words::find_word` is safe and ends. Assumes nothing.
+-- `console::typing::find_word` is safe and ends. Assumes nothing.
 use Prim.Native.Nat.{_≤_, _-_}
 use borrow.Author.Needs.{needs}
-use Rattle.console.proofs.words.find_word.Statement.{statement}
-use Rattle.console.proofs.words.find_word.Tie as tie
+use Rattle.console.proofs.typing.find_word.Statement.{statement}
+use Rattle.console.proofs.typing.find_word.Tie as tie
 
 abbrev Inv-loop : tie.InvT-loop
 Inv-loop notes word lists list n₀ n = n ≤ 64
