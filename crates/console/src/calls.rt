@@ -9,7 +9,7 @@ use std::num::wrapping_add_usize;
 pub fn part(notes: &[u64]) -> usize {
     typing::part(
         notes,
-        b"frame message fast catalogue claim nodes command faults capture exercise",
+        b"frame message fast catalogue claim nodes command faults capture exercise text",
     )
 }
 
@@ -30,7 +30,8 @@ pub fn asked(notes: &mut [u64], part: usize) -> usize {
           packed_rows row_at read write read_service_point write_service_point Sender::start Sender::add \
           Sender::clear Sender::step Sender::request Sender::reply |\
           take_apart write Cutter::new Cutter::next Cutter::last |\
-          long_message fast_packet row |",
+          long_message fast_packet row |\
+          put put_decimal put_hex put_bytes decimal_width |",
         part,
     );
     arguments::called(
@@ -44,7 +45,8 @@ pub fn asked(notes: &mut [u64], part: usize) -> usize {
           8d 4b 4b 1114 |\
           . 8 84b 84bv 4b 4b4 e e2 8 . 4b 4b |\
           b 24e . b8 . |\
-          b b1 8 |",
+          b b1 8 |\
+          88b 88b8 88b88 88b 8 |",
         part,
         n,
     )

@@ -17,6 +17,7 @@ mod node_table;
 mod notes;
 mod say;
 mod state;
+mod texts;
 mod typing;
 
 use notes::NOTES;
@@ -206,6 +207,7 @@ fn answer_alone(notes: &mut [u64], bytes: &[u8], part: usize, n: usize) {
         5 => node_table::call(n, notes, bytes),
         6 => commands::call(n, notes, bytes),
         8 => captures::call(n, notes, bytes),
+        10 => texts::call(n, notes, bytes),
         _ => exercises::call(n, notes, bytes),
     }
 }

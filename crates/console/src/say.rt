@@ -1,5 +1,6 @@
 // What the console prints: texts, numbers, bytes, and the end of an answer with its number.
 use crate::notes;
+use crate::notes::bounded;
 use crate::notes::byte_at;
 use crate::notes::get;
 use crate::notes::put;
@@ -68,12 +69,16 @@ fn character(c: u8) {
 }
 
 fn decimal(number: u64) {
-    io::print_decimal(STDOUT_FILENO, number);
+    let mut digits = [0u8; 20];
+    let end = text::put_decimal(&mut digits, 0, b"", number);
+    let count = bounded(end, &digits);
+    text(&digits[..count]);
 }
 
-fn hex(number: u64, width: usize) {
+// At least so many digits, and more where the number has more; in small letters, as `text` writes none.
+fn hex(number: u64, least: usize) {
     text(b"0x");
-    io::print_hex(STDOUT_FILENO, number, width);
+    io::print_hex(STDOUT_FILENO, number, least);
 }
 
 // A number that may be negative.

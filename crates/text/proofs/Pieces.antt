@@ -13,7 +13,7 @@ use lib.Seq.{paste, paste-zero, paste-suc, take-set-le, set-split, drop-at, take
 use Rattle.words.specs.Words.{_≤?_}
 use Rattle.words.proofs.Words.{by-test}
 use Rattle.text.specs.Text.{glyph, digits, decimalWidth, decimal, bytePairs}
-use Rattle.text.specs.Pieces.{placed, putIn, endOf, Wrote}
+use Rattle.text.specs.Pieces.{fitsIn, placed, putIn, endOf, Wrote}
 use Rattle.text.specs.Promises.{Put, PutDecimal, PutHex, PutBytes}
 use Rattle.text.proofs.Digits.{length-digits, length-decimal, length-pairs, width-most}
 
@@ -150,6 +150,20 @@ fits-wrote {before} {after} {word} {at} {r} p h =
     let w = put-placed p h in
     let l : length after ≡ length before = ap length (w .0) ∙ length-placed before word at h in
     record { next = w .1; written = rw (w .1, w .0) (placed-head before word at (omega arith)); fits = omega (arith, w .1); room = l }
+
+-- whether it fits or not, the answer is a place in the lent bytes or their end
+pub end-within : {before after word : List ℕ} {at r : ℕ} → Put before at word r after → at ≤ length before → r ≤ length after
+unfolding putIn endOf
+end-within {before} {after} {word} {at} {r} p h =
+    by-test (fitsIn before at word)
+    (λ e. fits-wrote p (leb-true (at + length word) (length before) e) .fits)
+    (λ e.
+    let a : after ≡ before = p .bytes ∙ rw e in
+    let k : r ≡ at = p .behind ∙ rw e in
+    let l : length after ≡ length before = ap length a in
+    omega arith)
+
+-- a key and its value
 
 pub wrote-decimal : {before after : List ℕ} {at r : ℕ} (key : List ℕ) (n : ℕ) → PutDecimal before at key n r after → n < 2 ^ 64 → at + length key + 20 ≤ length before
     → Wrote before at (key ++ decimal n) after r × (r ≤ at + length key + 20)
