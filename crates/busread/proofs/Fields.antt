@@ -53,22 +53,9 @@ span-there {dgn = dgn} t h = h .answer ∙ ap (λ (t : List ℕ). tableSpan t (c
 pub span-fits : {table : List ℕ} {dgn : ℕ} {span : Span} → table ≡ packedRows → RowsIn table dgn span → span .start + span .count ≤ 375
 span-fits {dgn = dgn} t h = rw (span-there t h) (within (catalogueForm dgn))
 
--- and its codes have at most 32 bits
-pub code-fits : (n number : ℕ) → n < 375 → fieldIn (rowAt n) number .code < 2 ^ 32
-unfolding fieldIn fieldOf
-code-fits n number h =
-    let w = rowAt n .width in
-    let m : 2 ^ w ≤ 2 ^ 32 = pow-mono (ends n h .most) in
-    let l : number / 2 ^ (rowAt n .first) % 2 ^ w < 2 ^ w = mod-lt (number / 2 ^ (rowAt n .first)) (pow-pos w) in
-    omega arith
-
-pub field-fits : {table : List ℕ} {n number : ℕ} {r : Looked} {row : Row} {field : Field}
-    → table ≡ packedRows → RowIn table n r → r ≡ Looked.Is row → Classify row number field → n < 375 → field .code < 2 ^ 32
-field-fits {n = n} {number} t h e c k = rw (c .answer, row-there t h e k) (code-fits n number k)
-
 -- a line more of the fields' lines, of which there are at most 375
-pub room-left : (at i start : ℕ) {next count before after : ℕ} → next ≤ at + 128 * i → i < count → start + count ≤ 375
-    → at + lineRoom ≤ before → after ≡ before → next + 128 ≤ after
+pub room-left : (at i start : ℕ) {end count before after : ℕ} → end ≤ at + 160 * i → i < count → start + count ≤ 375
+    → at + lineRoom ≤ before → after ≡ before → end + 160 ≤ after
 room-left at i start n l s r e = omega arith
 
 -- the rows of a span

@@ -1,4 +1,3 @@
-pub mod Writing
 pub mod Fields
 pub mod Printing
 pub mod Reading

@@ -22,7 +22,7 @@ use Rattle.capture.specs.Promises.{TakeApart, frameIn, toldReading}
 use Rattle.capture.specs.declared.Line.{Line}
 use Rattle.capture.specs.declared.Reading.{Reading}
 use Rattle.capture.specs.declared.Reading.the-variants as Reading
-use Rattle.busread.specs.Text.{Wrote}
+use Rattle.text.specs.Pieces.{Wrote}
 use Rattle.busread.specs.Report.{refusalText, printOf, printed, answerText, counted, heardIn, lineText, keptAfter}
 use Rattle.busread.specs.Step.{lineRoom, kept, Counting, Took}
 use Rattle.busread.specs.declared.report.Counts.{Counts}
@@ -63,13 +63,13 @@ counted-frames c (Print.Message sender dgn) = refl
 counted-frames c Print.Fields = refl
 counted-frames c Print.Nothing = refl
 
-pub took : {f : Frame} {receiver : Receiver} {storage storage′ out out′ : List ℕ} {counts counts′ : Counts} {at next : ℕ} {p : Paused} {h : Heard}
+pub took : {f : Frame} {receiver : Receiver} {storage storage′ out out′ : List ℕ} {counts counts′ : Counts} {writtenTo end : ℕ} {p : Paused} {h : Heard}
     → Pause (f .gap) (receiver .places) p → Hear (f .id) (f .bytes) (p .receiver .places) storage h storage′
-    → Wrote out at (answerText (counts .frames + 1) f storage′ (toldAnswer (h .answer))) out′ next
-    → next ≤ at + lineRoom → counts′ ≡ counted counts (printOf (toldAnswer (h .answer))) → Counting counts′
-    → Took (kept receiver storage counts) (gives f) out at (record { receiver = h .receiver; counts = counts′; next = next }) storage′ out′
+    → Wrote out writtenTo (answerText (counts .frames + 1) f storage′ (toldAnswer (h .answer))) out′ end
+    → end ≤ writtenTo + lineRoom → counts′ ≡ counted counts (printOf (toldAnswer (h .answer))) → Counting counts′
+    → Took (kept receiver storage counts) (gives f) out writtenTo (record { receiver = h .receiver; counts = counts′; «written_to» = end }) storage′ out′
 unfolding lineText keptAfter heardIn
-took {f} {receiver} {storage} {storage′} {out} {out′} {counts} {counts′} {at} {next} {p} {h} e g w b n k =
+took {f} {receiver} {storage} {storage′} {out} {out′} {counts} {counts′} {writtenTo} {end} {p} {h} e g w b n k =
     record {
       printed = rw (← e .places, ← g .storage-bytes, ← g .answer) w;
       short = b;
@@ -78,9 +78,9 @@ took {f} {receiver} {storage} {storage′} {out} {out′} {counts} {counts′} {
       counted = ap (λ (c : Counts). c .frames) n ∙ counted-frames counts (printOf (toldAnswer (h .answer)));
     }
 
-pub passed : {receiver : Receiver} {out out′ : List ℕ} {counts counts′ : Counts} {at next : ℕ} (storage : List ℕ)
-    → Wrote out at (refusalText (counts .frames + 1) 19) out′ next → next ≤ at + lineRoom → counts′ ≡ counted counts (Print.Refused 19) → Counting counts′
-    → Took (kept receiver storage counts) (refused 19) out at (record { receiver = receiver; counts = counts′; next = next }) storage out′
+pub passed : {receiver : Receiver} {out out′ : List ℕ} {counts counts′ : Counts} {writtenTo end : ℕ} (storage : List ℕ)
+    → Wrote out writtenTo (refusalText (counts .frames + 1) 19) out′ end → end ≤ writtenTo + lineRoom → counts′ ≡ counted counts (Print.Refused 19) → Counting counts′
+    → Took (kept receiver storage counts) (refused 19) out writtenTo (record { receiver = receiver; counts = counts′; «written_to» = end }) storage out′
 unfolding lineText keptAfter
 passed {counts = counts} storage w b n k =
     record { printed = w; short = b; kept = rw n; counting = k; counted = ap (λ (c : Counts). c .frames) n }

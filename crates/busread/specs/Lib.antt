@@ -1,5 +1,4 @@
 -- RULES 11.8 to 11.20, the report of a capture.
-pub mod Text
 pub mod Report
 pub mod Step
 pub mod Reader

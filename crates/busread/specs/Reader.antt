@@ -40,32 +40,32 @@ pub record Ready (reader : Reader) : Type 0 where
 
 -- From a position in a block, a cutter and what is kept: the text of the lines that a run takes, where it leaves all
 -- three, and whether it goes on.
-pub data Ran (block : List ℕ) (at : ℕ) (c : Cutter) (k : Kept) : List ℕ → ℕ → Cutter → Kept → Going → Type 0 where
-  begun : Ran block at c k [] at c k On
-  a-line : {words : List ℕ} {at′ : ℕ} {c′ : Cutter} {k′ : Kept} (r : Cut) (piece : Piece)
-      → Ran block at c k words at′ c′ k′ On → Next block at′ c′ r → yieldOf block r ≡ brings piece
-      → Ran block at c k (words ++ lineText k′ (pieceRead piece)) (r .next) (r .cutter) (keptAfter k′ (pieceRead piece)) On
-  all-used : {words : List ℕ} {at′ : ℕ} {c′ : Cutter} {k′ : Kept} (r : Cut)
-      → Ran block at c k words at′ c′ k′ On → Next block at′ c′ r → yieldOf block r ≡ used
-      → Ran block at c k words (r .next) (r .cutter) k′ Used
-  all-read : {words : List ℕ} {at′ : ℕ} {c′ : Cutter} {k′ : Kept} (r : Cut)
-      → Ran block at c k words at′ c′ k′ On → Next block at′ c′ r → yieldOf block r ≡ over
-      → Ran block at c k words (r .next) (r .cutter) k′ Over
+pub data Ran (block : List ℕ) (readTo : ℕ) (c : Cutter) (k : Kept) : List ℕ → ℕ → Cutter → Kept → Going → Type 0 where
+  begun : Ran block readTo c k [] readTo c k On
+  a-line : {words : List ℕ} {readTo′ : ℕ} {c′ : Cutter} {k′ : Kept} (r : Cut) (piece : Piece)
+      → Ran block readTo c k words readTo′ c′ k′ On → Next block readTo′ c′ r → yieldOf block r ≡ brings piece
+      → Ran block readTo c k (words ++ lineText k′ (pieceRead piece)) (r .«read_to») (r .cutter) (keptAfter k′ (pieceRead piece)) On
+  all-used : {words : List ℕ} {readTo′ : ℕ} {c′ : Cutter} {k′ : Kept} (r : Cut)
+      → Ran block readTo c k words readTo′ c′ k′ On → Next block readTo′ c′ r → yieldOf block r ≡ used
+      → Ran block readTo c k words (r .«read_to») (r .cutter) k′ Used
+  all-read : {words : List ℕ} {readTo′ : ℕ} {c′ : Cutter} {k′ : Kept} (r : Cut)
+      → Ran block readTo c k words readTo′ c′ k′ On → Next block readTo′ c′ r → yieldOf block r ≡ over
+      → Ran block readTo c k words (r .«read_to») (r .cutter) k′ Over
 
 -- where a line leaves the run, and where a turn without one does
 
 abbrev pub after : Cutter → ℕ → Step → Run
-after cutter at step =
+after cutter readTo step =
     record {
       reader = record { cutter = cutter; receiver = step .receiver; counts = step .counts };
-      at = at;
-      next = step .next;
+      «read_to» = readTo;
+      «written_to» = step .«written_to»;
       going = On;
     }
 
 abbrev pub stayed : Reader → Cutter → ℕ → ℕ → Going → Run
-stayed reader cutter at next going =
-    record { reader = record { cutter = cutter; receiver = reader .receiver; counts = reader .counts }; at = at; next = next; going = going }
+stayed reader cutter readTo writtenTo going =
+    record { reader = record { cutter = cutter; receiver = reader .receiver; counts = reader .counts }; «read_to» = readTo; «written_to» = writtenTo; going = going }
 
 -- one more line may be counted
 pub record OneMore (c : Counts) : Type 0 where
@@ -73,29 +73,29 @@ pub record OneMore (c : Counts) : Type 0 where
   pub counting : Counting c
 
 -- a line taken, and the run that it leaves
-pub record Went (reader : Reader) (cutter : Cutter) (at : ℕ) (line : Told Frame) (storage out : List ℕ) (next : ℕ) (r : Run) (storage′ out′ : List ℕ) : Type 0 where
+pub record Went (reader : Reader) (cutter : Cutter) (readTo : ℕ) (line : Told Frame) (storage out : List ℕ) (writtenTo : ℕ) (r : Run) (storage′ out′ : List ℕ) : Type 0 where
   pub step : Step
-  pub took : Took (keptBy reader storage) line out next step storage′ out′
-  pub left : r ≡ after cutter at step
+  pub took : Took (keptBy reader storage) line out writtenTo step storage′ out′
+  pub left : r ≡ after cutter readTo step
 
 -- a line of more than 80 bytes, whatever the storage is
 abbrev pub WentPast : Reader → Cutter → ℕ → List ℕ → ℕ → Run → List ℕ → Type 0
-WentPast reader cutter at out next r out′ = (storage : List ℕ) → Went reader cutter at (refused 19) storage out next r storage out′
+WentPast reader cutter readTo out writtenTo r out′ = (storage : List ℕ) → Went reader cutter readTo (refused 19) storage out writtenTo r storage out′
 
 -- one turn carries on whatever was run before
-pub record Turned (block : List ℕ) (at : ℕ) (reader : Reader) (storage out : List ℕ) (next : ℕ) (r : Run) (storage′ out′ : List ℕ) : Type 0 where
-  pub runs : (from : ℕ) (c : Cutter) (k : Kept) → Ran block from c k (take next out) at (reader .cutter) (keptBy reader storage) On
-      → Ran block from c k (take (r .next) out′) (r .at) (r .reader .cutter) (keptBy (r .reader) storage′) (r .going)
+pub record Turned (block : List ℕ) (readTo : ℕ) (reader : Reader) (storage out : List ℕ) (writtenTo : ℕ) (r : Run) (storage′ out′ : List ℕ) : Type 0 where
+  pub runs : (from : ℕ) (c : Cutter) (k : Kept) → Ran block from c k (take writtenTo out) readTo (reader .cutter) (keptBy reader storage) On
+      → Ran block from c k (take (r .«written_to») out′) (r .«read_to») (r .reader .cutter) (keptBy (r .reader) storage′) (r .going)
   pub ready : Ready (r .reader)
-  pub fits : r .next ≤ length out′
-  pub advances : r .going ≡ On → (at < r .at) × (r .at ≤ length block)
+  pub fits : r .«written_to» ≤ length out′
+  pub advances : r .going ≡ On → (readTo < r .«read_to») × (r .«read_to» ≤ length block)
 
 -- a run, its text at the start of the output
-pub record Runs (block : List ℕ) (at : ℕ) (reader : Reader) (storage : List ℕ) (r : Run) (storage′ out′ : List ℕ) : Type 0 where
-  pub runs : Ran block at (reader .cutter) (keptBy reader storage) (take (r .next) out′) (r .at) (r .reader .cutter) (keptBy (r .reader) storage′) (r .going)
+pub record Runs (block : List ℕ) (readTo : ℕ) (reader : Reader) (storage : List ℕ) (r : Run) (storage′ out′ : List ℕ) : Type 0 where
+  pub runs : Ran block readTo (reader .cutter) (keptBy reader storage) (take (r .«written_to») out′) (r .«read_to») (r .reader .cutter) (keptBy (r .reader) storage′) (r .going)
   pub ready : Ready (r .reader)
-  pub fits : r .next ≤ length out′
-  pub advances : r .going ≡ On → (at < r .at) × (r .at ≤ length block)
+  pub fits : r .«written_to» ≤ length out′
+  pub advances : r .going ≡ On → (readTo < r .«read_to») × (r .«read_to» ≤ length block)
 
 -- the end of the capture: the line that it ends, and the closing line
 abbrev pub endText : Cutter → Kept → List ℕ

@@ -5,6 +5,7 @@ use Prim.Native.Nat.{ℕ, _+_}
 use Prim.Native.String.{String}
 use lib.ListN.{take, drop, length, replicate}
 use Rattle.words.specs.Words.{Told, refused, gives}
+use Rattle.text.specs.Text.{text, digits, decimal, bytePairs}
 use Rattle.frame.specs.Bytes.{numberOf}
 use Rattle.frame.specs.Identifier.{sourceOf, dgnOf, catalogueForm}
 use Rattle.places.specs.Places.{placeCount}
@@ -18,10 +19,8 @@ use Rattle.catalogue.specs.declared.Row.{Row}
 use Rattle.catalogue.specs.declared.Field.{Field}
 use Rattle.catalogue.specs.declared.Class.{Class}
 use Rattle.catalogue.specs.declared.Class.the-variants.{Number, NoData, OutOfRange, Reserved}
-use Rattle.capture.specs.Digits.{digits}
-use Rattle.capture.specs.Line.{Frame, bytePairs}
+use Rattle.capture.specs.Line.{Frame}
 use Rattle.capture.specs.Stream.{Piece, linesOf, pieceRead}
-use Rattle.busread.specs.Text.{text, decimal}
 use Rattle.busread.specs.declared.report.Counts.{Counts}
 use Rattle.busread.specs.declared.step.Print.{Print}
 use Rattle.busread.specs.declared.step.Print.the-variants.{Refused, Message, Fields, Nothing}

@@ -10,7 +10,6 @@ ghost use Rattle.busread.specs.Reader.{outRoom, Ready};
 mod reader;
 mod report;
 mod step;
-mod text;
 
 use libc::STDIN_FILENO;
 use libc::STDOUT_FILENO;
@@ -31,8 +30,8 @@ fn main() {
     let table = catalogue::packed_rows();
     io::write_all(STDOUT_FILENO, b"format=1\n");
     let reader = read_all(reader::new(), &mut block, &mut storage, &mut out, &table);
-    let next = reader::finish(reader, &mut storage, &mut out, &table);
-    io::write_all(STDOUT_FILENO, &out[..next]);
+    let written_to = reader::finish(reader, &mut storage, &mut out, &table);
+    io::write_all(STDOUT_FILENO, &out[..written_to]);
 }
 
 // The receiver's storage.
@@ -101,15 +100,15 @@ fn feed(reader: Reader, block: &[u8], storage: &mut [u8], out: &mut [u8], table:
     ensures { λ r. ⌜ Ready (r .reader) ⌝ }
 {
     let mut reader = reader;
-    let mut at: usize = 0;
+    let mut read_to: usize = 0;
     loop {
-        let run = reader::lines(reader, block, at, storage, out, table);
-        let next = run.next;
-        io::write_all(STDOUT_FILENO, &out[..next]);
+        let run = reader::lines(reader, block, read_to, storage, out, table);
+        let written_to = run.written_to;
+        io::write_all(STDOUT_FILENO, &out[..written_to]);
         reader = run.reader;
         let going = run.going;
         match going {
-            Going::On => at = run.at,
+            Going::On => read_to = run.read_to,
             Going::Used => return Fed { reader, more: true },
             Going::Over => {
                 return Fed {

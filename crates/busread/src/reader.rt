@@ -6,7 +6,7 @@ ghost use Rattle.message.specs.Receiver.{room};
 ghost use Rattle.catalogue.specs.Packed.{packedRows};
 ghost use Rattle.capture.specs.Line.{lineRead};
 ghost use Rattle.capture.specs.Cutter.{fresh};
-ghost use Rattle.busread.specs.Text.{Wrote};
+ghost use Rattle.text.specs.Pieces.{Wrote};
 ghost use Rattle.busread.specs.Report.{atStart};
 ghost use Rattle.busread.specs.Reader.{half, outRoom, keptBy, Ready, OneMore, after, Went, WentPast, stayed, Turned, Runs, endText};
 use crate::report;
@@ -31,11 +31,11 @@ pub enum Going {
     Over,
 }
 
-// Where a run leaves the reader, the position in its block, and the place behind what it printed.
+// Where a run leaves the reader: the position up to which the block was read, and the place behind what was printed.
 pub struct Run {
     pub reader: Reader,
-    pub at: usize,
-    pub next: usize,
+    pub read_to: usize,
+    pub written_to: usize,
     pub going: Going,
 }
 
@@ -67,16 +67,16 @@ pub fn lines(
     ensures { λ r. ⌜ Runs (now (block .entry)) from reader (now (storage .entry)) r (now (storage .exit)) (now (out .exit)) ⌝ }
 {
     let mut reader = reader;
-    let mut at = from;
-    let mut next: usize = 0;
-    while next <= 65536 {
-        let turned = turn(reader, block, at, storage, out, next, table);
+    let mut read_to = from;
+    let mut written_to: usize = 0;
+    while written_to <= 65536 {
+        let turned = turn(reader, block, read_to, storage, out, written_to, table);
         let going = turned.going;
         match going {
             Going::On => {
                 reader = turned.reader;
-                at = turned.at;
-                next = turned.next;
+                read_to = turned.read_to;
+                written_to = turned.written_to;
             }
             Going::Used => return turned,
             Going::Over => return turned,
@@ -84,8 +84,8 @@ pub fn lines(
     }
     Run {
         reader,
-        at,
-        next,
+        read_to,
+        written_to,
         going: Going::On,
     }
 }
@@ -94,28 +94,28 @@ pub fn lines(
 fn turn(
     reader: Reader,
     block: &[u8],
-    at: usize,
+    read_to: usize,
     storage: &mut [u8],
     out: &mut [u8],
-    next: usize,
+    written_to: usize,
     table: &[u64],
 ) -> Run
-    requires { ⌜ (outRoom ≤ length (now out)) × (next ≤ half) × (room ≤ length (now storage)) × Ready reader × (now table ≡ packedRows) ⌝ }
-    ensures { λ r. ⌜ Turned (now (block .entry)) at reader (now (storage .entry)) (now (out .entry)) next r (now (storage .exit)) (now (out .exit)) ⌝ }
+    requires { ⌜ (outRoom ≤ length (now out)) × («written_to» ≤ half) × (room ≤ length (now storage)) × Ready reader × (now table ≡ packedRows) ⌝ }
+    ensures { λ r. ⌜ Turned (now (block .entry)) «read_to» reader (now (storage .entry)) (now (out .entry)) «written_to» r (now (storage .exit)) (now (out .exit)) ⌝ }
 {
     let old = reader.cutter;
-    let cut = old.next(block, at);
+    let cut = old.next(block, read_to);
     let cutter = cut.cutter;
     let answer = cut.answer;
     match answer {
         Cutting::Within { from, to } => line(
             reader,
             cutter,
-            cut.next,
+            cut.read_to,
             &block[from..to],
             storage,
             out,
-            next,
+            written_to,
             table,
         ),
         Cutting::Carried(count) => {
@@ -123,17 +123,17 @@ fn turn(
             line(
                 reader,
                 cutter,
-                cut.next,
+                cut.read_to,
                 &carry[..count],
                 storage,
                 out,
-                next,
+                written_to,
                 table,
             )
         }
-        Cutting::TooLong => long_line(reader, cutter, cut.next, out, next),
-        Cutting::BlockUsed => stays(reader, cutter, cut.next, next, Going::Used),
-        Cutting::AllRead => stays(reader, cutter, cut.next, next, Going::Over),
+        Cutting::TooLong => long_line(reader, cutter, cut.read_to, out, written_to),
+        Cutting::BlockUsed => stays(reader, cutter, cut.read_to, written_to, Going::Used),
+        Cutting::AllRead => stays(reader, cutter, cut.read_to, written_to, Going::Over),
     }
 }
 
@@ -141,36 +141,42 @@ fn turn(
 fn line(
     reader: Reader,
     cutter: Cutter,
-    at: usize,
+    read_to: usize,
     text: &[u8],
     storage: &mut [u8],
     out: &mut [u8],
-    next: usize,
+    written_to: usize,
     table: &[u64],
 ) -> Run
-    requires { ⌜ (outRoom ≤ length (now out)) × (next ≤ half) × (room ≤ length (now storage)) × OneMore (reader .counts) × (now table ≡ packedRows) ⌝ }
-    ensures { λ r. ⌜ Went reader cutter at (lineRead (now (text .entry))) (now (storage .entry)) (now (out .entry)) next r (now (storage .exit)) (now (out .exit)) ⌝ }
+    requires { ⌜ (outRoom ≤ length (now out)) × («written_to» ≤ half) × (room ≤ length (now storage)) × OneMore (reader .counts) × (now table ≡ packedRows) ⌝ }
+    ensures { λ r. ⌜ Went reader cutter «read_to» (lineRead (now (text .entry))) (now (storage .entry)) (now (out .entry)) «written_to» r (now (storage .exit)) (now (out .exit)) ⌝ }
 {
     let receiver = reader.receiver;
     let counts = reader.counts;
-    let step = step::take(receiver, counts, text, storage, out, next, table);
-    taken(cutter, at, step)
+    let step = step::take(receiver, counts, text, storage, out, written_to, table);
+    taken(cutter, read_to, step)
 }
 
 // Passes over a line of more than 80 bytes.
-fn long_line(reader: Reader, cutter: Cutter, at: usize, out: &mut [u8], next: usize) -> Run
-    requires { ⌜ (outRoom ≤ length (now out)) × (next ≤ half) × OneMore (reader .counts) ⌝ }
-    ensures { λ r. ⌜ WentPast reader cutter at (now (out .entry)) next r (now (out .exit)) ⌝ }
+fn long_line(
+    reader: Reader,
+    cutter: Cutter,
+    read_to: usize,
+    out: &mut [u8],
+    written_to: usize,
+) -> Run
+    requires { ⌜ (outRoom ≤ length (now out)) × («written_to» ≤ half) × OneMore (reader .counts) ⌝ }
+    ensures { λ r. ⌜ WentPast reader cutter «read_to» (now (out .entry)) «written_to» r (now (out .exit)) ⌝ }
 {
     let receiver = reader.receiver;
     let counts = reader.counts;
-    let step = step::malformed(receiver, counts, out, next);
-    taken(cutter, at, step)
+    let step = step::malformed(receiver, counts, out, written_to);
+    taken(cutter, read_to, step)
 }
 
 // After a line.
-fn taken(cutter: Cutter, at: usize, step: Step) -> Run
-    ensures { λ r. ⌜ r ≡ after cutter at step ⌝ }
+fn taken(cutter: Cutter, read_to: usize, step: Step) -> Run
+    ensures { λ r. ⌜ r ≡ after cutter «read_to» step ⌝ }
 {
     let receiver = step.receiver;
     let counts = step.counts;
@@ -180,15 +186,15 @@ fn taken(cutter: Cutter, at: usize, step: Step) -> Run
             receiver,
             counts,
         },
-        at,
-        next: step.next,
+        read_to,
+        written_to: step.written_to,
         going: Going::On,
     }
 }
 
 // Without a line.
-fn stays(reader: Reader, cutter: Cutter, at: usize, next: usize, going: Going) -> Run
-    ensures { λ r. ⌜ r ≡ stayed reader cutter at next going ⌝ }
+fn stays(reader: Reader, cutter: Cutter, read_to: usize, written_to: usize, going: Going) -> Run
+    ensures { λ r. ⌜ r ≡ stayed reader cutter «read_to» «written_to» going ⌝ }
 {
     let receiver = reader.receiver;
     let counts = reader.counts;
@@ -198,8 +204,8 @@ fn stays(reader: Reader, cutter: Cutter, at: usize, next: usize, going: Going) -
             receiver,
             counts,
         },
-        at,
-        next,
+        read_to,
+        written_to,
         going,
     }
 }
@@ -218,12 +224,12 @@ pub fn finish(reader: Reader, storage: &mut [u8], out: &mut [u8], table: &[u64])
             let carry = cutter.carry;
             let step = step::take(receiver, counts, &carry[..count], storage, out, 0, table);
             let counts = step.counts;
-            report::put_closing(out, step.next, counts)
+            report::put_closing(out, step.written_to, counts)
         }
         Ending::TooLong => {
             let step = step::malformed(receiver, counts, out, 0);
             let counts = step.counts;
-            report::put_closing(out, step.next, counts)
+            report::put_closing(out, step.written_to, counts)
         }
         Ending::Nothing => report::put_closing(out, 0, counts),
     }

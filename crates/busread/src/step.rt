@@ -11,7 +11,7 @@ ghost use Rattle.catalogue.specs.Packed.{packedRows};
 ghost use Rattle.capture.specs.Line.{lineRead};
 ghost use Rattle.capture.specs.Promises.{frameIn};
 ghost use Rattle.capture.specs.Stream.{mostLines};
-ghost use Rattle.busread.specs.Text.{Wrote};
+ghost use Rattle.text.specs.Pieces.{Wrote};
 ghost use Rattle.busread.specs.Report.{headText, printOf, fieldsText, rowsOf, answerText, counted};
 ghost use Rattle.busread.specs.Step.{lineRoom, kept, Counting, Took, Passed};
 ghost use Rattle.busread.specs.declared.step.Print.the-variants.{Refused};
@@ -33,7 +33,7 @@ pub enum Print {
 pub struct Step {
     pub receiver: Receiver,
     pub counts: Counts,
-    pub next: usize,
+    pub written_to: usize,
 }
 
 // A refusal prints its number.
@@ -112,20 +112,20 @@ fn put_fields(
     let dgn = id / 256 % 131072;
     let content = frame::number_of(bytes);
     let span = catalogue::rows_in(table, dgn);
-    let mut head = [0u8; 32];
+    let mut head = [0u8; 48];
     let size = report::put_head(&mut head, 0, number, source, dgn);
-    let mut next = at;
+    let mut end = at;
     let mut i: usize = 0;
     while i < span.count {
         let looked = catalogue::row_in(table, span.start + i);
         let catalogue::Looked::Is(row) = looked else {
-            return next;
+            return end;
         };
         let field = catalogue::classify(row, content);
-        next = report::put_field(out, next, &head[..size], row, field);
+        end = report::put_field(out, end, &head[..size], row, field);
         i += 1;
     }
-    next
+    end
 }
 
 // What an answer prints; a finished message is read from the storage.
@@ -163,36 +163,44 @@ fn hear(
     line: Line,
     storage: &mut [u8],
     out: &mut [u8],
-    at: usize,
+    written_to: usize,
     table: &[u64],
 ) -> Step
-    requires { ⌜ (at + lineRoom ≤ length (now out)) × (room ≤ length (now storage)) × (counts .frames < mostLines) × Counting counts × (now table ≡ packedRows) ⌝ }
-    ensures { λ r. ⌜ Took (kept receiver (now (storage .entry)) counts) (gives (frameIn line)) (now (out .entry)) at r (now (storage .exit)) (now (out .exit)) ⌝ }
+    requires { ⌜ («written_to» + lineRoom ≤ length (now out)) × (room ≤ length (now storage)) × (counts .frames < mostLines) × Counting counts × (now table ≡ packedRows) ⌝ }
+    ensures { λ r. ⌜ Took (kept receiver (now (storage .entry)) counts) (gives (frameIn line)) (now (out .entry)) «written_to» r (now (storage .exit)) (now (out .exit)) ⌝ }
 {
     let paused = receiver.pause(line.gap);
     let quiet = paused.receiver;
     let bytes = line.bytes;
     let heard = quiet.hear(storage, line.id, &bytes);
     let answer = heard.answer;
-    let next = put_answer(out, at, counts.frames + 1, line, answer, storage, table);
+    let end = put_answer(
+        out,
+        written_to,
+        counts.frames + 1,
+        line,
+        answer,
+        storage,
+        table,
+    );
     let after = heard.receiver;
     Step {
         receiver: after,
         counts: count(counts, print_of(answer)),
-        next,
+        written_to: end,
     }
 }
 
 // A malformed line: refusal 19, and no time passes.
-pub fn malformed(receiver: Receiver, counts: Counts, out: &mut [u8], at: usize) -> Step
-    requires { ⌜ (at + lineRoom ≤ length (now out)) × (counts .frames < mostLines) × Counting counts ⌝ }
-    ensures { λ r. ⌜ Passed receiver counts (now (out .entry)) at r (now (out .exit)) ⌝ }
+pub fn malformed(receiver: Receiver, counts: Counts, out: &mut [u8], written_to: usize) -> Step
+    requires { ⌜ («written_to» + lineRoom ≤ length (now out)) × (counts .frames < mostLines) × Counting counts ⌝ }
+    ensures { λ r. ⌜ Passed receiver counts (now (out .entry)) «written_to» r (now (out .exit)) ⌝ }
 {
-    let next = report::put_refusal(out, at, counts.frames + 1, 19);
+    let end = report::put_refusal(out, written_to, counts.frames + 1, 19);
     Step {
         receiver,
         counts: count(counts, Print::Refused(19)),
-        next,
+        written_to: end,
     }
 }
 
@@ -203,16 +211,16 @@ pub fn take(
     text: &[u8],
     storage: &mut [u8],
     out: &mut [u8],
-    at: usize,
+    written_to: usize,
     table: &[u64],
 ) -> Step
-    requires { ⌜ (at + lineRoom ≤ length (now out)) × (room ≤ length (now storage)) × (counts .frames < mostLines) × Counting counts × (now table ≡ packedRows) ⌝ }
-    ensures { λ r. ⌜ Took (kept receiver (now (storage .entry)) counts) (lineRead (now (text .entry))) (now (out .entry)) at r (now (storage .exit)) (now (out .exit)) ⌝ }
+    requires { ⌜ («written_to» + lineRoom ≤ length (now out)) × (room ≤ length (now storage)) × (counts .frames < mostLines) × Counting counts × (now table ≡ packedRows) ⌝ }
+    ensures { λ r. ⌜ Took (kept receiver (now (storage .entry)) counts) (lineRead (now (text .entry))) (now (out .entry)) «written_to» r (now (storage .exit)) (now (out .exit)) ⌝ }
 {
     let line = capture::take_apart(text);
     let answer = line.answer;
     match answer {
-        capture::Reading::Sound => hear(receiver, counts, line, storage, out, at, table),
-        capture::Reading::Malformed => malformed(receiver, counts, out, at),
+        capture::Reading::Sound => hear(receiver, counts, line, storage, out, written_to, table),
+        capture::Reading::Malformed => malformed(receiver, counts, out, written_to),
     }
 }

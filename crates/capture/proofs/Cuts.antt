@@ -10,46 +10,46 @@ use lib.ListN.{length, take, drop, length-drop}
 use Rattle.words.specs.Words.{_=?_}
 use Rattle.words.proofs.Words.{by-test}
 use Rattle.capture.specs.Stream.{newline, longestLine, mostLines, lineIn}
-use Rattle.capture.specs.Cutter.{isTooLong, carriedOn, closed, lineAt, cuttingOf, cutterAfter, nextAfter}
+use Rattle.capture.specs.Cutter.{isTooLong, carriedOn, closed, lineAt, cuttingOf, cutterAfter, readTo}
 use Rattle.capture.specs.declared.Cutter.{Cutter}
 use Rattle.capture.specs.declared.Cutting.{Cutting}
 use Rattle.capture.specs.declared.Cutting.the-variants as Cutting
 
 -- answer, cutter and position
-pub record CutIs (c : Cutter) (at : ℕ) (rest : List ℕ) (answer : Cutting) (after : Cutter) (next : ℕ) : Type 0 where
+pub record CutIs (c : Cutter) (at : ℕ) (rest : List ℕ) (answer : Cutting) (after : Cutter) (to : ℕ) : Type 0 where
   pub answer-is : answer ≡ cuttingOf c at rest
   pub cutter-is : after ≡ cutterAfter c rest
-  pub next-is : next ≡ nextAfter c at rest
+  pub read-to-is : to ≡ readTo c at rest
 
 module _ (c : Cutter) (at : ℕ) (rest : List ℕ) where
   pub all-read : mostLines ≤ c .lines → CutIs c at rest Cutting.AllRead c at
-  unfolding cuttingOf cutterAfter nextAfter
+  unfolding cuttingOf cutterAfter readTo
   all-read h =
       let e = le-leb mostLines (c .lines) h in
-      record { answer-is = rw e; cutter-is = rw e; next-is = rw e }
+      record { answer-is = rw e; cutter-is = rw e; read-to-is = rw e }
 
   pub none-left : c .lines < mostLines → rest ≡ [] → CutIs c at rest Cutting.BlockUsed c at
-  unfolding cuttingOf cutterAfter nextAfter lineIn
+  unfolding cuttingOf cutterAfter readTo lineIn
   none-left h z =
       let e = lt-leb mostLines (c .lines) h in
       let n : at ≡ at + 0 = omega arith in
-      record { answer-is = rw (e, z); cutter-is = rw (e, z); next-is = rw (e, z) n }
+      record { answer-is = rw (e, z); cutter-is = rw (e, z); read-to-is = rw (e, z) n }
 
   pub no-newline : c .lines < mostLines → length rest ≤ length (lineIn rest) → (length rest ≡ 0 → ⊥)
       → CutIs c at rest Cutting.BlockUsed (carriedOn c rest) (at + length rest)
-  unfolding cuttingOf cutterAfter nextAfter
+  unfolding cuttingOf cutterAfter readTo
   no-newline h l z =
       let e = lt-leb mostLines (c .lines) h in
       let n = le-ltb (length (lineIn rest)) (length rest) l in
-      record { answer-is = rw (e, n); cutter-is = rw (e, n, ne-eqb (length rest) 0 z); next-is = rw (e, n) }
+      record { answer-is = rw (e, n); cutter-is = rw (e, n, ne-eqb (length rest) 0 z); read-to-is = rw (e, n) }
 
   pub a-line : c .lines < mostLines → length (lineIn rest) < length rest
       → CutIs c at rest (lineAt (c .length) at (at + length (lineIn rest))) (closed c (lineIn rest)) (at + length (lineIn rest) + 1)
-  unfolding cuttingOf cutterAfter nextAfter
+  unfolding cuttingOf cutterAfter readTo
   a-line h l =
       let e = lt-leb mostLines (c .lines) h in
       let n = lt-ltb (length (lineIn rest)) (length rest) l in
-      record { answer-is = rw (e, n); cutter-is = rw (e, n); next-is = rw (e, n) }
+      record { answer-is = rw (e, n); cutter-is = rw (e, n); read-to-is = rw (e, n) }
 
 -- the line begins the rest
 pub line-length : (rest : List ℕ) → length (lineIn rest) ≤ length rest

@@ -1,4 +1,5 @@
--- Digits and the number that they spell, in any base up to sixteen: each gives the other back. Then the turns of the loops that read and write them.
+-- Digits and the number that they spell, in any base up to sixteen: each gives the other back. Then the turns of the loop
+-- that reads them.
 -- Assumes nothing.
 use mathlib.Core.Path.{_≡_, refl, sym, ap, _∙_}
 use mathlib.Core.Bool.{true}
@@ -11,11 +12,12 @@ use native.Mathlib.Omega.{arith}
 use borrow.Author.Tests.{ltb-true, ltb-false, leb-true, lt-ltb, le-ltb, le-leb, lt-leb}
 use lib.Arith.{lt-one, digits-lt, digits-div, digits-mod}
 use lib.Dec.{lit<}
-use lib.ListN.{length, getD, drop, length-append, drop-of-length-le}
+use lib.ListN.{length, getD, drop, drop-of-length-le}
 use lib.Seq.{drop-cons}
 use Rattle.words.specs.Words.{if_then_else_, _<?_, _≤?_, Told, refused, gives}
 use Rattle.words.proofs.Words.{by-test, both-true, before-refusal, gives-same}
-use Rattle.capture.specs.Digits.{digit0, digit9, letterA, letterF, glyph, digits, valueOf, areDigits, numberFrom, number, numberRead}
+use Rattle.text.specs.Text.{digit0, letterA, glyph, digits}
+use Rattle.capture.specs.Digits.{digit9, letterF, valueOf, areDigits, numberFrom, number, numberRead}
 
 -- what the value of a code is
 
@@ -180,11 +182,6 @@ module _ (base : ℕ) (positive : 0 < base) (most : base ≤ 16) where
   pub spelled-read : (k n : ℕ) → n < base ^ k → numberRead base (digits base k n) ≡ gives n
   unfolding numberRead
   spelled-read k n h = rw (are-digits k n, number-digits k n h)
-
-pub length-digits : (base k n : ℕ) → length (digits base k n) ≡ k
-unfolding digits
-length-digits base zero n = refl
-length-digits base (suc k) n = rw (length-append, length-digits base k (n / base), add-one)
 
 -- The loop that reads: from the number so far and the codes that are left.
 

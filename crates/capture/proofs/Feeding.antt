@@ -6,11 +6,13 @@ use Prim.Native.Nat.{ℕ, zero, suc, _+_, _-_, _≤_, _<_}
 use native.Mathlib.Omega.{arith}
 use borrow.Author.Tests.{ltb-true, ltb-false, leb-true, leb-false, eqb-true, eqb-false, lt-ltb, le-ltb, eq-eqb, ne-eqb}
 use lib.ListN.{length, take, drop, length-append, length-drop}
-use lib.Seq.{take-paste, length-paste, take-all, take-nil, drop-drop}
+use lib.Seq.{take-all, take-nil, drop-drop}
 use Rattle.words.specs.Words.{_<?_, _≤?_, _=?_}
 use Rattle.words.proofs.Words.{by-test}
 use Rattle.capture.specs.Stream.{newline, longestLine, mostLines, linesFrom, lineIn, Piece, whole, tooLong, pieceOf, linesOf}
-use Rattle.capture.specs.Cutter.{fresh, kept, isTooLong, carriedOn, closed, lineAt, hasNewline, cuttingOf, cutterAfter, nextAfter, endingOf}
+use Rattle.text.specs.Pieces.{placed}
+use Rattle.text.proofs.Pieces.{placed-head, length-placed}
+use Rattle.capture.specs.Cutter.{fresh, isTooLong, carriedOn, closed, lineAt, hasNewline, cuttingOf, cutterAfter, readTo, endingOf}
 use Rattle.capture.specs.Promises.{Next}
 use Rattle.capture.specs.Feeding.{joined, Yield, brings, used, over, yieldIn, yieldOf, lastPieces, Place, between, inside, Fed, a-piece, a-block-used, all-lines-read, a-block, the-end}
 use Rattle.capture.specs.Laws.{BlocksDoNotMatter, NextAdvances, WithinBlock, CarriedFits, LastFits, EveryStreamIsFed}
@@ -85,18 +87,17 @@ is-short c begun part h t =
 
 -- and a part put behind it goes on
 kept-on : (c : Cutter) (begun part : List ℕ) → Holds c begun → c .length + length part ≤ longestLine
-    → take (c .length + length part) (kept (c .carry) (c .length) part) ≡ begun ++ part
+    → take (c .length + length part) (placed (c .carry) (c .length) part) ≡ begun ++ part
 kept-on c begun part h t =
     let s = is-short c begun part h t in
     let r = h .room in
-    take-paste (c .carry) (c .length) part (length part) (omega arith) (omega arith)
-    ∙ rw (s .1, take-all (length part) part (omega arith))
+    placed-head (c .carry) part (c .length) (omega arith) ∙ rw (s .1)
 
 kept-room : (c : Cutter) (begun part : List ℕ) → Holds c begun → c .length + length part ≤ longestLine
-    → length (kept (c .carry) (c .length) part) ≡ longestLine
+    → length (placed (c .carry) (c .length) part) ≡ longestLine
 kept-room c begun part h t =
     let r = h .room in
-    length-paste (c .carry) (c .length) part (length part) (omega arith) (omega arith) ∙ r
+    length-placed (c .carry) part (c .length) (omega arith) ∙ r
 
 holds-more : (c : Cutter) (begun part : List ℕ) → Holds c begun → Holds (carriedOn c part) (begun ++ part)
 unfolding carriedOn isTooLong
@@ -150,29 +151,29 @@ ended-piece c begun part block at h p =
 -- What a call brings, and what is still to come after it.
 abbrev Outcome : Cutter → List ℕ → List ℕ → Cut → List ℕ → List ℕ → Yield → Type 0
 Outcome c begun rest r block s (brings line) =
-    (toCome c begun (rest ++ s) ≡ line ∷ toCome (r .cutter) [] (drop (r .next) block ++ s)) × Holds (r .cutter) []
+    (toCome c begun (rest ++ s) ≡ line ∷ toCome (r .cutter) [] (drop (r .«read_to») block ++ s)) × Holds (r .cutter) []
 Outcome c begun rest r block s used =
     (toCome c begun (rest ++ s) ≡ toCome (r .cutter) (begun ++ rest) s) × Holds (r .cutter) (begun ++ rest)
 Outcome c begun rest r block s over = toCome c begun (rest ++ s) ≡ []
 
 -- a cut by its three parts
-cut-is : (block : List ℕ) (at : ℕ) (c : Cutter) (r : Cut) (answer : Cutting) (after : Cutter) (next : ℕ)
-    → Next block at c r → CutIs c at (drop at block) answer after next → r ≡ record { cutter = after; answer = answer; next = next }
-cut-is block at c r answer after next p q =
+cut-is : (block : List ℕ) (at : ℕ) (c : Cutter) (r : Cut) (answer : Cutting) (after : Cutter) (to : ℕ)
+    → Next block at c r → CutIs c at (drop at block) answer after to → r ≡ record { cutter = after; answer = answer; «read_to» = to }
+cut-is block at c r answer after to p q =
     let a : r .answer ≡ answer = p .answer ∙ sym (q .answer-is) in
     let b : r .cutter ≡ after = p .cutter ∙ sym (q .cutter-is) in
-    let d : r .next ≡ next = p .next ∙ sym (q .next-is) in
+    let d : r .«read_to» ≡ to = p .read-to ∙ sym (q .read-to-is) in
     rw (← a, ← b, ← d)
 
 module _ (block : List ℕ) (at : ℕ) (c : Cutter) (begun s : List ℕ) (h : Holds c begun) where
-  outcome-over : mostLines ≤ c .lines → Outcome c begun (drop at block) (record { cutter = c; answer = Cutting.AllRead; next = at }) block s over
+  outcome-over : mostLines ≤ c .lines → Outcome c begun (drop at block) (record { cutter = c; answer = Cutting.AllRead; «read_to» = at }) block s over
   outcome-over l = let z : mostLines - c .lines ≡ 0 = omega arith in rw z
 
-  outcome-nothing : drop at block ≡ [] → Outcome c begun (drop at block) (record { cutter = c; answer = Cutting.BlockUsed; next = at }) block s used
+  outcome-nothing : drop at block ≡ [] → Outcome c begun (drop at block) (record { cutter = c; answer = Cutting.BlockUsed; «read_to» = at }) block s used
   outcome-nothing z = rw (z, append-nil) (refl, h)
 
   outcome-used : c .lines < mostLines → length (drop at block) ≤ length (lineIn (drop at block))
-      → Outcome c begun (drop at block) (record { cutter = carriedOn c (drop at block); answer = Cutting.BlockUsed; next = at + length (drop at block) }) block s used
+      → Outcome c begun (drop at block) (record { cutter = carriedOn c (drop at block); answer = Cutting.BlockUsed; «read_to» = at + length (drop at block) }) block s used
   outcome-used l n =
       let rest = drop at block in
       let e : lineIn rest ≡ rest = line-take rest ∙ take-all (length (lineIn rest)) rest n in
@@ -181,7 +182,7 @@ module _ (block : List ℕ) (at : ℕ) (c : Cutter) (begun s : List ℕ) (h : Ho
       (rw (t, k), holds-more c begun rest h)
 
   outcome-line : c .lines < mostLines → length (lineIn (drop at block)) < length (drop at block)
-      → Outcome c begun (drop at block) (record { cutter = closed c (lineIn (drop at block)); answer = lineAt (c .length) at (at + length (lineIn (drop at block))); next = at + length (lineIn (drop at block)) + 1 }) block s (brings (pieceOf (begun ++ lineIn (drop at block))))
+      → Outcome c begun (drop at block) (record { cutter = closed c (lineIn (drop at block)); answer = lineAt (c .length) at (at + length (lineIn (drop at block))); «read_to» = at + length (lineIn (drop at block)) + 1 }) block s (brings (pieceOf (begun ++ lineIn (drop at block))))
   unfolding closed
   outcome-line l n =
       let rest = drop at block in
@@ -196,10 +197,10 @@ step : (block : List ℕ) (at : ℕ) (c : Cutter) (begun s : List ℕ) → Holds
 step block at c begun s h r p =
     let rest = drop at block in
     let part = lineIn rest in
-    let by : (answer : Cutting) (after : Cutter) (next : ℕ) → CutIs c at rest answer after next
-    → Outcome c begun rest (record { cutter = after; answer = answer; next = next }) block s (yieldIn block after answer)
+    let by : (answer : Cutting) (after : Cutter) (to : ℕ) → CutIs c at rest answer after to
+    → Outcome c begun rest (record { cutter = after; answer = answer; «read_to» = to }) block s (yieldIn block after answer)
     → Outcome c begun rest r block s (yieldOf block r) =
-    λ answer after next q o. subst (λ (x : Cut). Outcome c begun rest x block s (yieldOf block x)) (sym (cut-is block at c r answer after next p q)) o in
+    λ answer after to q o. subst (λ (x : Cut). Outcome c begun rest x block s (yieldOf block x)) (sym (cut-is block at c r answer after to p q)) o in
     by-test (mostLines ≤? c .lines)
     (λ e.
     let l = leb-true mostLines (c .lines) e in
@@ -210,7 +211,7 @@ step block at c begun s h r p =
     (λ n.
     let k = ltb-true (length part) (length rest) n in
     by (lineAt (c .length) at (at + length part)) (closed c part) (at + length part + 1) (a-line c at rest l k)
-    (subst (λ (y : Yield). Outcome c begun rest (record { cutter = closed c part; answer = lineAt (c .length) at (at + length part); next = at + length part + 1 }) block s y)
+    (subst (λ (y : Yield). Outcome c begun rest (record { cutter = closed c part; answer = lineAt (c .length) at (at + length part); «read_to» = at + length part + 1 }) block s y)
     (sym (ended-piece c begun part block at h (sym (line-take rest))))
     (outcome-line block at c begun s h l k)))
     (λ n.
@@ -278,7 +279,7 @@ by-cut : {P : Type 0} (block : List ℕ) (at : ℕ) (c : Cutter) (r : Cut) → N
     → (r .answer ≡ Cutting.AllRead → P)
     → (r .answer ≡ Cutting.BlockUsed → P)
     → (length (lineIn (drop at block)) < length (drop at block) → r .answer ≡ lineAt (c .length) at (at + length (lineIn (drop at block)))
-    → r .next ≡ at + length (lineIn (drop at block)) + 1 → P)
+    → r .«read_to» ≡ at + length (lineIn (drop at block)) + 1 → P)
     → P
 by-cut block at c r p done none line =
     let rest = drop at block in
@@ -290,7 +291,7 @@ by-cut block at c r p done none line =
     (λ n.
     let k = ltb-true (length (lineIn rest)) (length rest) n in
     let q = a-line c at rest l k in
-    line k (p .answer ∙ sym (q .answer-is)) (p .next ∙ sym (q .next-is)))
+    line k (p .answer ∙ sym (q .answer-is)) (p .read-to ∙ sym (q .read-to-is)))
     (λ n.
     let k = ltb-false (length (lineIn rest)) (length rest) n in
     by-test (length rest =? 0)
@@ -395,18 +396,18 @@ last-fits n c r p e = ending-carried c n (sym (p .answer) ∙ e)
 -- Every stream can be fed.
 
 cutOf : List ℕ → ℕ → Cutter → Cut
-cutOf block at c = record { cutter = cutterAfter c (drop at block); answer = cuttingOf c at (drop at block); next = nextAfter c at (drop at block) }
+cutOf block at c = record { cutter = cutterAfter c (drop at block); answer = cuttingOf c at (drop at block); «read_to» = readTo c at (drop at block) }
 
 cut-kept : (block : List ℕ) (at : ℕ) (c : Cutter) → Next block at c (cutOf block at c)
 unfolding cutOf
-cut-kept block at c = record { answer = refl; cutter = refl; next = refl }
+cut-kept block at c = record { answer = refl; cutter = refl; read-to = refl }
 
 abbrev IsFed : Cutter → Place → List (List ℕ) → Type 0
 IsFed c place blocks = (pieces : List Piece) × Fed c place blocks pieces
 
 module _ (block : List ℕ) (blocks : List (List ℕ)) (later : (c : Cutter) → IsFed c between blocks) where
   feed-step : (c : Cutter) (at : ℕ) (r : Cut) (y : Yield) → Next block at c r → yieldOf block r ≡ y
-      → ((line : Piece) → y ≡ brings line → IsFed (r .cutter) (inside block (r .next)) blocks) → IsFed c (inside block at) blocks
+      → ((line : Piece) → y ≡ brings line → IsFed (r .cutter) (inside block (r .«read_to»)) blocks) → IsFed c (inside block at) blocks
   feed-step c at r (brings line) p e more = let m = more line refl in (line ∷ m .0, a-piece c block at blocks r line (m .0) p e (m .1))
   feed-step c at r used p e more = let m = later (r .cutter) in (m .0, a-block-used c block at blocks r (m .0) p e (m .1))
   feed-step c at r over p e more = ([], all-lines-read c block at blocks r p e)
@@ -419,7 +420,7 @@ module _ (block : List ℕ) (blocks : List (List ℕ)) (later : (c : Cutter) →
   feed-inside (suc left) c at h =
       let p = cut-kept block at c in
       feed-step c at (cutOf block at c) (yieldOf block (cutOf block at c)) p refl
-      (λ line e. let a = next-advances block at c (cutOf block at c) line p e in feed-inside left (cutOf block at c .cutter) (cutOf block at c .next) (omega arith))
+      (λ line e. let a = next-advances block at c (cutOf block at c) line p e in feed-inside left (cutOf block at c .cutter) (cutOf block at c .«read_to») (omega arith))
 
 feed : (blocks : List (List ℕ)) (c : Cutter) → IsFed c between blocks
 feed [] c = (lastPieces c (endingOf c), the-end c (endingOf c) (record { answer = refl }))

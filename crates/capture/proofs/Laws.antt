@@ -10,19 +10,20 @@ use lib.ListN.{length, take, length-append, length-take}
 use lib.Seq.{take-at}
 use Rattle.words.specs.Words.{if_then_else_, given_then_, _<?_, _=?_, Told, refused, gives}
 use Rattle.words.proofs.Words.{by-test, gives-same, refused-gives, refused-same}
+use Rattle.text.specs.Text.{decimalWidth, byteDigits}
 use Rattle.capture.specs.Digits.{numberRead, areDigits, number}
-use Rattle.capture.specs.Line.{Frame, lineOf, lineRead, IsLineOf, hasShape, gapRead, bytesRead, gapWidth, gapIn, idIn, dataIn, byteDigits}
+use Rattle.capture.specs.Line.{Frame, lineOf, lineRead, IsLineOf, hasShape, gapRead, bytesRead, gapIn, idIn, dataIn}
 use Rattle.capture.specs.Stream.{newline, longestLine, mostLines, linesFrom, Piece, pieceOf, linesOf, pieceRead}
 use Rattle.capture.specs.Promises.{toldReading, frameIn, frameIf, Write}
-use Rattle.capture.specs.Laws.{ToldReadingSame, TakeApartOnly, WriteOnly, NewOnly, NextOnly, LastOnly, ReadingRefusalOnly, MalformedKeeps, NumberBack, DigitsBack, NoLeadingZeros, SoundExactly, MalformedExactly, OnlyNineteen, OneLine, OneFrame, SoundLength, WrittenLength, textOf, WrittenTakenApart, TakenApartWritten, NoBytesNoLines, FinalNewline, NoMoreLines, PieceSays}
+use Rattle.capture.specs.Laws.{ToldReadingSame, TakeApartOnly, WriteOnly, NewOnly, NextOnly, LastOnly, ReadingRefusalOnly, MalformedKeeps, NumberBack, DigitsBack, SoundExactly, MalformedExactly, OnlyNineteen, OneLine, OneFrame, SoundLength, WrittenLength, textOf, WrittenTakenApart, TakenApartWritten, NoBytesNoLines, FinalNewline, NoMoreLines, PieceSays}
 use Rattle.capture.specs.declared.Reading.{Reading}
 use Rattle.capture.specs.declared.Reading.the-variants as Reading
 use Rattle.capture.specs.declared.Line.{Line}
 use Rattle.capture.specs.declared.Text.{Text}
 use Rattle.capture.proofs.Digits.{spelled-read, read-spelled, read-below}
 use Rattle.capture.proofs.Lines.{no-shape}
-use Rattle.capture.proofs.Pasting.{gap-width, line-length-of}
-use Rattle.capture.proofs.OneSpelling.{gap-digits, written-read, read-written}
+use Rattle.capture.proofs.Writing.{gap-width, line-length-of}
+use Rattle.capture.proofs.OneSpelling.{written-read, read-written}
 
 -- An answer is read back from what it tells.
 
@@ -65,7 +66,7 @@ pub next-only : NextOnly
 next-only block at c r s p q =
     let a : r .answer ≡ s .answer = p .answer ∙ sym (q .answer) in
     let b : r .cutter ≡ s .cutter = p .cutter ∙ sym (q .cutter) in
-    let d : r .next ≡ s .next = p .next ∙ sym (q .next) in
+    let d : r .«read_to» ≡ s .«read_to» = p .read-to ∙ sym (q .read-to) in
     rw (a, b, d)
 
 pub last-only : LastOnly
@@ -85,9 +86,6 @@ number-back base p m count n h = spelled-read base p m count n h
 
 pub digits-back : DigitsBack
 digits-back base p m text n e = (read-spelled base p m text n e, read-below base p m text n e)
-
-pub no-leading-zeros : NoLeadingZeros
-no-leading-zeros gap h = gap-digits gap h
 
 -- The one spelling.
 
@@ -120,7 +118,7 @@ unfolding gapRead
 gap-19 text =
     given-19 (numberRead 10 text) _ (number-19 10 text) (λ gap.
     if-19 (65535 <? gap) (refused 19) _ refused-19 (
-    if-19 (not (gapWidth gap =? length text)) (refused 19) (gives gap) refused-19 (gives-19 gap)))
+    if-19 (not (decimalWidth gap =? length text)) (refused 19) (gives gap) refused-19 (gives-19 gap)))
 
 bytes-19 : (count : ℕ) (text : List ℕ) → Only19 (bytesRead count text)
 unfolding bytesRead
@@ -161,15 +159,15 @@ too-long-shape line h = rw (le-leb 39 (length line) (omega arith), lt-leb (lengt
 pub sound-length : SoundLength
 sound-length line f e =
     let p = read-written line f e in
-    let n : length line ≡ gapWidth (f .gap) + 38 = ap length (p .spelling) ∙ line-length-of f (p .frame .eight) in
-    let w = gap-width (f .gap) in
+    let n : length line ≡ decimalWidth (f .gap) + 38 = ap length (p .spelling) ∙ line-length-of f (p .frame .eight) in
+    let w = gap-width (f .gap) (p .frame .gap-fits) in
     (omega arith, omega arith)
 
 pub written-length : WrittenLength
-written-length gap id bytes r e p =
+written-length gap id bytes r g e p =
     let n = line-length-of (record { gap = gap; id = id; bytes = bytes }) e in
     let c = p .count in
-    let w = gap-width gap in
+    let w = gap-width gap g in
     (omega arith, omega arith)
 
 -- The calls.

@@ -1,6 +1,6 @@
 pub mod Digits
 pub mod Lines
-pub mod Pasting
+pub mod Writing
 pub mod Stream
 pub mod Cuts
 pub mod Feeding

@@ -12,8 +12,9 @@ use lib.Dec.{lit<, lit≤}
 use lib.ListN.{length, getD, take, drop, set, length-take, drop-of-length-le}
 use lib.Seq.{drop-cons, drop-drop, take-suc-set, take-all}
 use Rattle.words.specs.Words.{if_then_else_, given_then_, _≤?_, _<?_, _=?_, Told, refused, gives}
+use Rattle.text.specs.Text.{decimalWidth}
 use Rattle.capture.specs.Digits.{numberRead}
-use Rattle.capture.specs.Line.{hasShape, beginsWith, gapRead, bytesRead, gapIn, idIn, dataIn, gapWidth, lineRead}
+use Rattle.capture.specs.Line.{hasShape, beginsWith, gapRead, bytesRead, gapIn, idIn, dataIn, lineRead}
 use Rattle.capture.specs.Promises.{TakeApart, frameIn, frameIf}
 use Rattle.capture.specs.Private.{blank}
 use Rattle.capture.specs.declared.Line.{Line}
@@ -134,15 +135,15 @@ given-gap : (t : Told ℕ) (f : ℕ → Told ℕ) (a : ℕ) → (given t then f)
 given-gap (gives n) f a e = (n, refl, e)
 given-gap (refused n) f a e = refused-gives e
 
-pub gap-known : (text : List ℕ) (gap : ℕ) → gapRead text ≡ gives gap → (numberRead 10 text ≡ gives gap) × (gap ≤ 65535) × (gapWidth gap ≡ length text)
+pub gap-known : (text : List ℕ) (gap : ℕ) → gapRead text ≡ gives gap → (numberRead 10 text ≡ gives gap) × (gap ≤ 65535) × (decimalWidth gap ≡ length text)
 unfolding gapRead
 gap-known text gap e =
-    let g = given-gap (numberRead 10 text) (λ n. if 65535 <? n then refused 19 else if not (gapWidth n =? length text) then refused 19 else gives n) gap e in
+    let g = given-gap (numberRead 10 text) (λ n. if 65535 <? n then refused 19 else if not (decimalWidth n =? length text) then refused 19 else gives n) gap e in
     let n = g .0 in
     let r₁ = past-refusal (65535 <? n) 19 _ (g .2) in
-    let r₂ = past-refusal (not (gapWidth n =? length text)) 19 _ (r₁ .1) in
+    let r₂ = past-refusal (not (decimalWidth n =? length text)) 19 _ (r₁ .1) in
     let s : n ≡ gap = gives-same (r₂ .1) in
-    (rw s at (g .1), rw s at (ltb-false 65535 n (r₁ .0)), rw s at (eqb-true (gapWidth n) (length text) (not-flips (gapWidth n =? length text) (r₂ .0))))
+    (rw s at (g .1), rw s at (ltb-false 65535 n (r₁ .0)), rw s at (eqb-true (decimalWidth n) (length text) (not-flips (decimalWidth n =? length text) (r₂ .0))))
 
 pub gap-below : (text : List ℕ) (gap : ℕ) → gapRead text ≡ gives gap → gap ≤ 65535
 gap-below text gap e = gap-known text gap e .1

@@ -6,29 +6,20 @@ use mathlib.Core.List.{List, [], _∷_, _++_, append-assoc}
 use Prim.Native.Nat.{ℕ, zero, suc, _+_, _*_, _-_, _^_, _≤_, _<_}
 use native.Mathlib.Nat.{add-comm, add-assoc}
 use native.Mathlib.Omega.{arith}
-use borrow.Author.Tests.{ltb-true, ltb-false, eqb-true, le-ltb, le-leb, eq-eqb}
+use borrow.Author.Tests.{eqb-true, le-ltb, le-leb, eq-eqb}
 use lib.Dec.{lit<, lit≤}
 use lib.ListN.{length, take, drop, length-append, length-drop, take-append-drop}
 use lib.Seq.{take-at, drop-at, take-all, drop-drop, length-take-le}
 use Rattle.words.specs.Words.{given_then_, _<?_, _≤?_, _=?_, Told, refused, gives}
 use Rattle.frame.specs.Bytes.{AreBytes}
 use Rattle.words.proofs.Words.{by-test, both-true, past-refusal, not-flips, gives-same, refused-gives, true-false}
-use Rattle.capture.specs.Digits.{digits, numberRead}
-use Rattle.capture.specs.Line.{Frame, gapKey, idKey, dataKey, gapWidth, bytePairs, lineOf, IsFrame, IsLineOf, widthIn, beginsWith, hasShape, gapRead, bytesRead, gapIn, idIn, dataIn, lineRead}
-use Rattle.capture.proofs.Digits.{length-digits, spelled-read, read-spelled, read-below}
-use Rattle.capture.proofs.Pasting.{gap-width, line-length-of}
+use Rattle.text.specs.Text.{digits, decimalWidth, decimal, bytePairs}
+use Rattle.text.proofs.Digits.{length-digits, length-decimal, width-digits}
+use Rattle.capture.specs.Digits.{numberRead}
+use Rattle.capture.specs.Line.{Frame, gapKey, idKey, dataKey, lineOf, IsFrame, IsLineOf, widthIn, beginsWith, hasShape, gapRead, bytesRead, gapIn, idIn, dataIn, lineRead}
+use Rattle.capture.proofs.Digits.{spelled-read, read-spelled, read-below}
+use Rattle.capture.proofs.Writing.{gap-width, line-length-of}
 use Rattle.capture.proofs.Lines.{gap-known, shape-length, a-frame}
-
--- A gap's width.
-
-pub gap-digits : (gap : ℕ) → gap ≤ 65535 → (gap < 10 ^ gapWidth gap) × (1 < gapWidth gap → 10 ^ (gapWidth gap - 1) ≤ gap)
-unfolding gapWidth
-gap-digits gap h =
-    by-test (gap <? 10) (λ e. let l = ltb-true gap 10 e in rw e (omega arith, λ w. absurd (omega arith))) (λ e₁.
-    by-test (gap <? 100) (λ e. let l = ltb-true gap 100 e in let g = ltb-false gap 10 e₁ in rw (e₁, e) (omega arith, λ w. omega arith)) (λ e₂.
-    by-test (gap <? 1000) (λ e. let l = ltb-true gap 1000 e in let g = ltb-false gap 100 e₂ in rw (e₁, e₂, e) (omega arith, λ w. omega arith)) (λ e₃.
-    by-test (gap <? 10000) (λ e. let l = ltb-true gap 10000 e in let g = ltb-false gap 1000 e₃ in rw (e₁, e₂, e₃, e) (omega arith, λ w. omega arith)) (λ e₄.
-    let g = ltb-false gap 10000 e₄ in rw (e₁, e₂, e₃, e₄) (omega arith, λ w. omega arith)))))
 
 -- What is written is read.
 
@@ -42,11 +33,11 @@ pairs-read (b ∷ bs) a =
     let s : b < 16 ^ 2 = a 0 in
     rw (t, d, spelled-read 16 (lit< tt) (lit≤ tt) 2 b s, pairs-read bs (λ k. a (suc k)))
 
-gap-read : (gap : ℕ) → gap ≤ 65535 → gapRead (digits 10 (gapWidth gap) gap) ≡ gives gap
-unfolding gapRead
+gap-read : (gap : ℕ) → gap ≤ 65535 → gapRead (decimal gap) ≡ gives gap
+unfolding gapRead decimal
 gap-read gap h =
-    let n = spelled-read 10 (lit< tt) (lit≤ tt) (gapWidth gap) gap (gap-digits gap h .0) in
-    rw (n, le-ltb 65535 gap h, length-digits 10 (gapWidth gap) gap, eq-eqb (gapWidth gap) (gapWidth gap) refl)
+    let n = spelled-read 10 (lit< tt) (lit≤ tt) (decimalWidth gap) gap (width-digits gap .0) in
+    rw (n, le-ltb 65535 gap h, length-digits 10 (decimalWidth gap) gap, eq-eqb (decimalWidth gap) (decimalWidth gap) refl)
 
 shape-of : (line : List ℕ) (w : ℕ) (r₁ r₂ r₃ : List ℕ) → length line ≡ w + 38 → 1 ≤ w → w ≤ 5
     → line ≡ gapKey ++ r₁ → drop (w + 4) line ≡ idKey ++ r₂ → drop (w + 16) line ≡ dataKey ++ r₃ → hasShape line ≡ true
@@ -62,14 +53,14 @@ module _ (f : Frame) (is : IsFrame f) where
   pub written-read : lineRead (lineOf f) ≡ gives f
   unfolding lineOf
   written-read =
-      let w = gapWidth (f .gap) in
-      let D = digits 10 w (f .gap) in
+      let w = decimalWidth (f .gap) in
+      let D = decimal (f .gap) in
       let I = digits 16 8 (f .id) in
       let B = bytePairs (f .bytes) in
       let line = lineOf f in
-      let d : length D ≡ w = length-digits 10 w (f .gap) in
+      let d : length D ≡ w = length-decimal (f .gap) in
       let i : length I ≡ 8 = length-digits 16 8 (f .id) in
-      let b = gap-width (f .gap) in
+      let b = gap-width (f .gap) (is .gap-fits) in
       let n : length line ≡ w + 38 = line-length-of f (is .eight) in
       let v : length line - 38 ≡ w = omega arith in
       let e₁ : line ≡ gapKey ++ (D ++ (idKey ++ I ++ dataKey ++ B)) = simp append-assoc in
@@ -156,11 +147,11 @@ line-parts line s =
     a₁ ∙ ap (λ (l : List ℕ). gapKey ++ l) (a₂ ∙ ap (λ (l : List ℕ). gapIn line ++ l) (a₃ ∙ ap (λ (l : List ℕ). idKey ++ l) (a₄ ∙ ap (λ (l : List ℕ). idIn line ++ l) a₅)))
     ∙ simp append-assoc
 
-parts-spelled : (x y z : List ℕ) (f : Frame) → gapWidth (f .gap) ≡ length x → x ≡ digits 10 (length x) (f .gap) → y ≡ digits 16 8 (f .id) → z ≡ bytePairs (f .bytes)
+parts-spelled : (x y z : List ℕ) (f : Frame) → decimalWidth (f .gap) ≡ length x → x ≡ digits 10 (length x) (f .gap) → y ≡ digits 16 8 (f .id) → z ≡ bytePairs (f .bytes)
     → gapKey ++ x ++ idKey ++ y ++ dataKey ++ z ≡ lineOf f
-unfolding lineOf
+unfolding lineOf decimal
 parts-spelled x y z f w a b e =
-    let a′ : x ≡ digits 10 (gapWidth (f .gap)) (f .gap) = a ∙ ap (λ (k : ℕ). digits 10 k (f .gap)) (sym w) in
+    let a′ : x ≡ digits 10 (decimalWidth (f .gap)) (f .gap) = a ∙ ap (λ (k : ℕ). digits 10 k (f .gap)) (sym w) in
     rw (← a′, ← b, ← e)
 
 pub read-written : (line : List ℕ) (f : Frame) → lineRead line ≡ gives f → IsLineOf f line

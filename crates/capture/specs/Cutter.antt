@@ -4,8 +4,8 @@ use mathlib.Core.Bool.{Bool}
 use mathlib.Core.List.{List}
 use Prim.Native.Nat.{ℕ, _+_, _-_}
 use lib.ListN.{length, replicate}
-use lib.Seq.{paste}
 use Rattle.words.specs.Words.{if_then_else_, _<?_, _≤?_, _=?_}
+use Rattle.text.specs.Pieces.{placed}
 use Rattle.capture.specs.Stream.{longestLine, mostLines, lineIn}
 use Rattle.capture.specs.declared.Cutter.{Cutter}
 use Rattle.capture.specs.declared.Cutting.{Cutting}
@@ -17,19 +17,16 @@ use Rattle.capture.specs.declared.Ending.the-variants as Ending
 abbrev pub fresh : Cutter
 fresh = record { carry = replicate longestLine 0; length = 0; lines = 0 }
 
--- the carry with a part of the line put behind the `size` bytes that are kept of it
-abbrev pub kept : List ℕ → ℕ → List ℕ → List ℕ
-kept carry size part = paste carry size part (length part)
-
 -- whether a line of which `size` bytes came before grows too long by so many more
 unfoldable pub isTooLong : ℕ → ℕ → Bool
 isTooLong size more = longestLine <? size + more
 
--- the cutter after a part of a line whose end has not come; of a line too long nothing more is kept
+-- the cutter after a part of a line whose end has not come: the part stands behind what was kept of the line; of a line
+-- too long nothing more is kept
 unfoldable pub carriedOn : Cutter → List ℕ → Cutter
 carriedOn c part =
     if isTooLong (c .length) (length part) then record { carry = c .carry; length = longestLine + 1; lines = c .lines } else
-    record { carry = kept (c .carry) (c .length) part; length = c .length + length part; lines = c .lines }
+    record { carry = placed (c .carry) (c .length) part; length = c .length + length part; lines = c .lines }
 
 -- the cutter after the last part of a line; a line that lies in one block is not kept
 unfoldable pub closed : Cutter → List ℕ → Cutter
@@ -63,8 +60,8 @@ cutterAfter c rest =
     if length rest =? 0 then c else
     carriedOn c rest
 
-unfoldable pub nextAfter : Cutter → ℕ → List ℕ → ℕ
-nextAfter c at rest =
+unfoldable pub readTo : Cutter → ℕ → List ℕ → ℕ
+readTo c at rest =
     if mostLines ≤? c .lines then at else
     if hasNewline rest then at + length (lineIn rest) + 1 else
     at + length rest

@@ -1,34 +1,21 @@
--- Numbers as digits, the most significant first, in bases up to sixteen (RULES 11.1 and 11.2: decimal, and hexadecimal
--- in capitals). A text is the list of its bytes' ASCII codes.
+-- Digits read, the most significant first, in bases up to sixteen (RULES 11.1 and 11.2: decimal, and hexadecimal in
+-- capitals). How a number is written is `digits` of the crate text.
 use mathlib.Core.Bool.{Bool, true}
-use mathlib.Core.List.{List, [], _∷_, _++_}
-use Prim.Native.Nat.{ℕ, zero, suc, _+_, _*_, _-_, _/_, _%_}
+use mathlib.Core.List.{List, [], _∷_}
+use Prim.Native.Nat.{ℕ, _+_, _*_, _-_}
 use Rattle.words.specs.Words.{if_then_else_, _<?_, _≤?_, _and_, Told, refused, gives}
+use Rattle.text.specs.Text.{digit0, letterA}
 
--- the codes of `0`, `9`, `A` and `F`
-abbrev pub digit0 : ℕ
-digit0 = 48
+-- the codes of `9` and `F`
 
 abbrev pub digit9 : ℕ
 digit9 = 57
-
-abbrev pub letterA : ℕ
-letterA = 65
 
 abbrev pub letterF : ℕ
 letterF = 70
 
 abbrev pub greatestBase : ℕ
 greatestBase = 16
-
--- the code of a digit
-unfoldable pub glyph : ℕ → ℕ
-glyph d = if d <? 10 then digit0 + d else letterA + (d - 10)
-
--- the last `count` digits of a number
-unfoldable pub digits : ℕ → ℕ → ℕ → List ℕ
-digits base zero n = []
-digits base (suc count) n = digits base count (n / base) ++ (glyph (n % base) ∷ [])
 
 -- the digit that a code spells; 16, which is a digit in no base, where it spells none
 unfoldable pub valueOf : ℕ → ℕ

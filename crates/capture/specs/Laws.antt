@@ -6,9 +6,10 @@ use mathlib.Core.Logic.{_↔_}
 use Prim.Native.Nat.{ℕ, _-_, _^_, _≤_, _<_}
 use lib.ListN.{length, take}
 use Rattle.words.specs.Words.{refused, gives}
+use Rattle.text.specs.Text.{digits}
 use Rattle.frame.specs.Frame.{frameBytes}
-use Rattle.capture.specs.Digits.{greatestBase, digits, numberRead}
-use Rattle.capture.specs.Line.{Frame, lineOf, lineRead, IsFrame, IsLineOf, gapWidth, greatestGap, shortestLine, longestSound}
+use Rattle.capture.specs.Digits.{greatestBase, numberRead}
+use Rattle.capture.specs.Line.{Frame, lineOf, lineRead, IsFrame, IsLineOf, greatestGap, shortestLine, longestSound}
 use Rattle.capture.specs.Stream.{newline, longestLine, mostLines, Piece, pieceOf, linesOf, pieceRead}
 use Rattle.capture.specs.Cutter.{fresh}
 use Rattle.capture.specs.Promises.{toldReading, frameIn, noFrame, TakeApart, Write, New, Next, Last, ReadingRefusal}
@@ -58,12 +59,8 @@ NumberBack = (base : ℕ) → 0 < base → base ≤ greatestBase → (count n : 
 
 abbrev pub DigitsBack : Type 0
 DigitsBack =
-    (base : ℕ) → 0 < base → base ≤ greatestBase → (text : List ℕ) (n : ℕ) → numberRead base text ≡ gives n
-    → (text ≡ digits base (length text) n) × (n < base ^ length text)
-
--- A gap has the digits that it needs and no leading zeros.
-abbrev pub NoLeadingZeros : Type 0
-NoLeadingZeros = (gap : ℕ) → gap ≤ greatestGap → (gap < 10 ^ gapWidth gap) × (1 < gapWidth gap → 10 ^ (gapWidth gap - 1) ≤ gap)
+    (base : ℕ) → 0 < base → base ≤ greatestBase → (codes : List ℕ) (n : ℕ) → numberRead base codes ≡ gives n
+    → (codes ≡ digits base (length codes) n) × (n < base ^ length codes)
 
 -- A line is read as a frame exactly when it is the one spelling of that frame, and is refused with 19 exactly when it
 -- is that of none.
@@ -92,7 +89,7 @@ SoundLength = (line : List ℕ) (f : Frame) → lineRead line ≡ gives f → (s
 
 abbrev pub WrittenLength : Type 0
 WrittenLength =
-    (gap id : ℕ) (bytes : List ℕ) (r : Text) → length bytes ≡ frameBytes → Write gap id bytes r
+    (gap id : ℕ) (bytes : List ℕ) (r : Text) → gap ≤ greatestGap → length bytes ≡ frameBytes → Write gap id bytes r
     → (shortestLine ≤ r .count) × (r .count ≤ longestSound)
 
 -- The calls: what was written is taken apart to what it was, and a sound line taken apart is written as it was.
@@ -132,7 +129,7 @@ BlocksDoNotMatter = (blocks : List (List ℕ)) (pieces : List Piece) → Fed fre
 
 -- A call that brings a line goes on in the block, and not past its end; so feeding ends.
 abbrev pub NextAdvances : Type 0
-NextAdvances = (block : List ℕ) (at : ℕ) (c : Cutter) (r : Cut) (piece : Piece) → Next block at c r → yieldOf block r ≡ brings piece → (at < r .next) × (r .next ≤ length block)
+NextAdvances = (block : List ℕ) (at : ℕ) (c : Cutter) (r : Cut) (piece : Piece) → Next block at c r → yieldOf block r ≡ brings piece → (at < r .«read_to») × (r .«read_to» ≤ length block)
 
 -- Where an answer says that a line lies, it lies.
 

@@ -8,9 +8,10 @@ use mathlib.Core.List.{List, [], _∷_, _++_}
 use Prim.Native.Nat.{ℕ, zero, suc, _+_, _-_, _^_, _≤_, _<_}
 use lib.ListN.{length, take, drop}
 use Rattle.words.specs.Words.{if_then_else_, given_then_, _<?_, _≤?_, _=?_, _and_, Told, refused, gives}
+use Rattle.text.specs.Text.{text, digits, decimalWidth, decimal, byteDigits, bytePairs}
 use Rattle.frame.specs.Bytes.{AreBytes}
 use Rattle.frame.specs.Frame.{frameBytes}
-use Rattle.capture.specs.Digits.{digits, numberRead}
+use Rattle.capture.specs.Digits.{numberRead}
 
 -- what a line says: the pause before the frame, in milliseconds, and the frame
 pub record Frame : Type 0 where
@@ -18,46 +19,29 @@ pub record Frame : Type 0 where
   pub id : ℕ
   pub bytes : List ℕ
 
--- `gap=`
+-- the keys
+
 abbrev pub gapKey : List ℕ
-gapKey = 0x67 ∷ 0x61 ∷ 0x70 ∷ 0x3D ∷ []
+gapKey = text "gap="
 
--- ` id=`
 abbrev pub idKey : List ℕ
-idKey = 0x20 ∷ 0x69 ∷ 0x64 ∷ 0x3D ∷ []
+idKey = text " id="
 
--- ` data=`
 abbrev pub dataKey : List ℕ
-dataKey = 0x20 ∷ 0x64 ∷ 0x61 ∷ 0x74 ∷ 0x61 ∷ 0x3D ∷ []
+dataKey = text " data="
 
 -- pauses go up to 65,535 ms
 abbrev pub greatestGap : ℕ
 greatestGap = 65535
 
--- the digits of an identifier, and those of a byte
+-- the digits of an identifier
 abbrev pub idDigits : ℕ
 idDigits = 8
 
-abbrev pub byteDigits : ℕ
-byteDigits = 2
-
--- how many digits a gap has without leading zeros
-unfoldable pub gapWidth : ℕ → ℕ
-gapWidth gap =
-    if gap <? 10 then 1 else
-    if gap <? 100 then 2 else
-    if gap <? 1000 then 3 else
-    if gap <? 10000 then 4 else
-    5
-
--- two digits for each byte, in their order
-unfoldable pub bytePairs : List ℕ → List ℕ
-bytePairs [] = []
-bytePairs (b ∷ bs) = digits 16 byteDigits b ++ bytePairs bs
-
 -- the line of a frame, without its newline
 unfoldable pub lineOf : Frame → List ℕ
-lineOf f = gapKey ++ digits 10 (gapWidth (f .gap)) (f .gap) ++ idKey ++ digits 16 idDigits (f .id) ++ dataKey ++ bytePairs (f .bytes)
+lineOf f =
+    gapKey ++ decimal (f .gap) ++ idKey ++ digits 16 idDigits (f .id) ++ dataKey ++ bytePairs (f .bytes)
 
 -- the frames that a line can say
 pub record IsFrame (f : Frame) : Type 0 where
@@ -87,9 +71,9 @@ abbrev pub longestSound : ℕ
 longestSound = 43
 
 unfoldable pub beginsWith : List ℕ → List ℕ → Bool
-beginsWith [] text = true
+beginsWith [] line = true
 beginsWith (k ∷ key) [] = false
-beginsWith (k ∷ key) (c ∷ text) = (c =? k) and beginsWith key text
+beginsWith (k ∷ key) (c ∷ line) = (c =? k) and beginsWith key line
 
 -- the length, and the three keys where they must stand
 unfoldable pub hasShape : List ℕ → Bool
@@ -99,18 +83,18 @@ hasShape line =
 
 -- a gap has the digits that it needs, and no more
 unfoldable pub gapRead : List ℕ → Told ℕ
-gapRead text =
-    given numberRead 10 text then λ gap.
+gapRead part =
+    given numberRead 10 part then λ gap.
     if greatestGap <? gap then refused 19 else
-    if not (gapWidth gap =? length text) then refused 19 else
+    if not (decimalWidth gap =? length part) then refused 19 else
     gives gap
 
 -- so many bytes, from two digits each
 unfoldable pub bytesRead : ℕ → List ℕ → Told (List ℕ)
-bytesRead zero text = gives []
-bytesRead (suc count) text =
-    given numberRead 16 (take byteDigits text) then λ b.
-    given bytesRead count (drop byteDigits text) then λ bs.
+bytesRead zero part = gives []
+bytesRead (suc count) part =
+    given numberRead 16 (take byteDigits part) then λ b.
+    given bytesRead count (drop byteDigits part) then λ bs.
     gives (b ∷ bs)
 
 abbrev pub gapIn : List ℕ → List ℕ

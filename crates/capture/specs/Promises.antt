@@ -1,13 +1,14 @@
 -- What each public call of this crate promises (RULES 11.7 and 13.7): one proposition over all that it answers. The
 -- answers are read as numbers and values (RULES 2.10).
 use mathlib.Core.Path.{_≡_}
-use mathlib.Core.List.{List, _++_}
-use Prim.Native.Nat.{ℕ, _-_}
+use mathlib.Core.List.{List}
+use Prim.Native.Nat.{ℕ}
 use lib.ListN.{length, drop, replicate}
 use Rattle.words.specs.Words.{Told, refused, gives, numberIn}
+use Rattle.words.specs.Lists.{filledTo}
 use Rattle.frame.specs.Frame.{frameBytes}
 use Rattle.capture.specs.Line.{Frame, lineOf, lineRead, longestSound}
-use Rattle.capture.specs.Cutter.{fresh, cuttingOf, cutterAfter, nextAfter, endingOf}
+use Rattle.capture.specs.Cutter.{fresh, cuttingOf, cutterAfter, readTo, endingOf}
 use Rattle.capture.specs.declared.Reading.{Reading}
 use Rattle.capture.specs.declared.Reading.the-variants as Reading
 use Rattle.capture.specs.declared.Line.{Line}
@@ -44,7 +45,7 @@ pub record ReadingRefusal (answer : Reading) (r : ℕ) : Type 0 where
 -- write: the line, and zeros behind it
 
 abbrev pub padded : List ℕ → List ℕ
-padded line = line ++ replicate (longestSound - length line) 0
+padded line = filledTo longestSound 0 line
 
 pub record Write (gap id : ℕ) (bytes : List ℕ) (r : Text) : Type 0 where
   pub text : r .bytes ≡ padded (lineOf (record { gap = gap; id = id; bytes = bytes }))
@@ -60,7 +61,7 @@ pub record New (r : Cutter) : Type 0 where
 pub record Next (block : List ℕ) (at : ℕ) (c : Cutter) (r : Cut) : Type 0 where
   pub answer : r .answer ≡ cuttingOf c at (drop at block)
   pub cutter : r .cutter ≡ cutterAfter c (drop at block)
-  pub next : r .next ≡ nextAfter c at (drop at block)
+  pub read-to : r .«read_to» ≡ readTo c at (drop at block)
 
 -- Cutter::last
 

@@ -7,7 +7,6 @@ ghost use Rattle.capture.specs.Cutter.{isTooLong, carriedOn, closed, lin
 use crate::Cutter;
 use crate::Cutting;
 use crate::LONGEST_LINE;
-use crate::writing;
 
 // The position of the first newline from `from` on, or the block's length.
 pub fn newline(block: &[u8], from: usize) -> usize
@@ -63,10 +62,10 @@ pub fn carry_on(cutter: Cutter, part: &[u8]) -> Cutter
         };
     }
     let mut carry = carry;
-    writing::put(&mut carry, length, part);
+    let end = text::put(&mut carry, length, part);
     Cutter {
         carry,
-        length: length + part.len(),
+        length: end,
         lines: cutter.lines,
     }
 }

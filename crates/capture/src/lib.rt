@@ -2,7 +2,6 @@
 // written, and a stream cut into lines.
 mod blocks;
 mod spelling;
-mod writing;
 
 ghost use mathlib.Core.Path.{_≡_};
 ghost use Rattle.capture.specs.Promises.{TakeApart, Write, New, Next, Last, ReadingRefusal};
@@ -61,11 +60,11 @@ pub enum Cutting {
     AllRead,
 }
 
-// The cutter afterwards, the answer, and the position in the block at which to go on.
+// The cutter afterwards, the answer, and the position up to which the block was read, at which the next call goes on.
 pub struct Cut {
     pub cutter: Cutter,
     pub answer: Cutting,
-    pub next: usize,
+    pub read_to: usize,
 }
 
 // What the end of the stream ends.
@@ -126,18 +125,11 @@ pub fn take_apart(line: &[u8]) -> Line
 pub fn write(gap: u16, id: u32, bytes: [u8; 8]) -> Text
     ensures { λ r. ⌜ Write gap id bytes r ⌝ }
 {
-    let width = spelling::width_of(gap as u32);
-    let mut text = [0u8; TEXT_BYTES];
-    writing::put(&mut text, 0, b"gap=");
-    writing::put_number(&mut text, 4, 10, gap as u32, width);
-    writing::put(&mut text, width + 4, b" id=");
-    writing::put_number(&mut text, width + 8, 16, id, 8);
-    writing::put(&mut text, width + 16, b" data=");
-    writing::put_bytes(&mut text, width + 22, bytes);
-    Text {
-        bytes: text,
-        count: width + KEYS_AND_DIGITS,
-    }
+    let mut line = [0u8; TEXT_BYTES];
+    let gap_end = text::put_decimal(&mut line, 0, b"gap=", gap as u64);
+    let id_end = text::put_hex(&mut line, gap_end, b" id=", id as u64, 8);
+    let count = text::put_bytes(&mut line, id_end, b" data=", &bytes);
+    Text { bytes: line, count }
 }
 
 impl Cutter {
@@ -160,14 +152,14 @@ impl Cutter {
             return Cut {
                 cutter: self,
                 answer: Cutting::AllRead,
-                next: at,
+                read_to: at,
             };
         }
         if block.len() <= at {
             return Cut {
                 cutter: self,
                 answer: Cutting::BlockUsed,
-                next: at,
+                read_to: at,
             };
         }
         let end = blocks::newline(block, at);
@@ -175,13 +167,13 @@ impl Cutter {
             return Cut {
                 cutter: blocks::carry_on(self, &block[at..]),
                 answer: Cutting::BlockUsed,
-                next: end,
+                read_to: end,
             };
         }
         Cut {
             cutter: blocks::close(self, &block[at..end]),
             answer: blocks::line(self.length, at, end),
-            next: end + 1,
+            read_to: end + 1,
         }
     }
 

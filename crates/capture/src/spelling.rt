@@ -4,7 +4,7 @@ ghost use mathlib.Core.List.{List};
 ghost use Prim.Native.Nat.{_+_, _≤_, _<_};
 ghost use lib.ListN.{length, drop};
 ghost use Rattle.capture.specs.Digits.{valueOf, numberRead};
-ghost use Rattle.capture.specs.Line.{hasShape, beginsWith, gapWidth, gapRead, bytesRead};
+ghost use Rattle.capture.specs.Line.{hasShape, beginsWith, gapRead, bytesRead};
 ghost use Rattle.capture.specs.Private.{toldSpelled, toldEight};
 use crate::KEYS_AND_DIGITS;
 use crate::TEXT_BYTES;
@@ -52,29 +52,10 @@ pub fn gap(part: &[u8]) -> Spelled
     if 65535 < n {
         return Spelled::Malformed;
     }
-    if width_of(n) != part.len() {
+    if text::decimal_width(n as u64) != part.len() {
         return Spelled::Malformed;
     }
     Spelled::Number(n)
-}
-
-// How many digits a gap has.
-pub fn width_of(gap: u32) -> usize
-    ensures { λ r. ⌜ (r ≡ gapWidth gap) × (r ≤ 5) ⌝ }
-{
-    if gap < 10 {
-        return 1;
-    }
-    if gap < 100 {
-        return 2;
-    }
-    if gap < 1000 {
-        return 3;
-    }
-    if gap < 10000 {
-        return 4;
-    }
-    5
 }
 
 // The number that at most eight digits spell.

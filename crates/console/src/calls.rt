@@ -2,21 +2,21 @@
 use crate::arguments;
 use crate::notes;
 use crate::say;
-use crate::words;
+use crate::typing;
 use std::num::wrapping_add_usize;
 
 // The parts, in the order of the lists below.
 pub fn part(notes: &[u64]) -> usize {
-    words::part(
+    typing::part(
         notes,
-        b"frame message fast catalogue claim nodes command faults capture exercise",
+        b"frame message fast catalogue claim nodes command faults capture exercise text",
     )
 }
 
-// Which call of a part the line asks for, counted from 0, or `words::NONE`. Its arguments are read and noted; where
+// Which call of a part the line asks for, counted from 0, or `typing::NONE`. Its arguments are read and noted; where
 // they do not fit, that is said, and there is nothing more to answer.
 pub fn asked(notes: &mut [u64], part: usize) -> usize {
-    let n = words::find(
+    let n = typing::find(
         notes,
         b"take_apart form check destination_of catalogue_form number_of bytes_of dgn_bytes dgn_of |\
           Receiver::new Receiver::hear Receiver::pause message announcement packet |\
@@ -30,7 +30,8 @@ pub fn asked(notes: &mut [u64], part: usize) -> usize {
           packed_rows row_at read write read_service_point write_service_point Sender::start Sender::add \
           Sender::clear Sender::step Sender::request Sender::reply |\
           take_apart write Cutter::new Cutter::next Cutter::last |\
-          long_message fast_packet row |",
+          long_message fast_packet row |\
+          put put_decimal put_hex put_bytes decimal_width |",
         part,
     );
     arguments::called(
@@ -44,7 +45,8 @@ pub fn asked(notes: &mut [u64], part: usize) -> usize {
           8d 4b 4b 1114 |\
           . 8 84b 84bv 4b 4b4 e e2 8 . 4b 4b |\
           b 24e . b8 . |\
-          b b1 8 |",
+          b b1 8 |\
+          88b 88b8 88b88 88b 8 |",
         part,
         n,
     )
@@ -52,7 +54,7 @@ pub fn asked(notes: &mut [u64], part: usize) -> usize {
 
 // The number of the last answer of a type. The notes of the types stand in this order.
 pub fn refusals(notes: &[u64]) {
-    let n = words::asked(
+    let n = typing::asked(
         notes,
         b"frame::Apart::refusal frame::Formed::refusal frame::BadFrame::refusal frame::Verdict::refusal \
           message::Answer::refusal message::Pausing::refusal message::Unsplittable::refusal \
@@ -70,10 +72,10 @@ pub fn refusals(notes: &[u64]) {
           faults::Stepping::refusal faults::Requesting::refusal \
           capture::Reading::refusal",
     );
-    if n == words::NONE {
+    if n == typing::NONE {
         return say::unknown();
     }
-    if words::ends_here(notes, 1) {
+    if typing::ends_here(notes, 1) {
         say::form(b"#\n", notes, wrapping_add_usize(notes::REFUSALS, n));
     }
 }

@@ -61,7 +61,7 @@ fn next(notes: &mut [u64], bytes: &[u8]) {
     keep(notes, cut.cutter);
     let answer = cut.answer;
     tell(notes, bytes, answer);
-    say::number(b" next=#\n", cut.next as u64);
+    say::number(b" next=#\n", cut.read_to as u64);
     show(notes);
 }
 

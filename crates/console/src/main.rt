@@ -17,7 +17,8 @@ mod node_table;
 mod notes;
 mod say;
 mod state;
-mod words;
+mod texts;
+mod typing;
 
 use notes::NOTES;
 use notes::bounded;
@@ -113,7 +114,7 @@ fn note(line: &[u8], notes: &mut [u64]) {
 
 // Whether nothing is asked: the line is empty, too long, or begins with # and is printed as it is.
 fn is_said(line: &[u8], notes: &[u64]) -> bool {
-    let first = words::nth_word(notes, 0);
+    let first = typing::nth_word(notes, 0);
     if first.to <= first.from {
         return true;
     }
@@ -121,7 +122,7 @@ fn is_said(line: &[u8], notes: &[u64]) -> bool {
         say::text(b"malformed: the line is too long\n");
         return true;
     }
-    if words::letter(notes, first.from) == b'#' {
+    if typing::letter(notes, first.from) == b'#' {
         print(line);
         return true;
     }
@@ -145,7 +146,7 @@ fn echo(line: &[u8], notes: &[u64]) {
 fn heed(notes: &mut [u64], desk: Desk) -> Desk {
     let part = calls::part(notes);
     let n = calls::asked(notes, part);
-    if n == words::NONE {
+    if n == typing::NONE {
         return others(notes, desk);
     }
     let mut data = notes::typed(notes);
@@ -206,13 +207,14 @@ fn answer_alone(notes: &mut [u64], bytes: &[u8], part: usize, n: usize) {
         5 => node_table::call(n, notes, bytes),
         6 => commands::call(n, notes, bytes),
         8 => captures::call(n, notes, bytes),
+        10 => texts::call(n, notes, bytes),
         _ => exercises::call(n, notes, bytes),
     }
 }
 
 // A line that asks for no call.
 fn others(notes: &mut [u64], desk: Desk) -> Desk {
-    match words::asked(notes, b"set show") {
+    match typing::asked(notes, b"set show") {
         0 => set(notes, desk),
         1 => {
             show(notes, desk);
@@ -227,7 +229,7 @@ fn others(notes: &mut [u64], desk: Desk) -> Desk {
 
 // `set message.storage[5] 7`, `set catalogue.packed[0] 0x0EF0000080`; and what stands in the notes.
 fn set(notes: &mut [u64], desk: Desk) -> Desk {
-    match words::find_state(notes, b"message.storage fast.storage catalogue.packed") {
+    match typing::find_state(notes, b"message.storage fast.storage catalogue.packed") {
         0 => set_long(notes, desk),
         1 => set_fast(notes, desk),
         2 => set_packed(notes, desk),
@@ -264,11 +266,11 @@ fn set_packed(notes: &mut [u64], desk: Desk) -> Desk {
 
 // `show claim`.
 fn show(notes: &[u64], desk: Desk) {
-    let more = words::nth_word(notes, 2);
+    let more = typing::nth_word(notes, 2);
     if more.from < more.to {
         return say::unknown();
     }
-    match words::find_state(notes, b"message fast") {
+    match typing::find_state(notes, b"message fast") {
         0 => {
             let long = desk.long;
             messages::show(notes, &long)
@@ -282,7 +284,7 @@ fn show(notes: &[u64], desk: Desk) {
 }
 
 fn show_noted(notes: &[u64]) {
-    match words::find_state(notes, b"catalogue claim nodes command faults capture") {
+    match typing::find_state(notes, b"catalogue claim nodes command faults capture") {
         0 => fields::show(notes),
         1 => claims::show(notes),
         2 => node_table::show(notes),
@@ -295,14 +297,14 @@ fn show_noted(notes: &[u64]) {
 
 // The console's own words, and the numbers of refusals.
 fn console_words(notes: &mut [u64]) {
-    let n = words::asked(notes, b"echo help");
+    let n = typing::asked(notes, b"echo help");
     match arguments::called(notes, b"t .", 0, n) {
         0 => {
             let on = get(notes, notes::FIRST);
             put(notes, notes::ECHO, on);
         }
         1 => help(),
-        words::NONE => calls::refusals(notes),
+        typing::NONE => calls::refusals(notes),
         _ => {}
     }
 }

@@ -16,6 +16,8 @@ pub const THIRD: usize = 2;
 
 pub const FOURTH: usize = 3;
 
+pub const FIFTH: usize = 4;
+
 // How many letters the line has, how many bytes its argument of bytes, and how many numbers its list.
 pub const LETTERS: usize = 7;
 

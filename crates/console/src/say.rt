@@ -1,9 +1,10 @@
 // What the console prints: texts, numbers, bytes, and the end of an answer with its number.
 use crate::notes;
+use crate::notes::bounded;
 use crate::notes::byte_at;
 use crate::notes::get;
 use crate::notes::put;
-use crate::words;
+use crate::typing;
 use libc::STDOUT_FILENO;
 use std::num::wrapping_add_usize;
 
@@ -49,7 +50,7 @@ pub fn number(pattern: &[u8], number: u64) {
 
 // One of these words, counted from 0.
 pub fn word(words: &[u8], n: usize) {
-    let word = words::nth_name(words, 0, n);
+    let word = typing::nth_name(words, 0, n);
     characters(words, word.from, word.to);
 }
 
@@ -68,12 +69,16 @@ fn character(c: u8) {
 }
 
 fn decimal(number: u64) {
-    io::print_decimal(STDOUT_FILENO, number);
+    let mut digits = [0u8; 20];
+    let end = text::put_decimal(&mut digits, 0, b"", number);
+    let count = bounded(end, &digits);
+    text(&digits[..count]);
 }
 
-fn hex(number: u64, width: usize) {
+// At least so many digits, and more where the number has more; in small letters, as `text` writes none.
+fn hex(number: u64, least: usize) {
     text(b"0x");
-    io::print_hex(STDOUT_FILENO, number, width);
+    io::print_hex(STDOUT_FILENO, number, least);
 }
 
 // A number that may be negative.

@@ -12,13 +12,13 @@ use crate::notes::put;
 use crate::notes::put_all;
 use crate::notes::record;
 use crate::say;
-use crate::words::NONE;
-use crate::words::ends_here;
-use crate::words::find_field;
-use crate::words::find_state;
-use crate::words::letter;
-use crate::words::nth_word;
-use crate::words::number_in;
+use crate::typing::NONE;
+use crate::typing::ends_here;
+use crate::typing::find_field;
+use crate::typing::find_state;
+use crate::typing::letter;
+use crate::typing::nth_word;
+use crate::typing::number_in;
 use std::num::wrapping_add_usize;
 
 // The head of a record, with its position, and its fields; nothing where they are all 0. Whether it was printed.

@@ -129,6 +129,13 @@ use Rattle.capture.proofs.Cutter.new.Met as capture-new
 use Rattle.capture.proofs.Cutter.next.Met as capture-next
 use Rattle.capture.proofs.Cutter.last.Met as capture-last
 use Rattle.capture.proofs.Reading.refusal.Met as capture-reading-refusal
+use Rattle.text.specs.Promises as text-promises
+use Rattle.text.proofs.Laws as Text
+use Rattle.text.proofs.put.Met as text-put
+use Rattle.text.proofs.put_decimal.Met as text-put-decimal
+use Rattle.text.proofs.put_hex.Met as text-put-hex
+use Rattle.text.proofs.put_bytes.Met as text-put-bytes
+use Rattle.text.proofs.decimal_width.Met as text-decimal-width
 use Rattle.demands.specs.EveryCall.{AsksNothing, EveryCall}
 
 -- What Rattle makes of a contract with no `requires`.
@@ -1022,5 +1029,53 @@ every-call M =
         promises = λ 𝓤 H A mem run κs a ghost r. refl;
         one-answer = λ κs a r s w v h k. (Capture.last-only (a .0) r s h k, refl);
         only = Capture.last-only;
+      };
+      text-put = record {
+        meets = text-put.met;
+        asks-nothing = free;
+        Promise = λ κs a r e. text-promises.Put (now (a .0)) (a .1 .0) (now (a .1 .1 .0)) r (now (e .0));
+        promises = λ 𝓤 H A mem run κs a ghost r. refl;
+        one-answer = λ κs a r s w v h k.
+            lent (λ x. (x, (tt, (tt, tt))))
+            (Text.put-only (now (a .0)) (a .1 .0) (now (a .1 .1 .0)) r s (w .0) (v .0) h k);
+        only = Text.put-only;
+      };
+      text-put-decimal = record {
+        meets = text-put-decimal.met;
+        asks-nothing = free;
+        Promise = λ κs a r e. text-promises.PutDecimal (now (a .0)) (a .1 .0) (now (a .1 .1 .0)) (a .1 .1 .1 .0) r (now (e .0));
+        promises = λ 𝓤 H A mem run κs a ghost r. refl;
+        one-answer = λ κs a r s w v h k.
+            lent (λ x. (x, (tt, (tt, (tt, tt)))))
+            (Text.put-decimal-only (now (a .0)) (a .1 .0) (now (a .1 .1 .0)) (a .1 .1 .1 .0) r s (w .0) (v .0) h k);
+        only = Text.put-decimal-only;
+      };
+      text-put-hex = record {
+        meets = text-put-hex.met;
+        asks-nothing = free;
+        Promise = λ κs a r e. text-promises.PutHex (now (a .0)) (a .1 .0) (now (a .1 .1 .0)) (a .1 .1 .1 .0) (a .1 .1 .1 .1 .0) r (now (e .0));
+        promises = λ 𝓤 H A mem run κs a ghost r. refl;
+        one-answer = λ κs a r s w v h k.
+            lent (λ x. (x, (tt, (tt, (tt, (tt, tt))))))
+            (Text.put-hex-only (now (a .0)) (a .1 .0) (now (a .1 .1 .0)) (a .1 .1 .1 .0) (a .1 .1 .1 .1 .0) r s (w .0) (v .0) h k);
+        only = Text.put-hex-only;
+      };
+      text-put-bytes = record {
+        meets = text-put-bytes.met;
+        asks-nothing = free;
+        Promise = λ κs a r e. text-promises.PutBytes (now (a .0)) (a .1 .0) (now (a .1 .1 .0)) (now (a .1 .1 .1 .0)) r (now (e .0));
+        promises = λ 𝓤 H A mem run κs a ghost r. refl;
+        one-answer = λ κs a r s w v h k.
+            lent (λ x. (x, (tt, (tt, (tt, tt)))))
+            (Text.put-bytes-only (now (a .0)) (a .1 .0) (now (a .1 .1 .0)) (now (a .1 .1 .1 .0)) r s (w .0) (v .0) h k);
+        only = Text.put-bytes-only;
+      };
+      text-decimal-width = record {
+        meets = text-decimal-width.met;
+        asks-nothing = free;
+        Promise = λ κs a r e. text-promises.DecimalWidth (a .0) r;
+        promises = λ 𝓤 H A mem run κs a ghost r. refl;
+        one-answer = λ κs a r s w v h k. (Text.decimal-width-only (a .0) r s h k, refl);
+        only = Text.decimal-width-only;
       };
     }

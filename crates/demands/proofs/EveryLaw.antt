@@ -39,8 +39,10 @@ use Rattle.faults.proofs.Longest as FaultsLongest
 use Rattle.faults.proofs.Played as FaultsPlayed
 use Rattle.capture.proofs.Feeding as CaptureFeeding
 use Rattle.capture.proofs.Laws as Capture
+use Rattle.text.proofs.Laws as Text
 use Rattle.demands.specs.EveryLaw.{EveryLaw, FrameLaws, FormatLaws, CallLaws, PlacesLaws, MessageLaws, FastLaws}
 use Rattle.demands.specs.EveryLaw.{CatalogueLaws, ClaimLaws, NodesLaws, CommandLaws, FaultsLaws, CaptureLaws}
+use Rattle.demands.specs.EveryLaw.{TextLaws}
 
 frame-laws : FrameLaws
 frame-laws =
@@ -538,7 +540,6 @@ capture-laws =
       malformed-keeps = Capture.malformed-keeps;
       number-back = Capture.number-back;
       digits-back = Capture.digits-back;
-      no-leading-zeros = Capture.no-leading-zeros;
       sound-exactly = Capture.sound-exactly;
       malformed-exactly = Capture.malformed-exactly;
       only-nineteen = Capture.only-nineteen;
@@ -560,6 +561,20 @@ capture-laws =
       every-stream-is-fed = CaptureFeeding.every-stream-is-fed;
     }
 
+text-laws : TextLaws
+text-laws =
+    record {
+      put-only = Text.put-only;
+      put-decimal-only = Text.put-decimal-only;
+      put-hex-only = Text.put-hex-only;
+      put-bytes-only = Text.put-bytes-only;
+      decimal-width-only = Text.decimal-width-only;
+      fits-wrote = Text.fits-wrote;
+      no-room-keeps = Text.no-room-keeps;
+      no-leading-zeros = Text.no-leading-zeros;
+      width-at-most = Text.width-at-most;
+    }
+
 pub every-law : EveryLaw
 every-law =
     record {
@@ -573,4 +588,5 @@ every-law =
       command = command-laws;
       faults = faults-laws;
       capture = capture-laws;
+      text = text-laws;
     }

@@ -133,6 +133,12 @@ use Rattle.capture.proofs.Cutter.new as capture-new
 use Rattle.capture.proofs.Cutter.next as capture-next
 use Rattle.capture.proofs.Cutter.last as capture-last
 use Rattle.capture.proofs.Reading.refusal as capture-reading-refusal
+use Rattle.text.specs.Laws as Text
+use Rattle.text.proofs.put as text-put
+use Rattle.text.proofs.put_decimal as text-put-decimal
+use Rattle.text.proofs.put_hex as text-put-hex
+use Rattle.text.proofs.put_bytes as text-put-bytes
+use Rattle.text.proofs.decimal_width as text-decimal-width
 
 -- A contract's `requires` asks nothing of a caller: there is a value of what the contract binds, and at each it is ⊤ₛ.
 pub record AsksNothing {M : Type 1} (𝓤 : URA M) {Ghost : Type 0} (requires : Ghost → SProp 𝓤) : Type 2 where
@@ -432,6 +438,16 @@ module _ (M : Type 1) where
     pub capture-new : Answers capture-new.ended capture-new.Symbol.routine capture-new.spec Capture.NewOnly
     pub capture-next : Answers capture-next.ended capture-next.Symbol.routine capture-next.spec Capture.NextOnly
     pub capture-last : Answers capture-last.ended capture-last.Symbol.routine capture-last.spec Capture.LastOnly
+    -- Text put into lent bytes
+    pub text-put : Answers text-put.ended text-put.Symbol.routine text-put.spec Text.PutOnly
+    pub text-put-decimal :
+        Answers text-put-decimal.ended text-put-decimal.Symbol.routine text-put-decimal.spec Text.PutDecimalOnly
+    pub text-put-hex : Answers text-put-hex.ended text-put-hex.Symbol.routine text-put-hex.spec Text.PutHexOnly
+    pub text-put-bytes :
+        Answers text-put-bytes.ended text-put-bytes.Symbol.routine text-put-bytes.spec Text.PutBytesOnly
+    pub text-decimal-width :
+        Answers text-decimal-width.ended text-decimal-width.Symbol.routine text-decimal-width.spec
+        Text.DecimalWidthOnly
 
 abbrev pub EveryCall : Type 2
 EveryCall = (M : Type 1) → EveryCallOver M

@@ -24,6 +24,7 @@ use Rattle.faults.specs.FieldLaws as FaultsFields
 use Rattle.faults.specs.Laws as Faults
 use Rattle.faults.specs.Runs as FaultsRuns
 use Rattle.capture.specs.Laws as Capture
+use Rattle.text.specs.Laws as Text
 use Rattle.message.specs.declared.Place.{Place}
 use Rattle.catalogue.specs.declared.Row.{Row}
 use Rattle.catalogue.specs.declared.Value.{Value}
@@ -499,7 +500,6 @@ pub record CaptureLaws : Type 0 where
   pub malformed-keeps : Capture.MalformedKeeps
   pub number-back : Capture.NumberBack
   pub digits-back : Capture.DigitsBack
-  pub no-leading-zeros : Capture.NoLeadingZeros
   pub sound-exactly : Capture.SoundExactly
   pub malformed-exactly : Capture.MalformedExactly
   pub only-nineteen : Capture.OnlyNineteen
@@ -520,6 +520,17 @@ pub record CaptureLaws : Type 0 where
   pub last-fits : Capture.LastFits
   pub every-stream-is-fed : Capture.EveryStreamIsFed
 
+pub record TextLaws : Type 0 where
+  pub put-only : Text.PutOnly
+  pub put-decimal-only : Text.PutDecimalOnly
+  pub put-hex-only : Text.PutHexOnly
+  pub put-bytes-only : Text.PutBytesOnly
+  pub decimal-width-only : Text.DecimalWidthOnly
+  pub fits-wrote : Text.FitsWrote
+  pub no-room-keeps : Text.NoRoomKeeps
+  pub no-leading-zeros : Text.NoLeadingZeros
+  pub width-at-most : Text.WidthAtMost
+
 pub record EveryLaw : Type 1 where
   pub frame : FrameLaws
   pub places : PlacesLaws
@@ -531,3 +542,4 @@ pub record EveryLaw : Type 1 where
   pub command : CommandLaws
   pub faults : FaultsLaws
   pub capture : CaptureLaws
+  pub text : TextLaws

@@ -103,16 +103,16 @@ fn next_line(listener: Listener, block: &[u8], at: usize, storage: &mut [u8]) ->
     match answer {
         Cutting::Within { from, to } => {
             let panel = hear_line(panel, &block[from..to], storage);
-            turned(cutter, panel, true, cut.next)
+            turned(cutter, panel, true, cut.read_to)
         }
         Cutting::Carried(count) => {
             let carry = cutter.carry;
             let panel = hear_line(panel, &carry[..count], storage);
-            turned(cutter, panel, true, cut.next)
+            turned(cutter, panel, true, cut.read_to)
         }
         Cutting::TooLong => {
             too_long();
-            turned(cutter, panel, true, cut.next)
+            turned(cutter, panel, true, cut.read_to)
         }
         Cutting::BlockUsed => turned(cutter, panel, true, block.len()),
         Cutting::AllRead => turned(cutter, panel, false, block.len()),

@@ -10,6 +10,7 @@ use crate::state::Tank;
 use libc::STDOUT_FILENO;
 use rvc::claims::Claim;
 use rvc::claims::Standing;
+use rvc::texts;
 
 // The whole panel.
 pub fn show_panel(panel: Panel) {
@@ -45,14 +46,14 @@ pub fn show_standing(claim: Claim) {
 
 fn show_address(address: u8, standing: &[u8]) {
     say(b"address ");
-    hex(address);
+    hex(address as u64, 2);
     say(standing);
 }
 
 // A node, by its address and its NAME.
 pub fn show_name(address: u8, name: u64) {
     say(b"node ");
-    hex(address);
+    hex(address as u64, 2);
     say(b": NAME ");
     end_name(name);
 }
@@ -60,22 +61,14 @@ pub fn show_name(address: u8, name: u64) {
 // Who challenges the node at an address.
 pub fn show_challenger(address: u8, name: u64) {
     say(b"node ");
-    hex(address);
+    hex(address as u64, 2);
     say(b": challenged by NAME ");
     end_name(name);
 }
 
 // The end of a line with a NAME.
 fn end_name(name: u64) {
-    let bytes = rvc::identifiers::bytes_of(name);
-    hex(bytes[7]);
-    hex(bytes[6]);
-    hex(bytes[5]);
-    hex(bytes[4]);
-    hex(bytes[3]);
-    hex(bytes[2]);
-    hex(bytes[1]);
-    hex(bytes[0]);
+    hex(name, 16);
     say(b"\n");
 }
 
@@ -138,7 +131,7 @@ fn end_value(silence: u32) {
 // The text of a product identification, its bytes as they are (3.2.8).
 pub fn show_product(sender: u8, text: &[u8]) {
     say(b"product of ");
-    hex(sender);
+    hex(sender as u64, 2);
     say(b": ");
     say(text);
     say(b"\n");
@@ -236,25 +229,16 @@ fn two_digits(number: u64) {
 }
 
 fn decimal(number: u64) {
-    io::print_decimal(STDOUT_FILENO, number);
+    let mut digits = [0u8; 20];
+    let end = texts::put_decimal(&mut digits, 0, b"", number);
+    say(&digits[..end]);
 }
 
-fn hex(byte: u8) {
-    hex_digit(byte / 16);
-    hex_digit(byte % 16);
-}
-
-// In capitals, as in a recording.
-fn hex_digit(digit: u8) {
-    match digit {
-        10 => say(b"A"),
-        11 => say(b"B"),
-        12 => say(b"C"),
-        13 => say(b"D"),
-        14 => say(b"E"),
-        15 => say(b"F"),
-        _ => decimal(digit as u64),
-    }
+// The last digits of a number, sixteen at most, in capitals as in a recording.
+fn hex(number: u64, count: usize) {
+    let mut digits = [0u8; 16];
+    let end = texts::put_hex(&mut digits, 0, b"", number, count);
+    say(&digits[..end]);
 }
 
 pub fn say(text: &[u8]) {

@@ -28,3 +28,6 @@ pub mod diagnostics;
 
 // RULES 11: a line taken apart and written, and a stream cut into lines by `Cutter::new`, `next` and `last`.
 pub mod captures;
+
+// RULES 11.17: words, numbers and bytes put as text into lent bytes.
+pub mod texts;

@@ -10,10 +10,10 @@ use Rattle.busread.proofs.feed.Statement.{statement}
 use Rattle.busread.proofs.feed.Tie as tie
 
 abbrev Inv-loop : tie.InvT-loop
-Inv-loop block storage₀ out₀ table reader₀ at₀ storage out reader at = (length out ≡ length out₀) × (length storage ≡ length storage₀) × Ready reader
+Inv-loop block storage₀ out₀ table reader₀ readTo₀ storage out reader readTo = (length out ≡ length out₀) × (length storage ≡ length storage₀) × Ready reader
 
 abbrev μ-loop : tie.MeasureT-loop
-μ-loop block storage₀ out₀ table reader₀ at₀ storage out reader at = length block - at
+μ-loop block storage₀ out₀ table reader₀ readTo₀ storage out reader readTo = length block - readTo
 
 loop-holds : tie.Need-loop-holds Inv-loop μ-loop
 loop-holds c = (refl, refl, c .before .before .before .before .pre .2)
@@ -25,7 +25,7 @@ slice-reshare-prefix-write-all : tie.Need-slice-reshare-prefix-write-all Inv-loo
 slice-reshare-prefix-write-all c = search needs
 
 slice-aggregate-write-all : tie.Need-slice-aggregate-write-all Inv-loop μ-loop
-slice-aggregate-write-all c = sym (length-take-le (c .before .before .before .before .before .lines .result .next) (c .before .before .before .before .before .lines .last .1 .1 .1 .1 .0) (c .before .before .before .before .before .lines .ensures .fits))
+slice-aggregate-write-all c = sym (length-take-le (c .before .before .before .before .before .lines .result .«written_to») (c .before .before .before .before .before .lines .last .1 .1 .1 .1 .0) (c .before .before .before .before .before .lines .ensures .fits))
 
 write-all-requires : tie.Need-write-all-requires Inv-loop μ-loop
 write-all-requires c κs = search needs

@@ -12,13 +12,13 @@ use Rattle.busread.proofs.reader.lines.Statement.{statement}
 use Rattle.busread.proofs.reader.lines.Tie as tie
 
 abbrev Inv-loop : tie.InvT-loop
-Inv-loop block from storage₀ out₀ table reader₀ at₀ next₀ storage out reader at next =
-    Ran block from (reader₀ .cutter) (keptBy reader₀ storage₀) (take next out) at (reader .cutter) (keptBy reader storage) On
-    × Ready reader × (next ≤ length out) × (length out ≡ length out₀) × (length storage ≡ length storage₀) × (from ≤ at)
-    × ((next ≡ 0) ⊎ ((from < at) × (at ≤ length block)))
+Inv-loop block from storage₀ out₀ table reader₀ readTo₀ writtenTo₀ storage out reader readTo writtenTo =
+    Ran block from (reader₀ .cutter) (keptBy reader₀ storage₀) (take writtenTo out) readTo (reader .cutter) (keptBy reader storage) On
+    × Ready reader × (writtenTo ≤ length out) × (length out ≡ length out₀) × (length storage ≡ length storage₀) × (from ≤ readTo)
+    × ((writtenTo ≡ 0) ⊎ ((from < readTo) × (readTo ≤ length block)))
 
 abbrev μ-loop : tie.MeasureT-loop
-μ-loop block from storage₀ out₀ table reader₀ at₀ next₀ storage out reader at next = length block - at
+μ-loop block from storage₀ out₀ table reader₀ readTo₀ writtenTo₀ storage out reader readTo writtenTo = length block - readTo
 
 loop-holds : tie.Need-loop-holds Inv-loop μ-loop
 loop-holds c = (begun, c .before .before .before .before .pre .2, omega arith, refl, refl, omega arith, inl refl)

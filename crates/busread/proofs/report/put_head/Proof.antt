@@ -1,6 +1,7 @@
 -- `busread::report::put_head` meets its contract. Assumes nothing.
 use Rattle.busread.specs.Report.{headText}
-use Rattle.busread.proofs.Writing.{behind}
+use Rattle.text.specs.Text.{text}
+use Rattle.text.proofs.Pieces.{wrote-decimal, wrote-hex, behind}
 use native.Mathlib.Omega.{arith}
 use borrow.Author.Needs.{needs}
 use Rattle.busread.proofs.report.put_head.Statement.{statement}
@@ -29,7 +30,14 @@ same-length c = search needs
 
 returns : tie.Need-returns
 unfolding headText
-returns c = (behind (behind (c .before .before .before .before .before .before .before .before .before .before .before .before .put-decimal .ensures .0) (c .before .before .before .before .before .before .before .put-hex .ensures .0)) (c .before .before .put-hex2 .ensures .0), omega arith)
+returns c =
+    let q₃ = c .before .before in
+    let q₂ = q₃ .before .before .before .before .before in
+    let q₁ = q₂ .before .before .before .before .before in
+    let w₁ = wrote-decimal (text "frame=") _ (q₁ .put-decimal .ensures) (omega arith) (omega arith) in
+    let w₂ = wrote-hex (text " sa=") _ 2 (q₂ .put-hex .ensures) (omega (arith, w₁ .1, w₁ .0 .room)) in
+    let w₃ = wrote-hex (text " dgn=") _ 5 (q₃ .put-hex2 .ensures) (omega (arith, w₁ .1, w₁ .0 .room, w₂ .1, w₂ .0 .room)) in
+    (behind (behind (w₁ .0) (w₂ .0)) (w₃ .0), omega (arith, w₁ .1, w₂ .1, w₃ .1))
 
 pub put-head-spec : {M : Type 1} → statement M
 put-head-spec =

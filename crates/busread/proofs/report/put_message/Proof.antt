@@ -1,5 +1,6 @@
 -- `busread::report::put_message` meets its contract. Assumes nothing.
-use Rattle.busread.proofs.Writing.{behind}
+use Rattle.text.specs.Text.{text}
+use Rattle.text.proofs.Pieces.{wrote-decimal, wrote-bytes, fits-wrote, behind}
 use Rattle.busread.specs.Report.{messageText}
 use native.Mathlib.Omega.{arith}
 use borrow.Author.Needs.{needs}
@@ -11,9 +12,6 @@ put-head-requires c κs = search needs
 
 slice-aggregate-put-decimal : tie.Need-slice-aggregate-put-decimal
 slice-aggregate-put-decimal c = search needs
-
-cast-put-decimal : tie.Need-cast-put-decimal
-cast-put-decimal c = search needs
 
 put-decimal-requires : tie.Need-put-decimal-requires
 put-decimal-requires c κs = search needs
@@ -35,7 +33,16 @@ same-length c = search needs
 
 returns : tie.Need-returns
 unfolding messageText
-returns c = (behind (behind (behind (c .before .before .before .before .before .before .before .before .before .before .before .before .before .before .before .before .before .put-head .ensures .0) (c .before .before .before .before .before .before .before .before .before .before .before .before .put-decimal .ensures .0)) (c .before .before .before .before .before .before .before .put-bytes .ensures .0)) (c .before .before .put .ensures), omega arith)
+returns c =
+    let q₄ = c .before .before in
+    let q₃ = q₄ .before .before .before .before .before in
+    let q₂ = q₃ .before .before .before .before .before in
+    let q₁ = q₂ .before .before .before .before .before in
+    let h = q₁ .put-head .ensures in
+    let w₂ = wrote-decimal (text " length=") _ (q₂ .put-decimal .ensures) (omega arith) (omega (arith, h .1, h .0 .room)) in
+    let w₃ = wrote-bytes (text " bytes=") _ (q₃ .put-bytes .ensures) (omega (arith, h .1, h .0 .room, w₂ .1, w₂ .0 .room)) in
+    let w₄ = fits-wrote {word = text "\n"} (q₄ .put .ensures) (omega (arith, h .1, h .0 .room, w₂ .1, w₂ .0 .room, w₃ .1, w₃ .0 .room)) in
+    (behind (behind (behind (h .0) (w₂ .0)) (w₃ .0)) w₄, omega (arith, h .1, w₂ .1, w₃ .1, w₄ .next))
 
 pub put-message-spec : {M : Type 1} → statement M
 put-message-spec =
@@ -43,7 +50,6 @@ put-message-spec =
     (tie.spec
     put-head-requires
     slice-aggregate-put-decimal
-    cast-put-decimal
     put-decimal-requires
     slice-aggregate-put-bytes
     put-bytes-requires

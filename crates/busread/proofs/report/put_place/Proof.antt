@@ -1,6 +1,7 @@
 -- `busread::report::put_place` meets its contract. Assumes nothing.
 use Rattle.busread.specs.Report.{placeText}
-use Rattle.busread.proofs.Writing.{behind}
+use Rattle.text.specs.Text.{text}
+use Rattle.text.proofs.Pieces.{wrote-decimal, behind}
 use native.Mathlib.Omega.{arith}
 use borrow.Author.Needs.{needs}
 use Rattle.busread.proofs.report.put_place.Statement.{statement}
@@ -29,7 +30,12 @@ same-length c = search needs
 
 returns : tie.Need-returns
 unfolding placeText
-returns c = (behind (c .before .before .before .before .before .before .before .before .put-decimal .ensures .0) (c .before .before .put-decimal2 .ensures .0), omega arith)
+returns c =
+    let q₂ = c .before .before in
+    let q₁ = q₂ .before .before .before .before .before .before in
+    let w₁ = wrote-decimal (text " bit=") _ (q₁ .put-decimal .ensures) (omega arith) (omega arith) in
+    let w₂ = wrote-decimal (text " width=") _ (q₂ .put-decimal2 .ensures) (omega arith) (omega (arith, w₁ .1, w₁ .0 .room)) in
+    (behind (w₁ .0) (w₂ .0), omega (arith, w₁ .1, w₂ .1))
 
 pub put-place-spec : {M : Type 1} → statement M
 put-place-spec =

@@ -1,6 +1,7 @@
 -- `busread::report::put_refusal` meets its contract. Assumes nothing.
 use Rattle.busread.specs.Report.{refusalText}
-use Rattle.busread.proofs.Writing.{behind}
+use Rattle.text.specs.Text.{text}
+use Rattle.text.proofs.Pieces.{wrote-decimal, fits-wrote, behind}
 use native.Mathlib.Omega.{arith}
 use borrow.Author.Needs.{needs}
 use Rattle.busread.proofs.report.put_refusal.Statement.{statement}
@@ -29,7 +30,14 @@ same-length c = search needs
 
 returns : tie.Need-returns
 unfolding refusalText
-returns c = (behind (behind (c .before .before .before .before .before .before .before .before .before .before .before .before .put-decimal .ensures .0) (c .before .before .before .before .before .before .before .put-decimal2 .ensures .0)) (c .before .before .put .ensures), omega arith)
+returns c =
+    let q₃ = c .before .before in
+    let q₂ = q₃ .before .before .before .before .before in
+    let q₁ = q₂ .before .before .before .before .before in
+    let w₁ = wrote-decimal (text "frame=") _ (q₁ .put-decimal .ensures) (omega arith) (omega arith) in
+    let w₂ = wrote-decimal (text " refusal=") _ (q₂ .put-decimal2 .ensures) (omega arith) (omega (arith, w₁ .1, w₁ .0 .room)) in
+    let w₃ = fits-wrote {word = text "\n"} (q₃ .put .ensures) (omega (arith, w₁ .1, w₁ .0 .room, w₂ .1, w₂ .0 .room)) in
+    (behind (behind (w₁ .0) (w₂ .0)) w₃, omega (arith, w₁ .1, w₂ .1, w₃ .next))
 
 pub put-refusal-spec : {M : Type 1} → statement M
 put-refusal-spec =

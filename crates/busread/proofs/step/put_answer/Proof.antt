@@ -2,7 +2,7 @@
 use mathlib.Core.Path.{sym, _∙_}
 use Rattle.message.specs.Promises.{toldAnswer}
 use Rattle.capture.specs.Promises.{frameIn}
-use Rattle.busread.proofs.Writing.{nothing}
+use Rattle.text.proofs.Pieces.{nothing}
 use Rattle.busread.proofs.Printing.{prints, message-bytes, message-most}
 use native.Mathlib.Omega.{arith}
 use borrow.Author.Needs.{needs}

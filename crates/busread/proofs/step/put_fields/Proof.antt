@@ -5,20 +5,20 @@ use native.Mathlib.Nat.{div-one}
 use lib.ListN.{take}
 use lib.Seq.{length-take-le}
 use Rattle.frame.specs.Identifier.{sourceOf, dgnOf}
-use Rattle.busread.specs.Text.{Wrote}
+use Rattle.text.specs.Pieces.{Wrote}
 use Rattle.busread.specs.Report.{headText, fieldsText}
-use Rattle.busread.proofs.Writing.{behind, nothing}
-use Rattle.busread.proofs.Fields.{row-there, row-missing, span-there, span-fits, field-fits, room-left, rowsIn, fields-turn, whole-span}
+use Rattle.text.proofs.Pieces.{behind, nothing}
+use Rattle.busread.proofs.Fields.{row-there, row-missing, span-there, span-fits, room-left, rowsIn, fields-turn, whole-span}
 use borrow.Author.Needs.{needs}
 use native.Mathlib.Omega.{arith}
 use Rattle.busread.proofs.step.put_fields.Statement.{statement}
 use Rattle.busread.proofs.step.put_fields.Tie as tie
 
 abbrev Inv-loop : tie.InvT-loop
-Inv-loop out₀ at number id table source dgn content span head size next₀ i₀ out next i = (i ≤ span .count) × (span .start + span .count ≤ 375) × (next ≤ at + 128 * i) × Wrote out₀ at (fieldsText (headText number source dgn) content (take i (rowsIn span))) out next
+Inv-loop out₀ at number id table source dgn content span head size end₀ i₀ out end i = (i ≤ span .count) × (span .start + span .count ≤ 375) × (end ≤ at + 160 * i) × Wrote out₀ at (fieldsText (headText number source dgn) content (take i (rowsIn span))) out end
 
 abbrev μ-loop : tie.MeasureT-loop
-μ-loop out₀ at number id table source dgn content span head size next₀ i₀ out next i = span .count - i
+μ-loop out₀ at number id table source dgn content span head size end₀ i₀ out end i = span .count - i
 
 cast-source : tie.Need-cast-source Inv-loop μ-loop
 cast-source c = search needs
@@ -73,7 +73,6 @@ put-field-requires c κs = (
       let l = c .before .before .before .before .before .before .before .before .before .before .loop in
       room-left (start .args .at) (l .i) (span .start) (l .inv .2) (omega arith) (l .inv .1) (start .pre .0) (l .inv .3 .room),
   rw (length-take-le (c .before .before .before .before .before .before .before .before .before .before .before .before .put-head .result) (c .before .before .before .before .before .before .before .before .before .before .before .before .put-head .last .0) (c .before .before .before .before .before .before .before .before .before .before .before .before .put-head .ensures .0 .fits)) (c .before .before .before .before .before .before .before .before .before .before .before .before .put-head .ensures .1),
-  field-fits (c .before .before .before .before .before .before .before .before .before .before .before .before .before .before .before .before .before .before .pre .1) (c .before .before .before .before .before .before .row-in .ensures) (c .before .before .before .before .looked .given .1) (c .before .before .classify .ensures) (omega arith),
 )
 
 add-i : tie.Need-add-i Inv-loop μ-loop

@@ -15,13 +15,13 @@ returns : tie.Need-returns
 returns c =
     let a = c .before .before .before .args in
     let r = all-read (a .self) (a .at) (drop (a .at) (a .block .now)) (c .if1 .taken) in
-    record { answer = r .answer-is; cutter = r .cutter-is; next = r .next-is }
+    record { answer = r .answer-is; cutter = r .cutter-is; read-to = r .read-to-is }
 
 returns-2 : tie.Need-returns-2
 returns-2 c =
     let a = c .before .before .before .before .args in
     let r = none-left (a .self) (a .at) (drop (a .at) (a .block .now)) (omega arith) (drop-of-length-le (a .block .now) (c .if2 .taken)) in
-    record { answer = r .answer-is; cutter = r .cutter-is; next = r .next-is }
+    record { answer = r .answer-is; cutter = r .cutter-is; read-to = r .read-to-is }
 
 newline-requires : tie.Need-newline-requires
 newline-requires c κs = search needs
@@ -48,7 +48,7 @@ returns-3 c =
     let l : length rest ≤ length (lineIn rest) = omega arith in
     let s : take (length (a .block .now) - a .at) rest ≡ rest = take-all (length (a .block .now) - a .at) rest (omega arith) in
     let r = no-newline (a .self) (a .at) rest (omega arith) l (λ e. omega arith) in
-    record { answer = r .answer-is; cutter = c .carry-on .ensures ∙ rw s (r .cutter-is); next = omega arith ∙ r .next-is }
+    record { answer = r .answer-is; cutter = c .carry-on .ensures ∙ rw s (r .cutter-is); read-to = omega arith ∙ r .read-to-is }
 
 sub-close : tie.Need-sub-close
 sub-close c = search needs
@@ -85,7 +85,7 @@ returns-4 c =
     let m : n .result - a .at ≡ length (lineIn rest) = omega arith in
     let t : take (n .result - a .at) rest ≡ lineIn rest = rw m (sym (line-take rest)) in
     let r = a-line (a .self) (a .at) rest (omega arith) l in
-    record { answer = c .line .ensures ∙ rw (n .ensures) (r .answer-is); cutter = c .before .close .ensures ∙ rw t (r .cutter-is); next = rw (n .ensures) (r .next-is) }
+    record { answer = c .line .ensures ∙ rw (n .ensures) (r .answer-is); cutter = c .before .close .ensures ∙ rw t (r .cutter-is); read-to = rw (n .ensures) (r .read-to-is) }
 
 pub next-spec : {M : Type 1} → statement M
 next-spec =

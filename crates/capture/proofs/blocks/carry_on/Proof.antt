@@ -5,6 +5,7 @@ use borrow.Author.Needs.{needs}
 use lib.ListN.{length}
 use Rattle.capture.specs.Cutter.{carriedOn}
 use Rattle.words.proofs.Tests.{tests}
+use Rattle.text.proofs.Pieces.{put-placed}
 use Rattle.capture.proofs.Cuts.{not-too-long}
 use Rattle.capture.proofs.blocks.carry_on.Statement.{statement}
 use Rattle.capture.proofs.blocks.carry_on.Tie as tie
@@ -20,27 +21,20 @@ slice-aggregate-put : tie.Need-slice-aggregate-put
 slice-aggregate-put c = search needs
 
 put-requires : tie.Need-put-requires
-put-requires c κs =
-    let a = c .before .before .before .before .before .args in
-    let h = not-too-long (a .cutter .length) (length (a .part .now)) (sym (c .before .before .too-long .ensures) ∙ c .before .if1 .left) in
-    let l : length (a .cutter .carry) ≡ 80 = search needs in
-    omega arith
-
-add-t12 : tie.Need-add-t12
-add-t12 c =
-    let a = c .before .before .before .before .before .before .before .args in
-    let b = c .before .before .before .before in
-    let h = not-too-long (a .cutter .length) (length (a .part .now)) (sym (b .too-long .ensures) ∙ c .before .before .before .if1 .left) in
-    search needs
+put-requires c κs = search needs
 
 returns-2 : tie.Need-returns-2
 unfolding carriedOn
 returns-2 c =
-    let b = c .before .before .before .before in
-    let e = sym (b .too-long .ensures) ∙ c .before .before .before .if1 .left in
-    rw (e, c .before .put .ensures)
+    let p = c .before in
+    let t = p .before .before .before in
+    let a = t .before .before .before .args in
+    let e = sym (t .too-long .ensures) ∙ p .before .before .if1 .left in
+    let h = not-too-long (a .cutter .length) (length (a .part .now)) e in
+    let l : length (a .cutter .carry) ≡ 80 = search needs in
+    let w = put-placed (p .put .ensures) (omega arith) in
+    rw (e, w .0, w .1)
 
 pub carry-on-spec : {M : Type 1} → statement M
 carry-on-spec =
-    tie.close
-    (tie.spec too-long-requires returns slice-aggregate-put put-requires add-t12 returns-2)
+    tie.close (tie.spec too-long-requires returns slice-aggregate-put put-requires returns-2)

@@ -30,22 +30,25 @@ returns-2 c =
     let e = sym (n .number .ensures) ∙ ap toldSpelled (c .before .before .n .given .1) in
     search (tests, e)
 
-width-of-requires : tie.Need-width-of-requires
-width-of-requires c κs = search needs
+cast-decimal-width : tie.Need-cast-decimal-width
+cast-decimal-width c = search needs
+
+decimal-width-requires : tie.Need-decimal-width-requires
+decimal-width-requires c κs = search needs
 
 returns-3 : tie.Need-returns-3
 unfolding gapRead
 returns-3 c =
     let n = c .before .before .before .before .before .before in
     let e = sym (n .number .ensures) ∙ ap toldSpelled (c .before .before .before .before .n .given .1) in
-    search (tests, e, ← c .before .width-of .ensures .0)
+    search (tests, e, ← c .before .decimal-width .ensures .width)
 
 returns-4 : tie.Need-returns-4
 unfolding gapRead
 returns-4 c =
     let n = c .before .before .before .before .before .before in
     let e = sym (n .number .ensures) ∙ ap toldSpelled (c .before .before .before .before .n .given .1) in
-    search (tests, e, ← c .before .width-of .ensures .0)
+    search (tests, e, ← c .before .decimal-width .ensures .width)
 
 pub gap-spec : {M : Type 1} → statement M
 gap-spec =
@@ -56,6 +59,7 @@ gap-spec =
     enum-told
     returns
     returns-2
-    width-of-requires
+    cast-decimal-width
+    decimal-width-requires
     returns-3
     returns-4)

@@ -14,7 +14,7 @@ fits c =
     let a = c .before .args in
     let e : length (a .bytes) ≡ 8 = search needs in
     let l : length (c .write .result .bytes) ≡ 43 = search needs in
-    let h = written-length 0 (a .id) (a .bytes) (c .write .result) e (c .write .ensures) in
+    let h = written-length 0 (a .id) (a .bytes) (c .write .result) (omega arith) e (c .write .ensures) in
     omega arith
 
 write-requires : tie.Need-write-requires
