@@ -22,7 +22,8 @@ use Rattle.capture.proofs.Feeding.{next-advances, within-block, carried-fits}
 use Rattle.text.specs.Pieces.{Wrote}
 use Rattle.busread.specs.Report.{Kept, closingText, linesText}
 use Rattle.busread.specs.Step.{kept, Took}
-use Rattle.busread.specs.Reader.{keptBy, Ready, Ran, a-line, all-used, all-read, OneMore, stayed, Went, Turned, Runs}
+use Rattle.busread.specs.Reader.{keptBy, Ready, Ran, a-line, all-used, all-read, OneMore, stayed, Went, Turned}
+use Rattle.busread.specs.Reader.{Runs}
 use Rattle.busread.specs.declared.step.Step.{Step}
 use Rattle.busread.specs.declared.reader.Reader.{Reader}
 use Rattle.busread.specs.declared.reader.Run.{Run}

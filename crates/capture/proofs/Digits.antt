@@ -6,7 +6,8 @@ use mathlib.Core.Bool.{true}
 use mathlib.Core.List.{List, [], _∷_, _++_, append-assoc, append-nil}
 use mathlib.Core.Logic.{_⊎_, inl, inr, ⊎-elim}
 use Prim.Native.Nat.{ℕ, zero, suc, _+_, _*_, _-_, _/_, _%_, _^_, _≤_, _<_}
-use native.Mathlib.Nat.{pow-le-pow-right, pow-suc, div-lt-iff-lt-mul, div-add-mod', mod-lt, mul-le-mul-left, zero-add, add-zero, pow-zero}
+use native.Mathlib.Nat.{pow-le-pow-right, pow-suc, div-lt-iff-lt-mul, div-add-mod', mod-lt, mul-le-mul-left, zero-add}
+use native.Mathlib.Nat.{add-zero, pow-zero}
 use native.Mathlib.Numerals.{add-one}
 use native.Mathlib.Omega.{arith}
 use borrow.Author.Tests.{ltb-true, ltb-false, leb-true, lt-ltb, le-ltb, le-leb, lt-leb}

@@ -9,13 +9,17 @@ use lib.ListN.{length, take, drop, length-append, length-drop}
 use lib.Seq.{take-all, take-nil, drop-drop}
 use Rattle.words.specs.Words.{_<?_, _≤?_, _=?_}
 use Rattle.words.proofs.Words.{by-test}
-use Rattle.capture.specs.Stream.{newline, longestLine, mostLines, linesFrom, lineIn, Piece, whole, tooLong, pieceOf, linesOf}
+use Rattle.capture.specs.Stream.{newline, longestLine, mostLines, linesFrom, lineIn, Piece, whole, tooLong}
+use Rattle.capture.specs.Stream.{pieceOf, linesOf}
 use Rattle.text.specs.Pieces.{placed}
 use Rattle.text.proofs.Pieces.{placed-head, length-placed}
-use Rattle.capture.specs.Cutter.{fresh, isTooLong, carriedOn, closed, lineAt, hasNewline, cuttingOf, cutterAfter, readTo, endingOf}
+use Rattle.capture.specs.Cutter.{fresh, isTooLong, carriedOn, closed, lineAt, hasNewline, cuttingOf, cutterAfter}
+use Rattle.capture.specs.Cutter.{readTo, endingOf}
 use Rattle.capture.specs.Promises.{Next}
-use Rattle.capture.specs.Feeding.{joined, Yield, brings, used, over, yieldIn, yieldOf, lastPieces, Place, between, inside, Fed, a-piece, a-block-used, all-lines-read, a-block, the-end}
-use Rattle.capture.specs.Laws.{BlocksDoNotMatter, NextAdvances, WithinBlock, CarriedFits, LastFits, EveryStreamIsFed}
+use Rattle.capture.specs.Feeding.{joined, Yield, brings, used, over, yieldIn, yieldOf, lastPieces, Place, between}
+use Rattle.capture.specs.Feeding.{inside, Fed, a-piece, a-block-used, all-lines-read, a-block, the-end}
+use Rattle.capture.specs.Laws.{BlocksDoNotMatter, NextAdvances, WithinBlock, CarriedFits, LastFits}
+use Rattle.capture.specs.Laws.{EveryStreamIsFed}
 use Rattle.capture.specs.declared.Cutter.{Cutter}
 use Rattle.capture.specs.declared.Cut.{Cut}
 use Rattle.capture.specs.declared.Cutting.{Cutting}

@@ -12,10 +12,15 @@ use Rattle.words.specs.Words.{if_then_else_, given_then_, _<?_, _=?_, Told, ref
 use Rattle.words.proofs.Words.{by-test, gives-same, refused-gives, refused-same}
 use Rattle.text.specs.Text.{decimalWidth, byteDigits}
 use Rattle.capture.specs.Digits.{numberRead, areDigits, number}
-use Rattle.capture.specs.Line.{Frame, lineOf, lineRead, IsLineOf, hasShape, gapRead, bytesRead, gapIn, idIn, dataIn}
+use Rattle.capture.specs.Line.{Frame, lineOf, lineRead, IsLineOf, hasShape, gapRead, bytesRead, gapIn, idIn}
+use Rattle.capture.specs.Line.{dataIn}
 use Rattle.capture.specs.Stream.{newline, longestLine, mostLines, linesFrom, Piece, pieceOf, linesOf, pieceRead}
 use Rattle.capture.specs.Promises.{toldReading, frameIn, frameIf, Write}
-use Rattle.capture.specs.Laws.{ToldReadingSame, TakeApartOnly, WriteOnly, NewOnly, NextOnly, LastOnly, ReadingRefusalOnly, MalformedKeeps, NumberBack, DigitsBack, SoundExactly, MalformedExactly, OnlyNineteen, OneLine, OneFrame, SoundLength, WrittenLength, textOf, WrittenTakenApart, TakenApartWritten, NoBytesNoLines, FinalNewline, NoMoreLines, PieceSays}
+use Rattle.capture.specs.Laws.{ToldReadingSame, TakeApartOnly, WriteOnly, NewOnly, NextOnly, LastOnly}
+use Rattle.capture.specs.Laws.{ReadingRefusalOnly, MalformedKeeps, NumberBack, DigitsBack, SoundExactly}
+use Rattle.capture.specs.Laws.{MalformedExactly, OnlyNineteen, OneLine, OneFrame, SoundLength, WrittenLength}
+use Rattle.capture.specs.Laws.{textOf, WrittenTakenApart, TakenApartWritten, NoBytesNoLines, FinalNewline}
+use Rattle.capture.specs.Laws.{NoMoreLines, PieceSays}
 use Rattle.capture.specs.declared.Reading.{Reading}
 use Rattle.capture.specs.declared.Reading.the-variants as Reading
 use Rattle.capture.specs.declared.Line.{Line}

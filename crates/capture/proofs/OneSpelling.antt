@@ -16,7 +16,8 @@ use Rattle.words.proofs.Words.{by-test, both-true, past-refusal, not-flips, giv
 use Rattle.text.specs.Text.{digits, decimalWidth, decimal, bytePairs}
 use Rattle.text.proofs.Digits.{length-digits, length-decimal, width-digits}
 use Rattle.capture.specs.Digits.{numberRead}
-use Rattle.capture.specs.Line.{Frame, gapKey, idKey, dataKey, lineOf, IsFrame, IsLineOf, widthIn, beginsWith, hasShape, gapRead, bytesRead, gapIn, idIn, dataIn, lineRead}
+use Rattle.capture.specs.Line.{Frame, gapKey, idKey, dataKey, lineOf, IsFrame, IsLineOf, widthIn, beginsWith}
+use Rattle.capture.specs.Line.{hasShape, gapRead, bytesRead, gapIn, idIn, dataIn, lineRead}
 use Rattle.capture.proofs.Digits.{spelled-read, read-spelled, read-below}
 use Rattle.capture.proofs.Writing.{gap-width, line-length-of}
 use Rattle.capture.proofs.Lines.{gap-known, shape-length, a-frame}

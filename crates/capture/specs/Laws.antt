@@ -9,10 +9,12 @@ use Rattle.words.specs.Words.{refused, gives}
 use Rattle.text.specs.Text.{digits}
 use Rattle.frame.specs.Frame.{frameBytes}
 use Rattle.capture.specs.Digits.{greatestBase, numberRead}
-use Rattle.capture.specs.Line.{Frame, lineOf, lineRead, IsFrame, IsLineOf, greatestGap, shortestLine, longestSound}
+use Rattle.capture.specs.Line.{Frame, lineOf, lineRead, IsFrame, IsLineOf, greatestGap, shortestLine}
+use Rattle.capture.specs.Line.{longestSound}
 use Rattle.capture.specs.Stream.{newline, longestLine, mostLines, Piece, pieceOf, linesOf, pieceRead}
 use Rattle.capture.specs.Cutter.{fresh}
-use Rattle.capture.specs.Promises.{toldReading, frameIn, noFrame, TakeApart, Write, New, Next, Last, ReadingRefusal}
+use Rattle.capture.specs.Promises.{toldReading, frameIn, noFrame, TakeApart, Write, New, Next, Last}
+use Rattle.capture.specs.Promises.{ReadingRefusal}
 use Rattle.capture.specs.Feeding.{joined, yieldOf, brings, between, Fed}
 use Rattle.capture.specs.declared.Reading.{Reading}
 use Rattle.capture.specs.declared.Reading.the-variants as Reading

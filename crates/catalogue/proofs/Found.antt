@@ -19,7 +19,8 @@ use Rattle.catalogue.specs.Table.{noRow, rowIn, liesInFrame, rowAt, rowO
 use Rattle.catalogue.specs.Field.{InFrame}
 use Rattle.catalogue.specs.Scale.{valueOf}
 use Rattle.catalogue.specs.Codes.{codeOf}
-use Rattle.catalogue.specs.Catalogue.{matching, openedFor, readRowOf, scaledRowOf, writtenRowOf, rowOfDgn, rowFor, fieldIn, readOf, scaledReadOf, replaced, writtenOf}
+use Rattle.catalogue.specs.Catalogue.{matching, openedFor, readRowOf, scaledRowOf, writtenRowOf, rowOfDgn, rowFor}
+use Rattle.catalogue.specs.Catalogue.{fieldIn, readOf, scaledReadOf, replaced, writtenOf}
 use Rattle.catalogue.specs.Promises.{WriteRow, toldWriting, doneIf, bytesAfter}
 use Rattle.catalogue.specs.declared.Row.{Row}
 use Rattle.catalogue.specs.declared.Value.{Value}

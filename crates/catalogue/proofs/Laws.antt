@@ -13,7 +13,8 @@ use Rattle.frame.specs.Bytes.{numberOf, AreBytes}
 use Rattle.frame.specs.Frame.{frameBytes}
 use Rattle.frame.specs.Promises.{refusalOf}
 use Rattle.frame.specs.declared.BadFrame.{BadFrame}
-use Rattle.frame.specs.declared.BadFrame.the-variants.{IdentifierTooLarge, NotEightBytes, ReservedBitSet, SourceNotAllowed}
+use Rattle.frame.specs.declared.BadFrame.the-variants.{IdentifierTooLarge, NotEightBytes, ReservedBitSet}
+use Rattle.frame.specs.declared.BadFrame.the-variants.{SourceNotAllowed}
 use Rattle.words.proofs.Words.{by-test, refused-gives, gives-same}
 use Rattle.frame.proofs.Bytes.{number-below, number-of-bytes, length-bytes, bytes-small}
 use Rattle.frame.proofs.Laws.{badBack, bad-back}
@@ -23,7 +24,8 @@ use Rattle.catalogue.specs.Field.{fieldOf, withField, widest, frameBits,
 use Rattle.catalogue.specs.Classes.{greatestCode, classIn, belowGreatest}
 use Rattle.catalogue.specs.Scale.{scaledOf, valueAs, valueOf}
 use Rattle.catalogue.specs.Codes.{codeWhere, classCode, codeOf}
-use Rattle.catalogue.specs.Catalogue.{fieldIn, openedFor, readRowOf, scaledRowOf, writtenRowOf, readOf, scaledReadOf, replaced, writtenOf}
+use Rattle.catalogue.specs.Catalogue.{fieldIn, openedFor, readRowOf, scaledRowOf, writtenRowOf, readOf}
+use Rattle.catalogue.specs.Catalogue.{scaledReadOf, replaced, writtenOf}
 use Rattle.catalogue.specs.Promises.{toldLooked, toldReading, toldScaled, toldWriting, doneIf, bytesAfter}
 use Rattle.catalogue.specs.Laws as Laws
 use Rattle.catalogue.specs.declared.Row.{Row}
@@ -47,7 +49,8 @@ use Rattle.catalogue.proofs.Classed.{Placed, placed}
 use Rattle.catalogue.proofs.Found as Found
 use Rattle.catalogue.proofs.TwoStates as TwoStates
 use Rattle.catalogue.proofs.Codes.{scaled-of, code-given}
-use Rattle.catalogue.proofs.Found.{given-then, found, found-frame, for-bad, for-sound, read-none, read-row, scaled-none, scaled-row, write-none, write-uncoded}
+use Rattle.catalogue.proofs.Found.{given-then, found, found-frame, for-bad, for-sound, read-none, read-row}
+use Rattle.catalogue.proofs.Found.{scaled-none, scaled-row, write-none, write-uncoded}
 
 -- an answer is read back from what it tells
 

@@ -13,7 +13,8 @@ use Rattle.words.specs.Words.{given_then_, _and_, _<?_, _=?_, Told, refused, gi
 use Rattle.words.proofs.Words.{by-test}
 use Rattle.catalogue.specs.Rows.{rows}
 use Rattle.catalogue.specs.Table.{noRow, nth, rowIn, rowWith, liesInFrame, KeepsRule, rowOf, spanIn, spanOf}
-use Rattle.catalogue.specs.Packed.{unitOf, unpacked, pack, packedRows, tableRows, lying, tableRow, tableRowWith, tableSpan}
+use Rattle.catalogue.specs.Packed.{unitOf, unpacked, pack, packedRows, tableRows, lying, tableRow, tableRowWith}
+use Rattle.catalogue.specs.Packed.{tableSpan}
 use Rattle.catalogue.specs.declared.Row.{Row}
 use Rattle.catalogue.proofs.Rule.{whole, lies-at, found-with}
 use Rattle.catalogue.proofs.Halving.{halved-below, halved-having, halved-within, halved-rises}

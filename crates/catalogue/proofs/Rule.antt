@@ -14,7 +14,8 @@ use Rattle.words.specs.Words.{if_then_else_, _and_, _<?_, _≤?_, _=?_, gives}
 use Rattle.words.specs.Lists.{count}
 use Rattle.words.proofs.Words.{by-test, both-true, true-false, gives-same, refused-gives}
 use Rattle.catalogue.specs.Rows.{rows, rowCount}
-use Rattle.catalogue.specs.Table.{nth, noRow, below, having, rowWith, liesInFrame, bitFrom, bitPast, inOrder, KeepsRule}
+use Rattle.catalogue.specs.Table.{nth, noRow, below, having, rowWith, liesInFrame, bitFrom, bitPast, inOrder}
+use Rattle.catalogue.specs.Table.{KeepsRule}
 use Rattle.catalogue.specs.Field.{InFrame, widest, frameBits}
 use Rattle.catalogue.specs.declared.Row.{Row}
 

@@ -20,8 +20,12 @@ use Rattle.catalogue.specs.Field.{fieldOf, InFrame}
 use Rattle.catalogue.specs.Classes.{greatestCode, hasThree, classAt, hasTwoStates, errorCode, classIn}
 use Rattle.catalogue.specs.Scale.{scaledOf, valueOf}
 use Rattle.catalogue.specs.Codes.{codeOf}
-use Rattle.catalogue.specs.Catalogue.{matching, openedFor, readRowOf, scaledRowOf, writtenRowOf, rowOfDgn, rowFor, readOf, scaledReadOf, replaced, writtenOf}
-use Rattle.catalogue.specs.Promises.{toldLooked, toldReading, toldScaled, toldWriting, Rows, RowAt, RowsOf, RowOf, PackedRows, RowIn, RowsIn, RowOfIn, Classify, ReadField, ReadScaled, WriteField, ReadRow, ReadRowScaled, WriteRow, LookedRefusal, ReadingRefusal, ScaledReadingRefusal, WritingRefusal}
+use Rattle.catalogue.specs.Catalogue.{matching, openedFor, readRowOf, scaledRowOf, writtenRowOf, rowOfDgn, rowFor}
+use Rattle.catalogue.specs.Catalogue.{readOf, scaledReadOf, replaced, writtenOf}
+use Rattle.catalogue.specs.Promises.{toldLooked, toldReading, toldScaled, toldWriting, Rows, RowAt, RowsOf, RowOf}
+use Rattle.catalogue.specs.Promises.{PackedRows, RowIn, RowsIn, RowOfIn, Classify, ReadField, ReadScaled}
+use Rattle.catalogue.specs.Promises.{WriteField, ReadRow, ReadRowScaled, WriteRow, LookedRefusal, ReadingRefusal}
+use Rattle.catalogue.specs.Promises.{ScaledReadingRefusal, WritingRefusal}
 use Rattle.catalogue.specs.declared.Row.{Row}
 use Rattle.catalogue.specs.declared.Unit.the-variants.{Ampere, Celsius}
 use Rattle.catalogue.specs.declared.Span.{Span}

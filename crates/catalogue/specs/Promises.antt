@@ -12,7 +12,8 @@ use Rattle.frame.specs.Promises.{refusalOf, bytesIf}
 use Rattle.catalogue.specs.Rows.{rows}
 use Rattle.catalogue.specs.Table.{rowWith, rowOf, spanOf}
 use Rattle.catalogue.specs.Packed.{packedRows, tableRow, tableRowWith, tableSpan}
-use Rattle.catalogue.specs.Catalogue.{fieldIn, openedFor, readRowOf, scaledRowOf, writtenRowOf, readOf, scaledReadOf, writtenOf}
+use Rattle.catalogue.specs.Catalogue.{fieldIn, openedFor, readRowOf, scaledRowOf, writtenRowOf, readOf}
+use Rattle.catalogue.specs.Catalogue.{scaledReadOf, writtenOf}
 use Rattle.catalogue.specs.declared.Row.{Row}
 use Rattle.catalogue.specs.declared.Span.{Span}
 use Rattle.catalogue.specs.declared.Field.{Field}

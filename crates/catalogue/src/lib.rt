@@ -11,7 +11,10 @@ mod table;
 ghost use mathlib.Core.Path.{_≡_};
 ghost use Rattle.catalogue.specs.Table.{rowAt};
 ghost use Rattle.catalogue.specs.Catalogue.{matching};
-ghost use Rattle.catalogue.specs.Promises.{Rows, RowAt, RowsOf, RowOf, PackedRows, RowIn, RowsIn, RowOfIn, Classify, ReadField, ReadScaled, WriteField, ReadRow, ReadRowScaled, WriteRow, LookedRefusal, ReadingRefusal, ScaledReadingRefusal, WritingRefusal, Opens, toldOutcome};
+ghost use Rattle.catalogue.specs.Promises.{Rows, RowAt, RowsOf, RowOf, PackedRows, RowIn, RowsIn, RowOfIn};
+ghost use Rattle.catalogue.specs.Promises.{Classify, ReadField, ReadScaled, WriteField, ReadRow, ReadRowScaled};
+ghost use Rattle.catalogue.specs.Promises.{WriteRow, LookedRefusal, ReadingRefusal, ScaledReadingRefusal};
+ghost use Rattle.catalogue.specs.Promises.{WritingRefusal, Opens, toldOutcome};
 
 // What a row's numbers count; `Other` is any unit that has no scale here, or none.
 pub enum Unit {

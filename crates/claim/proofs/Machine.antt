@@ -10,13 +10,16 @@ use borrow.Author.Tests.{eq-eqb, ne-eqb, eqb-true, eqb-false}
 use Rattle.words.specs.Words.{_=?_}
 use Rattle.frame.specs.Standard.{greatestAddress}
 use Rattle.words.proofs.Words.{true-false, by-test, both-true}
-use Rattle.claim.specs.Claim.{heldAfter, keepsRules, holdsList, address, held, claiming, silent, standOf, begun, Outcome, nothingToDo, ownName, repeated, moved, fellSilent, outcomeOf, after, pause}
+use Rattle.claim.specs.Claim.{heldAfter, keepsRules, holdsList, address, held, claiming, silent, standOf, begun}
+use Rattle.claim.specs.Claim.{Outcome, nothingToDo, ownName, repeated, moved, fellSilent, outcomeOf, after, pause}
 use Rattle.claim.specs.History.{Event, heard, paused, step, run, met, markOf, history, waitedAfter, waitedSince}
 use Rattle.claim.specs.Promises.{isSound}
-use Rattle.claim.specs.Laws.{NobodysClaim, RunSound, SameNode, NodeStays, PositionRises, SilentIgnores, SilentForGood, OnlyLowerMoves, HeldExactly}
+use Rattle.claim.specs.Laws.{NobodysClaim, RunSound, SameNode, NodeStays, PositionRises, SilentIgnores}
+use Rattle.claim.specs.Laws.{SilentForGood, OnlyLowerMoves, HeldExactly}
 use Rattle.claim.specs.declared.Claim.{Claim}
 use Rattle.claim.proofs.Sound.{Rules, rules-of, of-rules, holds-of, address-low, pause-silent, pause-awake}
-use Rattle.claim.proofs.Outcomes.{Went, deaf, apart, same, wins, goes, ends, went, when-silent, rules-heard, rules-paused}
+use Rattle.claim.proofs.Outcomes.{Went, deaf, apart, same, wins, goes, ends, went, when-silent, rules-heard}
+use Rattle.claim.proofs.Outcomes.{rules-paused}
 
 -- the NAME and the list stay
 

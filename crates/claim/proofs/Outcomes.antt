@@ -7,7 +7,8 @@ use native.Mathlib.Omega.{arith}
 use borrow.Author.Tests.{eqb-true, eqb-false, ltb-true, ltb-false}
 use Rattle.words.specs.Words.{_<?_, _=?_}
 use Rattle.words.proofs.Words.{true-false, by-test}
-use Rattle.claim.specs.Claim.{address, Outcome, nothingToDo, ownName, repeated, moved, fellSilent, lostBy, outcomeOf, after, pause}
+use Rattle.claim.specs.Claim.{address, Outcome, nothingToDo, ownName, repeated, moved, fellSilent, lostBy}
+use Rattle.claim.specs.Claim.{outcomeOf, after, pause}
 use Rattle.claim.specs.declared.Claim.{Claim}
 use Rattle.claim.proofs.Sound.{Rules, pause-silent, pause-awake}
 

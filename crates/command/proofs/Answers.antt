@@ -12,7 +12,8 @@ use Rattle.words.specs.Words.{if_then_else_, Told, refused, gives, given_then_}
 use Rattle.words.specs.Lists.{any}
 use Rattle.frame.specs.Bytes.{numberOf}
 use Rattle.frame.specs.Identifier.{greatestDgn, destinationOf, catalogueForm}
-use Rattle.frame.specs.Standard.{Frame, addressClaimed, dgnAt, everyone, greatestAddress, noAddress, noFrame, requestDgn}
+use Rattle.frame.specs.Standard.{Frame, addressClaimed, dgnAt, everyone, greatestAddress, noAddress, noFrame}
+use Rattle.frame.specs.Standard.{requestDgn}
 use Rattle.frame.specs.Promises.{destined}
 use Rattle.frame.specs.declared.Parts.{Parts}
 use Rattle.frame.proofs.Frame.{dgn-read}
@@ -29,8 +30,10 @@ use Rattle.command.specs.Acknowledgment.{acknowledgmentFrame, acknowledg
 use Rattle.command.specs.Commands as Commands
 use Rattle.command.specs.Commands.{hasCommand, isMeant, isElsewhere, Outcome, picks, routeOf, routedOf}
 use Rattle.command.specs.Requests as Requests
-use Rattle.command.specs.Requests.{requestedDgn, instanceAsked, Asked, askedOf, supports, isOurs, nakTo, Reply, claims, supported, nak, unsupported, statusOf, replyOf, answerOf, requestedOf}
-use Rattle.command.specs.Promises.{toldRouting, pickedIn, RoutedBy, toldRequesting, supportedIn, sentIn, RequestedBy, toldAcknowledging, formedIn, AcknowledgedBy}
+use Rattle.command.specs.Requests.{requestedDgn, instanceAsked, Asked, askedOf, supports, isOurs, nakTo, Reply}
+use Rattle.command.specs.Requests.{claims, supported, nak, unsupported, statusOf, replyOf, answerOf, requestedOf}
+use Rattle.command.specs.Promises.{toldRouting, pickedIn, RoutedBy, toldRequesting, supportedIn, sentIn}
+use Rattle.command.specs.Promises.{RequestedBy, toldAcknowledging, formedIn, AcknowledgedBy}
 use Rattle.command.specs.Private.{bareRouted, bareRequested, bareAcknowledged}
 use Rattle.command.specs.declared.Edition.{Edition}
 use Rattle.command.specs.declared.Entry.{Entry}

@@ -13,7 +13,8 @@ use lib.Seq.{getD-take, length-take-le}
 use Rattle.words.specs.Words.{if_then_else_, _≤?_, _<?_, _=?_, _and_, _or_, Told, refused, gives, given_then_, done}
 use Rattle.words.specs.Lists.{any, every, noTwo}
 use Rattle.frame.specs.Bytes.{numberOf, bytesOf}
-use Rattle.frame.specs.Identifier.{identifierOf, greatestDgn, priorityOf, reservedOf, dgnOf, sourceOf, partsOf, isAddressed, destinationOf, catalogueForm}
+use Rattle.frame.specs.Identifier.{identifierOf, greatestDgn, priorityOf, reservedOf, dgnOf, sourceOf, partsOf}
+use Rattle.frame.specs.Identifier.{isAddressed, destinationOf, catalogueForm}
 use Rattle.frame.specs.Frame.{sourceAllowed, checkedOf}
 use Rattle.frame.specs.Standard.{Frame, addressClaimed, dgnAt, everyone, noAddress, noFrame, requestDgn}
 use Rattle.frame.specs.declared.Parts.{Parts}
@@ -27,11 +28,14 @@ use Rattle.command.specs.Handed.{handedIn, addressHeld}
 use Rattle.command.specs.Commands.{routeOf, routedOf}
 use Rattle.command.specs.Acknowledgment.{acknowledgmentFrame, acknowledgmentId, acknowledgmentBytes}
 use Rattle.command.specs.Requests as Requests
-use Rattle.command.specs.Requests.{requestedDgn, allInstances, instanceAsked, Asked, askedOf, isOfInstance, supports, isOurAddress, isOurs, nakTo, Reply, claims, supported, nak, unsupported, statusOf, replyOf, answerOf, requestedOf}
+use Rattle.command.specs.Requests.{requestedDgn, allInstances, instanceAsked, Asked, askedOf, isOfInstance}
+use Rattle.command.specs.Requests.{supports, isOurAddress, isOurs, nakTo, Reply, claims, supported, nak}
+use Rattle.command.specs.Requests.{unsupported, statusOf, replyOf, answerOf, requestedOf}
 use Rattle.command.specs.Promises.{toldStarting, startedOf, toldRequesting, supportedIn, sentIn}
 use Rattle.command.specs.Laws.{entryAt}
 use Rattle.command.specs.Editions as the
-use Rattle.command.specs.Editions.{Run, Ran, Hears, Supports, SupportsDgn, SupportsAs, Reports, SendsNak, requester, destination, byteThree, hasStatus, formerStatus, formerly}
+use Rattle.command.specs.Editions.{Run, Ran, Hears, Supports, SupportsDgn, SupportsAs, Reports, SendsNak}
+use Rattle.command.specs.Editions.{requester, destination, byteThree, hasStatus, formerStatus, formerly}
 use Rattle.command.specs.declared.Edition.{Edition}
 use Rattle.command.specs.declared.Edition.the-variants.{One, Two}
 use Rattle.command.specs.declared.Entry.{Entry}
@@ -40,10 +44,13 @@ use Rattle.command.specs.declared.Requesting.{Requesting}
 use Rattle.command.specs.declared.Requesting.the-variants.{Supported, SendNak, Unsupported}
 use Rattle.command.proofs.Picks as Picks
 use Rattle.command.proofs.Handing.{well-few}
-use Rattle.command.proofs.Answers.{status-supported, status-global, status-nobody, status-nak, reply-held, answer-reply, requested-given}
+use Rattle.command.proofs.Answers.{status-supported, status-global, status-nobody, status-nak, reply-held}
+use Rattle.command.proofs.Answers.{answer-reply, requested-given}
 use Rattle.command.proofs.PositionLaws.{positions-exact, positions-rise}
-use Rattle.command.proofs.Laws.{told-requesting-same, route-only, request-only, lowest-wins, start-hosts, well-same, request-same, dgn-of-three}
-use Rattle.command.proofs.ReplyLaws.{Heard, Came, Answered, answered, reported-by, unanswered-by, denied-by, our-address, acknowledgment-checked, held-low}
+use Rattle.command.proofs.Laws.{told-requesting-same, route-only, request-only, lowest-wins, start-hosts}
+use Rattle.command.proofs.Laws.{well-same, request-same, dgn-of-three}
+use Rattle.command.proofs.ReplyLaws.{Heard, Came, Answered, answered, reported-by, unanswered-by, denied-by}
+use Rattle.command.proofs.ReplyLaws.{our-address, acknowledgment-checked, held-low}
 
 -- a test that some entry passes, or none
 

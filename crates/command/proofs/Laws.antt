@@ -16,18 +16,21 @@ use Rattle.frame.specs.Frame.{checkedOf}
 use Rattle.frame.specs.Standard.{Frame, dgnAt}
 use Rattle.frame.specs.Laws.{toldButPriority}
 use Rattle.frame.specs.declared.Parts.{Parts}
-use Rattle.frame.specs.declared.BadFrame.the-variants.{IdentifierTooLarge, NotEightBytes, ReservedBitSet, SourceNotAllowed}
+use Rattle.frame.specs.declared.BadFrame.the-variants.{IdentifierTooLarge, NotEightBytes, ReservedBitSet}
+use Rattle.frame.specs.declared.BadFrame.the-variants.{SourceNotAllowed}
 use Rattle.words.proofs.Words.{by-test, both-true, before-refusal, refused-gives}
 use Rattle.frame.proofs.Laws as frame-laws
 use Rattle.claim.specs.Claim.{keepsRules, holdsList, standOf}
 use Rattle.claim.specs.declared.Claim.{Claim}
-use Rattle.command.specs.Hosted.{mostEntries, blankEntry, isHostedDgn, isEntry, isSamePair, hosted, isWellFormed, begun}
+use Rattle.command.specs.Hosted.{mostEntries, blankEntry, isHostedDgn, isEntry, isSamePair, hosted, isWellFormed}
+use Rattle.command.specs.Hosted.{begun}
 use Rattle.command.specs.Handed.{handedIn}
 use Rattle.command.specs.Commands as Commands
 use Rattle.command.specs.Commands.{hasCommand, isElsewhere, Outcome, picks, routeOf, routedOf}
 use Rattle.command.specs.Acknowledgment.{acknowledgedOf}
 use Rattle.command.specs.Requests as Requests
-use Rattle.command.specs.Requests.{requestedDgn, instanceAsked, Reply, claims, supported, nak, unsupported, askedOf, answerOf, requestedOf}
+use Rattle.command.specs.Requests.{requestedDgn, instanceAsked, Reply, claims, supported, nak, unsupported}
+use Rattle.command.specs.Requests.{askedOf, answerOf, requestedOf}
 use Rattle.command.specs.Promises.{toldStarting, startedOf, toldRouting, toldRequesting, toldAcknowledging}
 use Rattle.command.specs.Laws as the
 use Rattle.command.specs.declared.Edition.{Edition}
@@ -44,7 +47,9 @@ use Rattle.command.specs.declared.Acknowledgment.{Acknowledgment}
 use Rattle.command.specs.declared.Acknowledging.{Acknowledging}
 use Rattle.command.specs.declared.Acknowledging.the-variants as Acknowledging
 use Rattle.command.proofs.Handing.{well-few, handed-broken, handed-lists}
-use Rattle.command.proofs.Answers.{acknowledged-broken, acknowledged-nobody, acknowledged-ill, acknowledged-large, acknowledged-unheld, routed-refused, requested-refused, route-other, route-held, route-unheld, answer-other, answer-large}
+use Rattle.command.proofs.Answers.{acknowledged-broken, acknowledged-nobody, acknowledged-ill}
+use Rattle.command.proofs.Answers.{acknowledged-large, acknowledged-unheld, routed-refused, requested-refused}
+use Rattle.command.proofs.Answers.{route-other, route-held, route-unheld, answer-other, answer-large}
 
 -- an answer is read back from what it tells
 

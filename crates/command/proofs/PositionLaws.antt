@@ -19,9 +19,11 @@ use Rattle.claim.specs.Claim.{Stand, standOf}
 use Rattle.command.specs.Hosted.{mostEntries, isEntry, isSamePair, hosted, isWellFormed}
 use Rattle.command.specs.Positions.{positionsFrom, positionsWhere, filled}
 use Rattle.command.specs.Handed.{handedIn, addressHeld}
-use Rattle.command.specs.Commands.{hasCommand, isNamed, isMeant, isElsewhere, nothingToDo, picks, routeOf, routedOf}
+use Rattle.command.specs.Commands.{hasCommand, isNamed, isMeant, isElsewhere, nothingToDo, picks, routeOf}
+use Rattle.command.specs.Commands.{routedOf}
 use Rattle.command.specs.Promises.{pickedIn}
-use Rattle.command.specs.Laws.{StandsIn, entryAt, PositionsExact, PositionsRise, ListedFilled, InstancePicks, InstancePicksOne, ZeroPicksMarked, SlideIgnoresZero}
+use Rattle.command.specs.Laws.{StandsIn, entryAt, PositionsExact, PositionsRise, ListedFilled, InstancePicks}
+use Rattle.command.specs.Laws.{InstancePicksOne, ZeroPicksMarked, SlideIgnoresZero}
 use Rattle.command.specs.declared.Entry.{Entry}
 use Rattle.command.proofs.Picks as Picks
 use Rattle.command.proofs.Handing.{handed-fine}

@@ -11,11 +11,14 @@ use lib.ListN.{length}
 use Rattle.words.specs.Words.{_≤?_, _<?_, _=?_, gives}
 use Rattle.words.specs.Lists.{any}
 use Rattle.frame.specs.Bytes.{bytesOf}
-use Rattle.frame.specs.Identifier.{identifierOf, identifiers, greatestDgn, priorityOf, reservedOf, dgnOf, sourceOf, partsOf, catalogueForm}
+use Rattle.frame.specs.Identifier.{identifierOf, identifiers, greatestDgn, priorityOf, reservedOf, dgnOf, sourceOf}
+use Rattle.frame.specs.Identifier.{partsOf, catalogueForm}
 use Rattle.frame.specs.Frame.{frameBytes, sourceAllowed, checkedOf}
-use Rattle.frame.specs.Standard.{Frame, acknowledgmentDgn, addressClaimed, everyone, greatestAddress, noAddress, noFrame, requestDgn}
+use Rattle.frame.specs.Standard.{Frame, acknowledgmentDgn, addressClaimed, everyone, greatestAddress, noAddress}
+use Rattle.frame.specs.Standard.{noFrame, requestDgn}
 use Rattle.frame.specs.declared.Parts.{Parts}
-use Rattle.words.proofs.Words.{by-test, both-true, true-false, past-refusal, before-refusal, refused-gives, gives-same, not-flips}
+use Rattle.words.proofs.Words.{by-test, both-true, true-false, past-refusal, before-refusal, refused-gives, gives-same}
+use Rattle.words.proofs.Words.{not-flips}
 use Rattle.frame.proofs.Frame.{checked-given, source-low}
 use Rattle.frame.proofs.Laws as frame-laws
 use Rattle.claim.specs.Claim.{heldAfter, keepsRules, holdsList, address, claimSource, claimId, Stand, held, claiming}
@@ -32,7 +35,8 @@ use Rattle.command.specs.Commands.{hasCommand, picks, routeOf, routedOf}
 use Rattle.command.specs.Acknowledgment.{acknowledgmentPriority, acknowledgmentId, acknowledgmentBytes}
 use Rattle.command.specs.Acknowledgment.{acknowledgmentFrame, acknowledgedOf}
 use Rattle.command.specs.Requests as Requests
-use Rattle.command.specs.Requests.{requestedDgn, Asked, askedOf, supports, isOurAddress, isOurs, nakTo, Reply, claims, supported, nak, unsupported, statusOf, replyOf, answerOf, requestedOf}
+use Rattle.command.specs.Requests.{requestedDgn, Asked, askedOf, supports, isOurAddress, isOurs, nakTo, Reply}
+use Rattle.command.specs.Requests.{claims, supported, nak, unsupported, statusOf, replyOf, answerOf, requestedOf}
 use Rattle.command.specs.Promises.{sentIn, toldRequesting, toldAcknowledging}
 use Rattle.command.specs.Laws as the
 use Rattle.command.specs.declared.Entry.{Entry}
@@ -42,7 +46,8 @@ use Rattle.command.specs.declared.Requesting.the-variants as Requesting
 use Rattle.command.specs.declared.Acknowledgment.{Acknowledgment}
 use Rattle.command.specs.declared.Acknowledging.{Acknowledging}
 use Rattle.command.proofs.Handing.{handed-fine}
-use Rattle.command.proofs.Answers.{acknowledged-held, reply-elsewhere, status-supported, status-global, status-nobody, status-nak}
+use Rattle.command.proofs.Answers.{acknowledged-held, reply-elsewhere, status-supported, status-global}
+use Rattle.command.proofs.Answers.{status-nobody, status-nak}
 
 -- an address that is not ours
 

@@ -8,7 +8,8 @@ use Prim.Native.Nat.{ℕ, _+_, _≤_, _<_, _%_, _^_}
 use lib.ListN.{length, take, getD}
 use Rattle.words.specs.Words.{refused, gives, numberIn, done}
 use Rattle.words.specs.Lists.{any}
-use Rattle.frame.specs.Identifier.{identifiers, greatestDgn, dgnOf, sourceOf, partsOf, isAddressed, destinationOf, catalogueForm}
+use Rattle.frame.specs.Identifier.{identifiers, greatestDgn, dgnOf, sourceOf, partsOf, isAddressed, destinationOf}
+use Rattle.frame.specs.Identifier.{catalogueForm}
 use Rattle.frame.specs.Frame.{checkedOf}
 use Rattle.frame.specs.Standard.{Frame, acknowledgmentDgn, addressClaimed, everyone, greatestAddress, requestDgn}
 use Rattle.frame.specs.Promises.{destined}
@@ -25,8 +26,11 @@ use Rattle.command.specs.Commands as Commands
 use Rattle.command.specs.Commands.{hasCommand, isMeant, picks, routedOf}
 use Rattle.command.specs.Acknowledgment.{acknowledgmentPriority, acknowledgedOf}
 use Rattle.command.specs.Requests as Requests
-use Rattle.command.specs.Requests.{requestedDgn, Asked, askedOf, supports, supported, nak, unsupported, replyOf, requestedOf}
-use Rattle.command.specs.Promises.{Start, Route, Request, Acknowledge, StartingRefusal, RoutingRefusal, RequestingRefusal, AcknowledgingRefusal, toldStarting, toldRouting, toldRequesting, toldAcknowledging}
+use Rattle.command.specs.Requests.{requestedDgn, Asked, askedOf, supports, supported, nak, unsupported, replyOf}
+use Rattle.command.specs.Requests.{requestedOf}
+use Rattle.command.specs.Promises.{Start, Route, Request, Acknowledge, StartingRefusal, RoutingRefusal}
+use Rattle.command.specs.Promises.{RequestingRefusal, AcknowledgingRefusal, toldStarting, toldRouting}
+use Rattle.command.specs.Promises.{toldRequesting, toldAcknowledging}
 use Rattle.command.specs.declared.Edition.{Edition}
 use Rattle.command.specs.declared.Entry.{Entry}
 use Rattle.command.specs.declared.Host.{Host}

@@ -8,7 +8,8 @@ ghost use mathlib.Core.Path.{_≡_};
 ghost use Prim.Native.Nat.{_+_, _<_, _≤_};
 ghost use lib.ListN.{drop, getD};
 ghost use Rattle.words.specs.Lists.{any, every, noTwo};
-ghost use Rattle.command.specs.Hosted.{isHostedDgn, isEntry, isSamePair, hosted, isWellFormed, blankEntry, begun, empty};
+ghost use Rattle.command.specs.Hosted.{isHostedDgn, isEntry, isSamePair, hosted, isWellFormed, blankEntry, begun};
+ghost use Rattle.command.specs.Hosted.{empty};
 
 // An instance is 1 to 250.
 const LOWEST_INSTANCE: u8 = 1;

@@ -12,7 +12,8 @@ use claim::Claim;
 use frame::BadFrame;
 use frame::standard;
 use handed::Handing;
-ghost use Rattle.command.specs.Promises.{Start, Route, Request, Acknowledge, StartingRefusal, RoutingRefusal, RequestingRefusal, AcknowledgingRefusal};
+ghost use Rattle.command.specs.Promises.{Start, Route, Request, Acknowledge, StartingRefusal, RoutingRefusal};
+ghost use Rattle.command.specs.Promises.{RequestingRefusal, AcknowledgingRefusal};
 
 // A hosted list has at most 16 entries.
 pub const ENTRIES: usize = 16;

@@ -20,7 +20,8 @@ ghost use Rattle.claim.specs.Promises.{isSound};
 ghost use Rattle.command.specs.Hosted.{hosted};
 ghost use Rattle.claim.specs.Claim.{claiming, claimFrame};
 ghost use Rattle.command.specs.Acknowledgment.{acknowledgmentFrame};
-ghost use Rattle.command.specs.Requests.{instanceAsked, askedOf, isOurAddress, isOurs, nakTo, claims, nak, statusOf, replyOf, answerOf};
+ghost use Rattle.command.specs.Requests.{instanceAsked, askedOf, isOurAddress, isOurs, nakTo, claims, nak};
+ghost use Rattle.command.specs.Requests.{statusOf, replyOf, answerOf};
 ghost use Rattle.command.specs.Promises.{RequestedBy};
 ghost use Rattle.command.specs.Private.{askedBy, standAt, bareRequested};
 

@@ -159,7 +159,7 @@ fn frame_of(notes: &mut [u64], bytes: &[u8]) {
     let split = fast::frame_of(bytes, sequence, get_u32(notes, notes::THIRD));
     let answer = split.answer;
     say::word(
-        b"Bytes SequenceTooLarge LengthNotSplit NoSuchFrame",
+        b"Bytes NoCode LengthNotSplit NoSuchFrame",
         number_of_splitting(answer),
     );
     let eight = split.bytes;

@@ -154,7 +154,7 @@ fn tell_splitting(notes: &mut [u64], answer: Splitting) {
 
 fn unsplittable(notes: &mut [u64], why: Unsplittable) {
     match why {
-        Unsplittable::NoCode => say::text(b"Refused DgnTooLarge "),
+        Unsplittable::NoCode => say::text(b"Refused NoCode "),
         Unsplittable::LengthNotSplit => say::text(b"Refused LengthNotSplit "),
         Unsplittable::TooManyPackets => say::text(b"Refused TooManyPackets "),
     }

@@ -91,7 +91,7 @@ fn tell(notes: &mut [u64], answer: Hearing) {
         Hearing::HeldByLower(address) => say::number(b"HeldByLower %", address as u64),
         Hearing::BadFrame(why) => frames::bad_frame(notes, why),
         _ => say::word(
-            b"Silent NothingToDo TableTooShort BrokenTable",
+            b"Silent NothingToDo TableTooShort BrokenState",
             number(answer),
         ),
     }
@@ -121,7 +121,7 @@ fn tell_pause(answer: Pausing) {
     match answer {
         Pausing::Replaced(count) => say::number(b"Replaced #", count as u64),
         Pausing::TableTooShort => say::text(b"TableTooShort"),
-        Pausing::BrokenState => say::text(b"BrokenTable"),
+        Pausing::BrokenState => say::text(b"BrokenState"),
     }
 }
 
@@ -131,7 +131,7 @@ fn looked_up(notes: &mut [u64]) {
         LookedUp::Present(name) => say::number(b"Present @", name),
         LookedUp::Absent => say::text(b"Absent"),
         LookedUp::TableTooShort => say::text(b"TableTooShort"),
-        LookedUp::BrokenState => say::text(b"BrokenTable"),
+        LookedUp::BrokenState => say::text(b"BrokenState"),
     }
     say::end(notes, notes::NODES_LOOKED_UP, answer.refusal());
 }
@@ -142,7 +142,7 @@ fn found_address(notes: &mut [u64]) {
         FoundAddress::At(address) => say::number(b"At %", address as u64),
         FoundAddress::NoAddress => say::text(b"NoAddress"),
         FoundAddress::TableTooShort => say::text(b"TableTooShort"),
-        FoundAddress::BrokenState => say::text(b"BrokenTable"),
+        FoundAddress::BrokenState => say::text(b"BrokenState"),
     }
     say::end(notes, notes::NODES_FOUND_ADDRESS, answer.refusal());
 }
@@ -153,7 +153,7 @@ fn found_challenger(notes: &mut [u64]) {
         FoundChallenger::Waits { name, wait } => waits(name, wait),
         FoundChallenger::NoChallenger => say::text(b"NoChallenger"),
         FoundChallenger::TableTooShort => say::text(b"TableTooShort"),
-        FoundChallenger::BrokenState => say::text(b"BrokenTable"),
+        FoundChallenger::BrokenState => say::text(b"BrokenState"),
     }
     say::end(notes, notes::NODES_FOUND_CHALLENGER, answer.refusal());
 }

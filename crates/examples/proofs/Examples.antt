@@ -18,19 +18,23 @@ use Rattle.places.specs.Statements.{onBusyBus}
 use Rattle.places.proofs.View.{blank-view, view-pass}
 use Rattle.message.specs.LongMessage.{bytesTo, announced, meant, meaningOf}
 use Rattle.message.specs.OneSender.{Open, Tells, longMessages}
-use Rattle.message.specs.Receiver.{room, freePlace, layout, idled, isZero, placeKeepsRules, keepsRules, closes, pausedAnswer}
+use Rattle.message.specs.Receiver.{room, freePlace, layout, idled, isZero, placeKeepsRules, keepsRules, closes}
+use Rattle.message.specs.Receiver.{pausedAnswer}
 use Rattle.message.specs.Splitter.{splits, announcementBytes, announcementOf}
 use Rattle.message.specs.Calls.{Held, Starts, Keeps, openIn}
 use Rattle.message.specs.declared.Place.{Place}
 use Rattle.catalogue.specs.Classes.{classAt}
 use Rattle.catalogue.specs.Scale.{scaledOf}
-use Rattle.demands.proofs.LongReceiver.{paused-places, seat-idled, frame-agrees, heardBy, heard-kept-rules, restedBy, rested-kept-rules, starts-keep}
+use Rattle.demands.proofs.LongReceiver.{paused-places, seat-idled, frame-agrees, heardBy, heard-kept-rules, restedBy}
+use Rattle.demands.proofs.LongReceiver.{rested-kept-rules, starts-keep}
 use Rattle.claim.specs.Candidates.{isWellFormed}
 use Rattle.claim.specs.Claim.{keepsRules as keepsClaimRules, holdsList, held, standOf}
 use Rattle.claim.specs.Promises.{isSound}
 use Rattle.command.specs.Acknowledgment.{acknowledgedOf}
 use Rattle.command.proofs.ReplyLaws.{example-eleven}
-use Rattle.examples.specs.Examples.{sent, holding9C, slideReply, storageOfZeros, toldFrom, toldOf, answers, eightSenders, nineBytes, announcement54, first54, second54, _▸_, end, AllAsPrinted}
+use Rattle.examples.specs.Examples.{sent, holding9C, slideReply, storageOfZeros, toldFrom, toldOf, answers}
+use Rattle.examples.specs.Examples.{eightSenders, nineBytes, announcement54, first54, second54, _▸_, end}
+use Rattle.examples.specs.Examples.{AllAsPrinted}
 use Rattle.examples.specs.Examples as Examples
 
 -- the runs of examples (6) and (7), computed on the places, which need no storage

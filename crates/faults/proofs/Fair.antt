@@ -16,13 +16,18 @@ use Rattle.words.proofs.Lists.{found-at}
 use Rattle.claim.specs.declared.Claim.{Claim}
 use Rattle.faults.specs.Fault.{oldest, noFault, isEmpty, isActive, isDue, passed, added, sent}
 use Rattle.faults.specs.Sender.{faultPlaces, faultAt, replacing, passedAll, chosen, nothingDue, sends}
-use Rattle.faults.specs.Runs.{Happened, adds, clears, steps, requests, Leads, Ran, no-call, a-call, isStep, isSent, stepsIn, sentIn, sendsFor, clearsAt, Spared, NotCleared, mostOthers, Waits, DueNext, Fair, SentWithin}
+use Rattle.faults.specs.Runs.{Happened, adds, clears, steps, requests, Leads, Ran, no-call, a-call, isStep}
+use Rattle.faults.specs.Runs.{isSent, stepsIn, sentIn, sendsFor, clearsAt, Spared, NotCleared, mostOthers, Waits}
+use Rattle.faults.specs.Runs.{DueNext, Fair, SentWithin}
 use Rattle.faults.specs.declared.Fault.{Fault}
 use Rattle.faults.specs.declared.Sender.{Sender}
 use Rattle.faults.proofs.Counting.{count-all, count-image, count-set, count-drop, count-two, count-none}
-use Rattle.faults.proofs.Passing.{active-true, active-says, due-says, passed-period, ripe, ripe-says, ripe-of-due, due-of-ripe, ripe-later, sent-unripe, added-unripe, none-unripe, ripe-suc}
+use Rattle.faults.proofs.Passing.{active-true, active-says, due-says, passed-period, ripe, ripe-says}
+use Rattle.faults.proofs.Passing.{ripe-of-due, due-of-ripe, ripe-later, sent-unripe, added-unripe, none-unripe}
+use Rattle.faults.proofs.Passing.{ripe-suc}
 use Rattle.faults.proofs.Chosen.{Chosen, chosen-at, chosen-nowhere}
-use Rattle.faults.proofs.Moves.{Move, add-refused, added-at, clear-refused, cleared-at, step-refused, rested, sent-at, asked, move, inside, fault-passed, length-passed, neither}
+use Rattle.faults.proofs.Moves.{Move, add-refused, added-at, clear-refused, cleared-at, step-refused, rested}
+use Rattle.faults.proofs.Moves.{sent-at, asked, move, inside, fault-passed, length-passed, neither}
 
 -- a fault that is ripe is active
 pub ripe-active : (j : ℕ) (f : Fault) → ripe j f ≡ true → isActive f ≡ true

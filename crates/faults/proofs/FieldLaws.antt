@@ -15,7 +15,8 @@ use Rattle.frame.specs.Frame.{sourceAllowed, checkedOf}
 use Rattle.frame.specs.Promises.{refusalOf}
 use Rattle.frame.specs.declared.Parts.{Parts}
 use Rattle.frame.specs.declared.BadFrame.{BadFrame}
-use Rattle.frame.specs.declared.BadFrame.the-variants.{IdentifierTooLarge, NotEightBytes, ReservedBitSet, SourceNotAllowed}
+use Rattle.frame.specs.declared.BadFrame.the-variants.{IdentifierTooLarge, NotEightBytes, ReservedBitSet}
+use Rattle.frame.specs.declared.BadFrame.the-variants.{SourceNotAllowed}
 use Rattle.words.proofs.Words.{by-test, refused-gives, gives-same}
 use Rattle.frame.proofs.Laws.{badBack, bad-back}
 use Rattle.catalogue.specs.Rows as Catalogue
@@ -29,7 +30,8 @@ use Rattle.catalogue.specs.Promises.{doneIf, bytesAfter}
 use Rattle.catalogue.specs.Laws.{HasBit, bitOf}
 use Rattle.catalogue.specs.declared.Value.{Value}
 use Rattle.catalogue.proofs.Found.{found, for-bad, read-none, read-row, write-none, write-uncoded, write-row}
-use Rattle.catalogue.proofs.Laws.{rule-holds, told-looked-same, told-reading-same, told-writing-same, row-reads-others, row-bits-kept, row-eight-bytes}
+use Rattle.catalogue.proofs.Laws.{rule-holds, told-looked-same, told-reading-same, told-writing-same, row-reads-others}
+use Rattle.catalogue.proofs.Laws.{row-bits-kept, row-eight-bytes}
 use Rattle.faults.specs.Rows.{dmRv, rows, highPart, middlePart, lowPart, readOf, writtenOf}
 use Rattle.faults.specs.ServicePoint.{joined, servicePointOf, writtenParts, withServicePointOf}
 use Rattle.faults.specs.Promises.{toldServicePoint}

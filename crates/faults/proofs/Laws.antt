@@ -13,7 +13,8 @@ use Rattle.words.specs.Words.{if_then_else_, given_then_, _=?_, _≤?_, _and_, 
 use Rattle.words.specs.Lists.{every, first}
 use Rattle.frame.specs.Bytes.{numberOf}
 use Rattle.frame.specs.Standard.{Frame}
-use Rattle.frame.specs.declared.BadFrame.the-variants.{IdentifierTooLarge, NotEightBytes, ReservedBitSet, SourceNotAllowed}
+use Rattle.frame.specs.declared.BadFrame.the-variants.{IdentifierTooLarge, NotEightBytes, ReservedBitSet}
+use Rattle.frame.specs.declared.BadFrame.the-variants.{SourceNotAllowed}
 use Rattle.words.proofs.Words.{by-test, both-true, true-false, refused-gives, gives-same, past-refusal, before-refusal}
 use Rattle.frame.proofs.Laws as frame-laws
 use Rattle.words.specs.declared.Found.{Found}
@@ -24,8 +25,11 @@ use Rattle.claim.specs.Promises.{soundOf}
 use Rattle.claim.specs.declared.Claim.{Claim}
 use Rattle.command.specs.Handed.{addressHeld}
 use Rattle.command.proofs.Laws as host-laws
-use Rattle.faults.specs.Fault.{stepTime, isAllowed, noFault, isZero, isEmpty, isActive, placeKeepsRules, passed, added, sent}
-use Rattle.faults.specs.Sender.{keepsRules, standing, faultAt, replacing, begun, addedAt, addedFor, addedOf, afterAdd, isActiveAt, clearedOf, afterClear, chosen, passedAll, Outcome, nothingDue, sends, heldStep, steppedOf, afterStep}
+use Rattle.faults.specs.Fault.{stepTime, isAllowed, noFault, isZero, isEmpty, isActive, placeKeepsRules, passed}
+use Rattle.faults.specs.Fault.{added, sent}
+use Rattle.faults.specs.Sender.{keepsRules, standing, faultAt, replacing, begun, addedAt, addedFor, addedOf}
+use Rattle.faults.specs.Sender.{afterAdd, isActiveAt, clearedOf, afterClear, chosen, passedAll, Outcome}
+use Rattle.faults.specs.Sender.{nothingDue, sends, heldStep, steppedOf, afterStep}
 use Rattle.faults.specs.Requests as Requests
 use Rattle.faults.specs.Requests.{requestedOf}
 use Rattle.faults.specs.Promises.{toldAdding, toldClearing, toldStepping, toldRequesting}
@@ -43,7 +47,8 @@ use Rattle.faults.specs.declared.Requesting.{Requesting}
 use Rattle.faults.specs.declared.Requesting.the-variants as Requesting
 use Rattle.faults.proofs.Passing.{Phase, vacant, ready, coming, phase, active-says, due-says}
 use Rattle.faults.proofs.Chosen.{chosen-at}
-use Rattle.faults.proofs.Moves.{Move, add-refused, added-at, clear-refused, cleared-at, step-refused, rested, sent-at, asked, move, was-added, made, Step, none, one, held-step, fault-passed}
+use Rattle.faults.proofs.Moves.{Move, add-refused, added-at, clear-refused, cleared-at, step-refused, rested}
+use Rattle.faults.proofs.Moves.{sent-at, asked, move, was-added, made, Step, none, one, held-step, fault-passed}
 use Rattle.faults.proofs.Waiting.{allowed-says}
 
 -- an answer is read back from what it tells

@@ -15,15 +15,20 @@ use Rattle.words.specs.declared.Found.the-variants.{At, Nowhere}
 use Rattle.words.proofs.Lists.{found-at}
 use Rattle.claim.specs.declared.Claim.{Claim}
 use Rattle.faults.specs.Fault.{stepTime, noFault, isEmpty, isActive, isDue, passed, added, sent}
-use Rattle.faults.specs.Sender.{faultPlaces, faultAt, replacing, begun, passedAll, chosen, Outcome, nothingDue, sends, dmRvFrame}
+use Rattle.faults.specs.Sender.{faultPlaces, faultAt, replacing, begun, passedAll, chosen, Outcome, nothingDue}
+use Rattle.faults.specs.Sender.{sends, dmRvFrame}
 use Rattle.faults.specs.Promises.{Start}
-use Rattle.faults.specs.Runs.{Happened, adds, clears, steps, requests, Leads, Ran, no-call, a-call, Duty, idle, dueFrom, again, Known, nothingKnown, learns, knownAfter, known, Longest, NoneDue, Rightly, LongestDue}
+use Rattle.faults.specs.Runs.{Happened, adds, clears, steps, requests, Leads, Ran, no-call, a-call, Duty, idle}
+use Rattle.faults.specs.Runs.{dueFrom, again, Known, nothingKnown, learns, knownAfter, known, Longest, NoneDue}
+use Rattle.faults.specs.Runs.{Rightly, LongestDue}
 use Rattle.faults.specs.declared.Fault.{Fault}
 use Rattle.faults.specs.declared.Sender.{Sender}
 use Rattle.faults.proofs.Counting.{count-one, count-none}
-use Rattle.faults.proofs.Passing.{Phase, vacant, ready, coming, phase, active-true, due-true, due-says, ripe, ripe-suc, ripe-says, added-unripe, none-unripe, sent-unripe, passed-period}
+use Rattle.faults.proofs.Passing.{Phase, vacant, ready, coming, phase, active-true, due-true, due-says, ripe}
+use Rattle.faults.proofs.Passing.{ripe-suc, ripe-says, added-unripe, none-unripe, sent-unripe, passed-period}
 use Rattle.faults.proofs.Chosen.{Chosen, chosen-at, chosen-nowhere}
-use Rattle.faults.proofs.Moves.{Move, add-refused, added-at, clear-refused, cleared-at, step-refused, rested, sent-at, asked, move, inside, active-at, fault-passed, length-passed}
+use Rattle.faults.proofs.Moves.{Move, add-refused, added-at, clear-refused, cleared-at, step-refused, rested}
+use Rattle.faults.proofs.Moves.{sent-at, asked, move, inside, active-at, fault-passed, length-passed}
 use Rattle.faults.proofs.Fair.{Few, few-zero, few-set, few-sent}
 use Rattle.faults.proofs.Waiting.{allowed-says, length-move, length-start}
 

@@ -17,7 +17,9 @@ use Rattle.claim.specs.Claim.{Stand}
 use Rattle.claim.specs.declared.Claim.{Claim}
 use Rattle.command.specs.Handed.{addressHeld}
 use Rattle.faults.specs.Fault.{isAllowed, noFault, isEmpty, isActive, passed, added, sent}
-use Rattle.faults.specs.Sender.{faultPlaces, keepsRules, standing, faultAt, replacing, addedAt, addedFor, addedOf, afterAdd, isActiveAt, clearedOf, afterClear, chosen, passedAll, Outcome, nothingDue, sends, dmRvFrame, outcomeFor, heldStep, steppedOf, afterStep}
+use Rattle.faults.specs.Sender.{faultPlaces, keepsRules, standing, faultAt, replacing, addedAt, addedFor, addedOf}
+use Rattle.faults.specs.Sender.{afterAdd, isActiveAt, clearedOf, afterClear, chosen, passedAll, Outcome}
+use Rattle.faults.specs.Sender.{nothingDue, sends, dmRvFrame, outcomeFor, heldStep, steppedOf, afterStep}
 use Rattle.faults.specs.Requests as Requests
 use Rattle.faults.specs.Runs.{Happened, adds, clears, steps, requests, Leads}
 use Rattle.faults.specs.declared.Fault.{Fault}

@@ -34,7 +34,8 @@ use Rattle.catalogue.proofs.Found.{given-then, found, match-same, for-sound, re
 use Rattle.catalogue.proofs.Bits.{field-below}
 use Rattle.catalogue.proofs.Laws.{code-back, row-reads-code, row-reads-others, row-eight-bytes}
 use Rattle.faults.specs.Rows.{field, highPart, middlePart, lowPart, readOf, writtenOf}
-use Rattle.faults.specs.ServicePoint.{servicePoints, joined, codeIn, servicePointOf, HasServicePoint, writtenParts, withServicePointOf}
+use Rattle.faults.specs.ServicePoint.{servicePoints, joined, codeIn, servicePointOf, HasServicePoint}
+use Rattle.faults.specs.ServicePoint.{writtenParts, withServicePointOf}
 use Rattle.faults.specs.Promises.{WriteField, WriteServicePoint}
 
 -- a row of the same DGN is found in every frame that another is found in

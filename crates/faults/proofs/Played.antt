@@ -18,9 +18,12 @@ use Rattle.claim.specs.Promises.{soundOf}
 use Rattle.claim.specs.declared.Claim.{Claim}
 use Rattle.command.specs.Handed.{addressHeld}
 use Rattle.faults.specs.Fault.{isAllowed, isZero, isEmpty, placeKeepsRules, passed}
-use Rattle.faults.specs.Sender.{keepsRules, standing, begun, addedAt, addedFor, addedOf, afterAdd, isActiveAt, clearedOf, longer, longestDue, chosen, Outcome, nothingDue, sends, heldStep, steppedOf, afterStep}
+use Rattle.faults.specs.Sender.{keepsRules, standing, begun, addedAt, addedFor, addedOf, afterAdd, isActiveAt}
+use Rattle.faults.specs.Sender.{clearedOf, longer, longestDue, chosen, Outcome, nothingDue, sends, heldStep}
+use Rattle.faults.specs.Sender.{steppedOf, afterStep}
 use Rattle.faults.specs.Promises.{toldAdding, toldClearing, toldStepping, sentIn}
-use Rattle.faults.specs.Runs.{Happened, adds, Leads, Ran, no-call, a-call, Call, adding, clearing, stepping, happens, leaves, played, playedTo, EveryRunRuns, Sharp}
+use Rattle.faults.specs.Runs.{Happened, adds, Leads, Ran, no-call, a-call, Call, adding, clearing, stepping}
+use Rattle.faults.specs.Runs.{happens, leaves, played, playedTo, EveryRunRuns, Sharp}
 use Rattle.faults.specs.Laws.{holding}
 use Rattle.faults.specs.declared.Sender.{Sender}
 use Rattle.faults.specs.declared.Adding.{Adding}

@@ -10,7 +10,8 @@ use lib.ListN.{length, getD, take, drop, replicate}
 use Rattle.words.specs.Words.{if_then_else_, given_then_, _=?_, _<?_, _and_, _or_, Told, refused, gives}
 use Rattle.words.specs.Lists.{any, first}
 use Rattle.frame.specs.Bytes.{numberOf, bytesOf}
-use Rattle.frame.specs.Identifier.{priorityOf, reservedOf, dgnOf, sourceOf, identifierOf, identifiers, isAddressed, catalogueForm, destinationOf, greatestDgn}
+use Rattle.frame.specs.Identifier.{priorityOf, reservedOf, dgnOf, sourceOf, identifierOf, identifiers, isAddressed}
+use Rattle.frame.specs.Identifier.{catalogueForm, destinationOf, greatestDgn}
 use Rattle.frame.specs.Frame.{checkedOf, sourceAllowed, formedOf, apartOf, frameBytes}
 use Rattle.frame.specs.Standard.{Frame, greatestAddress, everyone, requestDgn, addressClaimed, dgnAt}
 use Rattle.frame.specs.Laws.{toldButPriority}
@@ -28,12 +29,15 @@ use Rattle.claim.specs.declared.Claim.{Claim}
 use Rattle.command.specs.Handed.{addressHeld, handedIn}
 use Rattle.command.specs.Hosted.{hosted, isWellFormed}
 use Rattle.command.specs.Requests as Hosting
-use Rattle.command.specs.Requests.{instanceAsked, requestedDgn, askedOf, isOurs, isOurAddress, supports, statusOf, replyOf, answerOf, requestedOf as hostRequestedOf}
+use Rattle.command.specs.Requests.{instanceAsked, requestedDgn, askedOf, isOurs, isOurAddress, supports, statusOf}
+use Rattle.command.specs.Requests.{replyOf, answerOf, requestedOf as hostRequestedOf}
 use Rattle.command.specs.declared.Host.{Host}
 use Rattle.faults.specs.Rows.{dmRv}
 use Rattle.faults.specs.Fault.{isAllowed, noFault, isZero, isEmpty, isActive, placeKeepsRules, passed}
-use Rattle.faults.specs.Sender.{dmRvPriority, dmRvId, keepsRules, standing, faultAt, addedAt, addedOf, longer, longestDue, chosen, heldStep, steppedOf}
-use Rattle.faults.specs.Requests.{Asks, other, faultsOf, meantBy, isForUs, replyFrom, replyBytes, Reply, nothingToDo, sends, answerAt, heardOf, requestedOf}
+use Rattle.faults.specs.Sender.{dmRvPriority, dmRvId, keepsRules, standing, faultAt, addedAt, addedOf, longer}
+use Rattle.faults.specs.Sender.{longestDue, chosen, heldStep, steppedOf}
+use Rattle.faults.specs.Requests.{Asks, other, faultsOf, meantBy, isForUs, replyFrom, replyBytes, Reply}
+use Rattle.faults.specs.Requests.{nothingToDo, sends, answerAt, heardOf, requestedOf}
 use Rattle.faults.specs.Promises.{hostTold}
 use Rattle.faults.specs.Laws as the
 use Rattle.faults.specs.declared.Fault.{Fault}

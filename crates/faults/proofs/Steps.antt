@@ -33,11 +33,16 @@ use Rattle.command.specs.Requests as Host
 use Rattle.command.specs.Promises as HostPromises
 use Rattle.command.specs.declared.Host as Hosts
 use Rattle.faults.specs.Fault.{noFault, isEmpty, isDue}
-use Rattle.faults.specs.Sender.{dmRvId, dmRvFrame, faultPlaces, keepsRules, standing, addedFor, addedOf, isActiveAt, longer, longestDue, isChosen, chosen, passedAll, Outcome, nothingDue, heldStep, steppedOf, afterStep}
-use Rattle.faults.specs.Requests.{Asks, other, faultsOf, meantBy, replyBytes, Reply, nothingToDo, sends, answerAt, heardOf, requestedOf}
+use Rattle.faults.specs.Sender.{dmRvId, dmRvFrame, faultPlaces, keepsRules, standing, addedFor, addedOf}
+use Rattle.faults.specs.Sender.{isActiveAt, longer, longestDue, isChosen, chosen, passedAll, Outcome, nothingDue}
+use Rattle.faults.specs.Sender.{heldStep, steppedOf, afterStep}
+use Rattle.faults.specs.Requests.{Asks, other, faultsOf, meantBy, replyBytes, Reply, nothingToDo, sends, answerAt}
+use Rattle.faults.specs.Requests.{heardOf, requestedOf}
 use Rattle.faults.specs.Promises as Promises
-use Rattle.faults.specs.Promises.{toldStepping, sentIn, SteppedBy, toldRequesting, repliedIn, RequestedBy, Request, hostTold}
-use Rattle.faults.specs.Private.{lowest, foundAt, toldMeant, sentAt, bareStepped, bareRequested, answeredBy, withoutHost}
+use Rattle.faults.specs.Promises.{toldStepping, sentIn, SteppedBy, toldRequesting, repliedIn, RequestedBy}
+use Rattle.faults.specs.Promises.{Request, hostTold}
+use Rattle.faults.specs.Private.{lowest, foundAt, toldMeant, sentAt, bareStepped, bareRequested, answeredBy}
+use Rattle.faults.specs.Private.{withoutHost}
 use Rattle.faults.specs.declared.Fault.{Fault}
 use Rattle.faults.specs.declared.Sender.{Sender}
 use Rattle.faults.specs.declared.Stepping.{Stepping}

@@ -19,12 +19,17 @@ use Rattle.faults.specs.Fault.{stepTime, isAllowed, noFault, isEmpty, is
 use Rattle.command.specs.Handed.{addressHeld}
 use Rattle.faults.specs.Sender.{faultPlaces, standing, faultAt, replacing, passedAll, chosen, sends, dmRvFrame}
 use Rattle.faults.specs.Promises.{Start}
-use Rattle.faults.specs.Runs.{Happened, adds, clears, steps, requests, Leads, Ran, no-call, a-call, isStep, stepsIn, sendsFor, clearsAt, addsAt, Spared, NotCleared, Waits, DueNext, Active, Own, FairAdded, FairAgain, SentIsOwn, NeverEarly, NeverCleared}
+use Rattle.faults.specs.Runs.{Happened, adds, clears, steps, requests, Leads, Ran, no-call, a-call, isStep}
+use Rattle.faults.specs.Runs.{stepsIn, sendsFor, clearsAt, addsAt, Spared, NotCleared, Waits, DueNext, Active}
+use Rattle.faults.specs.Runs.{Own, FairAdded, FairAgain, SentIsOwn, NeverEarly, NeverCleared}
 use Rattle.faults.specs.declared.Fault.{Fault}
 use Rattle.faults.specs.declared.Sender.{Sender}
-use Rattle.faults.proofs.Passing.{active-true, active-says, due-says, passed-bytes, passed-period, passed-until, passed-none, ripe-zero, due-of-ripe, ripe-of-due, ripe-zero-says}
+use Rattle.faults.proofs.Passing.{active-true, active-says, due-says, passed-bytes, passed-period, passed-until}
+use Rattle.faults.proofs.Passing.{passed-none, ripe-zero, due-of-ripe, ripe-of-due, ripe-zero-says}
 use Rattle.faults.proofs.Chosen.{chosen-at}
-use Rattle.faults.proofs.Moves.{Move, add-refused, added-at, clear-refused, cleared-at, step-refused, rested, sent-at, asked, move, inside, outside, active-at, fault-passed, length-passed, neither}
+use Rattle.faults.proofs.Moves.{Move, add-refused, added-at, clear-refused, cleared-at, step-refused, rested}
+use Rattle.faults.proofs.Moves.{sent-at, asked, move, inside, outside, active-at, fault-passed, length-passed}
+use Rattle.faults.proofs.Moves.{neither}
 use Rattle.faults.proofs.Fair.{fair}
 
 -- a period that is allowed is at least 100, in steps of 50

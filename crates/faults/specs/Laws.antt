@@ -33,11 +33,15 @@ use Rattle.command.specs.declared.Acknowledgment.{Acknowledgment}
 use Rattle.command.specs.declared.Edition.the-variants.{One}
 use Rattle.faults.specs.Rows.{dmRv}
 use Rattle.faults.specs.Fault.{isAllowed, isEmpty, isActive, passed}
-use Rattle.faults.specs.Sender.{dmRvPriority, dmRvId, dmRvFrame, faultPlaces, keepsRules, faultAt, begun, addedOf, afterAdd, isActiveAt, clearedOf, Outcome, nothingDue, sends, heldStep, steppedOf}
+use Rattle.faults.specs.Sender.{dmRvPriority, dmRvId, dmRvFrame, faultPlaces, keepsRules, faultAt, begun, addedOf}
+use Rattle.faults.specs.Sender.{afterAdd, isActiveAt, clearedOf, Outcome, nothingDue, sends, heldStep, steppedOf}
 use Rattle.faults.specs.Requests as Requests
 use Rattle.faults.specs.Requests.{meantBy, noneActive, replyBytes, answerAt, requestedOf}
-use Rattle.faults.specs.Promises.{toldServicePoint, PackedRows, RowAt, ReadField, WriteField, ReadServicePoint, WriteServicePoint, ServicePointRefusal}
-use Rattle.faults.specs.Promises.{toldAdding, toldClearing, toldStepping, toldRequesting, Start, Add, Clear, Step, Request, Reply, AddingRefusal, ClearingRefusal, SteppingRefusal, RequestingRefusal}
+use Rattle.faults.specs.Promises.{toldServicePoint, PackedRows, RowAt, ReadField, WriteField, ReadServicePoint}
+use Rattle.faults.specs.Promises.{WriteServicePoint, ServicePointRefusal}
+use Rattle.faults.specs.Promises.{toldAdding, toldClearing, toldStepping, toldRequesting, Start, Add, Clear, Step}
+use Rattle.faults.specs.Promises.{Request, Reply, AddingRefusal, ClearingRefusal, SteppingRefusal}
+use Rattle.faults.specs.Promises.{RequestingRefusal}
 use Rattle.faults.specs.Runs.{Happened, Ran}
 use Rattle.faults.specs.declared.Sender.{Sender}
 use Rattle.faults.specs.declared.ServicePoint.{ServicePoint}

@@ -19,7 +19,8 @@ use Rattle.command.specs.declared.Host as Hosts
 use Rattle.faults.specs.Rows.{rows, packed, readOf, writtenOf}
 use Rattle.faults.specs.ServicePoint.{servicePointOf, withServicePointOf}
 use Rattle.faults.specs.Sender as Sender
-use Rattle.faults.specs.Sender.{begun, addedOf, afterAdd, clearedOf, afterClear, Outcome, nothingDue, steppedOf, afterStep}
+use Rattle.faults.specs.Sender.{begun, addedOf, afterAdd, clearedOf, afterClear, Outcome, nothingDue, steppedOf}
+use Rattle.faults.specs.Sender.{afterStep}
 use Rattle.faults.specs.Requests as Requests
 use Rattle.faults.specs.Requests.{nothingToDo, requestedOf}
 use Rattle.faults.specs.declared.Sender as Senders

@@ -14,7 +14,8 @@ use Rattle.faults.specs.Fault.{stepTime, isDue, passed}
 use Rattle.faults.specs.Sender.{faultPlaces, faultAt, dmRvFrame, standing, Outcome, nothingDue, sends}
 use Rattle.faults.specs.Sender.{addedOf, afterAdd, clearedOf, afterClear, steppedOf, afterStep}
 use Rattle.faults.specs.Requests as Requests
-use Rattle.faults.specs.Promises.{Start, Add, Clear, Step, Request, toldAdding, toldClearing, toldStepping, toldRequesting}
+use Rattle.faults.specs.Promises.{Start, Add, Clear, Step, Request, toldAdding, toldClearing, toldStepping}
+use Rattle.faults.specs.Promises.{toldRequesting}
 use Rattle.faults.specs.declared.Sender.{Sender}
 use Rattle.faults.specs.declared.Adding.{Adding}
 use Rattle.faults.specs.declared.Clearing.{Clearing}

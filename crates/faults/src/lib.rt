@@ -22,7 +22,10 @@ use frame::Verdict;
 ghost use mathlib.Core.Path.{_≡_};
 ghost use Rattle.catalogue.specs.Table.{nth};
 ghost use Rattle.faults.specs.Rows.{rows};
-ghost use Rattle.faults.specs.Promises.{PackedRows, RowAt, ReadField, WriteField, ReadServicePoint, WriteServicePoint, Start, Add, Clear, Step, Request, Reply, ServicePointRefusal, AddingRefusal, ClearingRefusal, SteppingRefusal, RequestingRefusal};
+ghost use Rattle.faults.specs.Promises.{PackedRows, RowAt, ReadField, WriteField, ReadServicePoint};
+ghost use Rattle.faults.specs.Promises.{WriteServicePoint, Start, Add, Clear, Step, Request, Reply};
+ghost use Rattle.faults.specs.Promises.{ServicePointRefusal, AddingRefusal, ClearingRefusal, SteppingRefusal};
+ghost use Rattle.faults.specs.Promises.{RequestingRefusal};
 
 // DM_RV.
 pub const DM_RV: u32 = 0x1FECA;

@@ -1,6 +1,7 @@
 // One place of a sender: the rules of a fault, and what time makes of it.
 ghost use mathlib.Core.Path.{_≡_};
-ghost use Rattle.faults.specs.Fault.{isAllowed, noFault, isZero, placeKeepsRules, isDue, older, sooner, passed, added, sent};
+ghost use Rattle.faults.specs.Fault.{isAllowed, noFault, isZero, placeKeepsRules, isDue, older, sooner, passed};
+ghost use Rattle.faults.specs.Fault.{added, sent};
 use crate::Fault;
 use crate::STEP;
 

@@ -10,17 +10,23 @@ use borrow.Author.Tests.{eq-eqb, ne-eqb, lt-ltb, le-ltb, le-leb, lt-leb, ltb-fal
 use lib.ListN.{length, replicate}
 use lib.Pow.{shr-shr}
 use Rattle.words.specs.Words.{if_then_else_, _≤?_, _<?_, _=?_, Told, refused, gives}
-use Rattle.frame.specs.Identifier.{priorityOf, reservedOf, dgnOf, sourceOf, partsOf, identifierOf, identifiers, greatestDgn, lowestPriority}
+use Rattle.frame.specs.Identifier.{priorityOf, reservedOf, dgnOf, sourceOf, partsOf, identifierOf, identifiers}
+use Rattle.frame.specs.Identifier.{greatestDgn, lowestPriority}
 use Rattle.frame.specs.Frame.{frameBytes, sourceAllowed, apartOf, formedOf, checkedOf}
 use Rattle.frame.specs.Promises.{toldApart, toldFormed, toldVerdict, refusalOf, bytesIf}
-use Rattle.frame.specs.Laws.{ToldApartSame, ToldFormedSame, ToldVerdictSame, TakeApartOnly, FormOnly, CheckOnly, DestinationOfOnly, CatalogueFormOnly, NumberOfOnly, BytesOfOnly, DgnBytesOnly, DgnOfOnly, ApartRefusalOnly, FormedRefusalOnly, BadFrameRefusalOnly, VerdictRefusalOnly, DgnBack, NoFrameRefused, RefusedKeeps, PartsBack, IdentifierBack, LowestWins, toldButPriority, PriorityIgnored, NumberBack, BytesBack, ExampleOne}
+use Rattle.frame.specs.Laws.{ToldApartSame, ToldFormedSame, ToldVerdictSame, TakeApartOnly, FormOnly, CheckOnly}
+use Rattle.frame.specs.Laws.{DestinationOfOnly, CatalogueFormOnly, NumberOfOnly, BytesOfOnly, DgnBytesOnly}
+use Rattle.frame.specs.Laws.{DgnOfOnly, ApartRefusalOnly, FormedRefusalOnly, BadFrameRefusalOnly}
+use Rattle.frame.specs.Laws.{VerdictRefusalOnly, DgnBack, NoFrameRefused, RefusedKeeps, PartsBack, IdentifierBack}
+use Rattle.frame.specs.Laws.{LowestWins, toldButPriority, PriorityIgnored, NumberBack, BytesBack, ExampleOne}
 use Rattle.frame.specs.declared.Parts.{Parts}
 use Rattle.frame.specs.declared.Apart.{Apart}
 use Rattle.frame.specs.declared.Apart.the-variants as Apart
 use Rattle.frame.specs.declared.Formed.{Formed}
 use Rattle.frame.specs.declared.Formed.the-variants.{Identifier, NoCode}
 use Rattle.frame.specs.declared.BadFrame.{BadFrame}
-use Rattle.frame.specs.declared.BadFrame.the-variants.{IdentifierTooLarge, NotEightBytes, ReservedBitSet, SourceNotAllowed}
+use Rattle.frame.specs.declared.BadFrame.the-variants.{IdentifierTooLarge, NotEightBytes, ReservedBitSet}
+use Rattle.frame.specs.declared.BadFrame.the-variants.{SourceNotAllowed}
 use Rattle.frame.specs.declared.Verdict.{Verdict}
 use Rattle.frame.specs.declared.Verdict.the-variants.{Sound, Bad}
 use Rattle.frame.specs.declared.Checked.{Checked}

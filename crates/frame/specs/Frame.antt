@@ -3,7 +3,8 @@
 use mathlib.Core.Bool.{Bool, true, false, not}
 use Prim.Native.Nat.{ℕ}
 use Rattle.words.specs.Words.{if_then_else_, _<?_, _≤?_, _=?_, _or_, bits, Told, refused, gives}
-use Rattle.frame.specs.Identifier.{reservedOf, sourceOf, dgnOf, partsOf, identifierOf, identifiers, greatestDgn, lowestPriority}
+use Rattle.frame.specs.Identifier.{reservedOf, sourceOf, dgnOf, partsOf, identifierOf, identifiers, greatestDgn}
+use Rattle.frame.specs.Identifier.{lowestPriority}
 use Rattle.frame.specs.declared.Parts.{Parts}
 
 -- every frame carries eight bytes (000, 3.1)

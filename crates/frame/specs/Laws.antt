@@ -7,10 +7,13 @@ use Prim.Native.Nat.{ℕ, _≤_, _<_, _%_, _^_}
 use lib.ListN.{length, replicate}
 use Rattle.words.specs.Words.{Told, refused, gives}
 use Rattle.frame.specs.Bytes.{numberOf, bytesOf, AreBytes}
-use Rattle.frame.specs.Identifier.{reservedOf, dgnOf, sourceOf, partsOf, identifierOf, identifiers, greatestDgn, lowestPriority}
+use Rattle.frame.specs.Identifier.{reservedOf, dgnOf, sourceOf, partsOf, identifierOf, identifiers, greatestDgn}
+use Rattle.frame.specs.Identifier.{lowestPriority}
 use Rattle.frame.specs.Frame.{frameBytes, sourceAllowed, apartOf, formedOf, checkedOf}
 use Rattle.frame.specs.Standard.{noFrame, dgnBytes}
-use Rattle.frame.specs.Promises.{toldApart, toldFormed, toldVerdict, TakeApart, Form, Check, DestinationOf, CatalogueForm, NumberOf, BytesOf, DgnBytes, DgnOf, ApartRefusal, FormedRefusal, BadFrameRefusal, VerdictRefusal}
+use Rattle.frame.specs.Promises.{toldApart, toldFormed, toldVerdict, TakeApart, Form, Check, DestinationOf}
+use Rattle.frame.specs.Promises.{CatalogueForm, NumberOf, BytesOf, DgnBytes, DgnOf, ApartRefusal, FormedRefusal}
+use Rattle.frame.specs.Promises.{BadFrameRefusal, VerdictRefusal}
 use Rattle.frame.specs.declared.Parts.{Parts}
 use Rattle.frame.specs.declared.Apart.{Apart}
 use Rattle.frame.specs.declared.Formed.{Formed}

@@ -16,7 +16,8 @@ use Rattle.frame.specs.declared.Apart.the-variants as Apart
 use Rattle.frame.specs.declared.Formed.{Formed}
 use Rattle.frame.specs.declared.Formed.the-variants.{Identifier, NoCode}
 use Rattle.frame.specs.declared.BadFrame.{BadFrame}
-use Rattle.frame.specs.declared.BadFrame.the-variants.{IdentifierTooLarge, NotEightBytes, ReservedBitSet, SourceNotAllowed}
+use Rattle.frame.specs.declared.BadFrame.the-variants.{IdentifierTooLarge, NotEightBytes, ReservedBitSet}
+use Rattle.frame.specs.declared.BadFrame.the-variants.{SourceNotAllowed}
 use Rattle.frame.specs.declared.Verdict.{Verdict}
 use Rattle.frame.specs.declared.Verdict.the-variants.{Sound, Bad}
 use Rattle.frame.specs.declared.Checked.{Checked}

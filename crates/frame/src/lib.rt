@@ -7,7 +7,9 @@ ghost use Prim.Native.Nat.{_<_, _%_};
 ghost use lib.ListN.{length};
 ghost use Rattle.frame.specs.Identifier.{reservedOf, partsOf};
 ghost use Rattle.frame.specs.Frame.{sourceAllowed, checkedOf};
-ghost use Rattle.frame.specs.Promises.{TakeApart, Form, Check, DestinationOf, CatalogueForm, NumberOf, BytesOf, DgnBytes, DgnOf, ApartRefusal, FormedRefusal, BadFrameRefusal, VerdictRefusal, toldVerdict};
+ghost use Rattle.frame.specs.Promises.{TakeApart, Form, Check, DestinationOf, CatalogueForm, NumberOf, BytesOf};
+ghost use Rattle.frame.specs.Promises.{DgnBytes, DgnOf, ApartRefusal, FormedRefusal, BadFrameRefusal};
+ghost use Rattle.frame.specs.Promises.{VerdictRefusal, toldVerdict};
 
 // The parts of an identifier: bits 28-26, 24-8 and 7-0.
 pub struct Parts {

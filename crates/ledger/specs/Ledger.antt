@@ -20,12 +20,16 @@ use Rattle.faults.specs.Runs as FaultsRuns
 use Rattle.capture.specs.Laws as Capture
 use Rattle.demands.specs.EveryCall.{EveryCall}
 use Rattle.demands.specs.EveryLaw.{EveryLaw}
-use Rattle.demands.specs.BusyBus.{BusyBus, OpenOnBus, ToldOnBus, NoPlaceFree, PauseCount, SumsOfPauses, StartKept, RulesKept, EveryRunRuns, NoPlaceFreeAt, PauseCountAt}
+use Rattle.demands.specs.BusyBus.{BusyBus, OpenOnBus, ToldOnBus, NoPlaceFree, PauseCount, SumsOfPauses, StartKept}
+use Rattle.demands.specs.BusyBus.{RulesKept, EveryRunRuns, NoPlaceFreeAt, PauseCountAt}
 use Rattle.demands.specs.SplitAndJoin.{SplitAndJoin, JoinedByRules}
 use Rattle.demands.specs.FastBus as FastBus
 use Rattle.demands.specs.FastSplitAndJoin as FastSplitAndJoin
 use Rattle.demands.specs.ClaimsHeard.{ClaimIsHeard}
-use Rattle.examples.specs.Examples.{dmRv, eightAnnounced, nineAnnounced, eightSplit, nineSplit, longestAnnounced, longerAnnounced, longestSplit, longerSplit, wrongCount, idleKept, idleClosed, ninthSender, longMessage, lastNumber, firstReserved, zeroAmperes, lowestCelsius, slideAcknowledged, table, AllAsPrinted}
+use Rattle.examples.specs.Examples.{dmRv, eightAnnounced, nineAnnounced, eightSplit, nineSplit, longestAnnounced}
+use Rattle.examples.specs.Examples.{longerAnnounced, longestSplit, longerSplit, wrongCount, idleKept, idleClosed}
+use Rattle.examples.specs.Examples.{ninthSender, longMessage, lastNumber, firstReserved, zeroAmperes, lowestCelsius}
+use Rattle.examples.specs.Examples.{slideAcknowledged, table, AllAsPrinted}
 
 pub record FieldsOfOne : Type 2 where
   pub calls : EveryCall

@@ -11,13 +11,17 @@ use lib.ListN.{length, getD, take, drop, length-take}
 use lib.Dec.{eqb}
 use borrow.Author.Tests.{eqb-true, eqb-false}
 use Rattle.words.proofs.Words.{by-test}
-use Rattle.nodes.specs.Table.{addresses, absent, held, hasName, hasChallenger, unchallengedOf, givesWay, mayChallenge, clearedOf, enteredOf, stands, claimedAt, pausedAt, eachFrom, claimedOf, pausedOf, keepsRules}
+use Rattle.nodes.specs.Table.{addresses, absent, held, hasName, hasChallenger, unchallengedOf, givesWay}
+use Rattle.nodes.specs.Table.{mayChallenge, clearedOf, enteredOf, stands, claimedAt, pausedAt, eachFrom}
+use Rattle.nodes.specs.Table.{claimedOf, pausedOf, keepsRules}
 use Rattle.nodes.specs.Laws.{Rules, NameOnce, TakenByLower}
 use Rattle.nodes.specs.declared.Node.{Node}
 use Rattle.nodes.specs.declared.Claim.{Claim}
 use Rattle.nodes.proofs.Each.{each-length, each-inside, take-each, drop-each}
 use Rattle.nodes.proofs.Find.{getD-front, front-length}
-use Rattle.nodes.proofs.Sound.{Facts, name-of, rules-of, of-rules, rules-facts, facts-at, cleared-challenger, cleared-none, entered-taken, entered-challenges, entered-not, present-gives, elsewhere, here-other, claimed-facts, claimed-stands, paused-facts, paused-stands}
+use Rattle.nodes.proofs.Sound.{Facts, name-of, rules-of, of-rules, rules-facts, facts-at, cleared-challenger}
+use Rattle.nodes.proofs.Sound.{cleared-none, entered-taken, entered-challenges, entered-not, present-gives}
+use Rattle.nodes.proofs.Sound.{elsewhere, here-other, claimed-facts, claimed-stands, paused-facts, paused-stands}
 
 -- ---- over any number of records
 

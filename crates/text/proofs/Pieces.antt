@@ -9,7 +9,8 @@ use native.Mathlib.Numerals.{add-one}
 use native.Mathlib.Omega.{arith}
 use borrow.Author.Tests.{le-leb, lt-leb, leb-true, leb-false, not-true, not-false}
 use lib.ListN.{length, getD, take, drop, set, length-append, length-set, length-drop, take-append-drop}
-use lib.Seq.{paste, paste-zero, paste-suc, take-set-le, set-split, drop-at, take-at, take-all, take-length, drop-drop, length-take-le}
+use lib.Seq.{paste, paste-zero, paste-suc, take-set-le, set-split, drop-at, take-at, take-all, take-length, drop-drop}
+use lib.Seq.{length-take-le}
 use Rattle.words.specs.Words.{_≤?_}
 use Rattle.words.proofs.Words.{by-test}
 use Rattle.text.specs.Text.{glyph, digits, decimalWidth, decimal, bytePairs}

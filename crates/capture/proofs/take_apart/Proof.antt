@@ -12,7 +12,8 @@ use Rattle.capture.specs.Private.{toldSpelled, toldEight}
 use Rattle.capture.specs.Line.{hasShape, gapRead, bytesRead, gapIn, idIn, dataIn}
 use Rattle.capture.specs.Digits.{numberRead}
 use Rattle.words.specs.Words.{refused, gives}
-use Rattle.capture.proofs.Lines.{no-shape, no-gap, no-id, no-data, a-frame, blank-line, sound-line, shape-length, gap-below}
+use Rattle.capture.proofs.Lines.{no-shape, no-gap, no-id, no-data, a-frame, blank-line, sound-line, shape-length}
+use Rattle.capture.proofs.Lines.{gap-below}
 use Rattle.capture.proofs.take_apart.Statement.{statement}
 use Rattle.capture.proofs.take_apart.Tie as tie
 

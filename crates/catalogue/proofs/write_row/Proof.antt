@@ -10,7 +10,8 @@ use Rattle.catalogue.specs.Field.{withField}
 use Rattle.frame.specs.Promises.{refusalOf}
 use Rattle.frame.specs.Frame.{frameBytes}
 use Rattle.frame.specs.Bytes.{numberOf, bytesOf}
-use Rattle.catalogue.proofs.Found.{found, found-frame, found-bytes, write-none, write-uncoded, write-row, write-keeps, write-gives}
+use Rattle.catalogue.proofs.Found.{found, found-frame, found-bytes, write-none, write-uncoded, write-row}
+use Rattle.catalogue.proofs.Found.{write-keeps, write-gives}
 use Rattle.catalogue.proofs.Codes.{code-given}
 use Rattle.catalogue.proofs.write_row.Statement.{statement}
 use Rattle.catalogue.proofs.write_row.Tie as tie

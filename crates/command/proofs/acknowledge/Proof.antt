@@ -5,11 +5,14 @@ use borrow.Author.Needs.{needs}
 use Rattle.command.specs.Acknowledgment.{acknowledgmentFrame}
 use Rattle.command.specs.declared.address.Address.{Address}
 use Rattle.claim.proofs.Calls.{sound-well}
-use Rattle.command.specs.declared.Acknowledging.the-variants.{BrokenState, RequesterNotAllowed, ListMalformed, DgnTooLarge, NoAddressHeld}
+use Rattle.command.specs.declared.Acknowledging.the-variants.{BrokenState, RequesterNotAllowed, ListMalformed}
+use Rattle.command.specs.declared.Acknowledging.the-variants.{DgnTooLarge, NoAddressHeld}
 use Rattle.command.specs.Private.{standAt}
 use Rattle.command.specs.Handed.{addressHeld}
 use Rattle.words.specs.Words.{refused}
-use Rattle.command.proofs.Answers.{formed-acknowledged, bare-acknowledged, acknowledged-broken, acknowledged-nobody, acknowledged-ill, acknowledged-large, acknowledged-held, acknowledged-unheld}
+use Rattle.command.proofs.Answers.{formed-acknowledged, bare-acknowledged, acknowledged-broken}
+use Rattle.command.proofs.Answers.{acknowledged-nobody, acknowledged-ill, acknowledged-large, acknowledged-held}
+use Rattle.command.proofs.Answers.{acknowledged-unheld}
 use Rattle.command.proofs.acknowledge.Statement.{statement}
 use Rattle.command.proofs.acknowledge.Tie as tie
 

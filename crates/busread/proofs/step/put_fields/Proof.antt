@@ -8,7 +8,8 @@ use Rattle.frame.specs.Identifier.{sourceOf, dgnOf}
 use Rattle.text.specs.Pieces.{Wrote}
 use Rattle.busread.specs.Report.{headText, fieldsText}
 use Rattle.text.proofs.Pieces.{behind, nothing}
-use Rattle.busread.proofs.Fields.{row-there, row-missing, span-there, span-fits, room-left, rowsIn, fields-turn, whole-span}
+use Rattle.busread.proofs.Fields.{row-there, row-missing, span-there, span-fits, room-left, rowsIn, fields-turn}
+use Rattle.busread.proofs.Fields.{whole-span}
 use borrow.Author.Needs.{needs}
 use native.Mathlib.Omega.{arith}
 use Rattle.busread.proofs.step.put_fields.Statement.{statement}

@@ -7,7 +7,8 @@ use Rattle.command.specs.declared.Requesting.the-variants.{Unsupported}
 use Rattle.command.specs.Requests.{supports, unsupported}
 use Rattle.command.specs.Private.{askedBy}
 use Rattle.words.specs.Words.{gives}
-use Rattle.command.proofs.Answers.{bare-requested, supported-requested, status-supported, status-global, status-nobody, status-nak}
+use Rattle.command.proofs.Answers.{bare-requested, supported-requested, status-supported, status-global}
+use Rattle.command.proofs.Answers.{status-nobody, status-nak}
 use Rattle.command.proofs.Picks.{none-picked, some-picked}
 use Rattle.command.proofs.requests.status.Statement.{statement}
 use Rattle.command.proofs.requests.status.Tie as tie

@@ -5,7 +5,8 @@ use borrow.Author.Needs.{needs}
 use Rattle.words.specs.Words.{refused}
 use Rattle.frame.specs.Promises.{refusalOf, toldVerdict}
 use Rattle.faults.specs.declared.Requesting.the-variants.{BrokenState, BadFrame}
-use Rattle.faults.proofs.Steps.{bare-requested, requested-as, requested-broken, requested-ill, requested-bad, requested-sound}
+use Rattle.faults.proofs.Steps.{bare-requested, requested-as, requested-broken, requested-ill, requested-bad}
+use Rattle.faults.proofs.Steps.{requested-sound}
 use Rattle.faults.proofs.Sender.request.Statement.{statement}
 use Rattle.faults.proofs.Sender.request.Tie as tie
 

@@ -7,7 +7,8 @@ use Rattle.claim.specs.Claim.{held, claiming, silent}
 use Rattle.claim.specs.Promises.{toldStanding}
 use Rattle.command.specs.Handed.{addressHeld}
 use Rattle.faults.specs.declared.Stepping.the-variants.{BrokenState, ListMalformed, NoAddressHeld}
-use Rattle.faults.proofs.Steps.{bare-stepped, stepped-as, stands-told, stepped-broken, stepped-refused, stepped-stands}
+use Rattle.faults.proofs.Steps.{bare-stepped, stepped-as, stands-told, stepped-broken, stepped-refused}
+use Rattle.faults.proofs.Steps.{stepped-stands}
 use Rattle.faults.proofs.Sender.step.Statement.{statement}
 use Rattle.faults.proofs.Sender.step.Tie as tie
 

@@ -6,7 +6,8 @@ use Rattle.claim.specs.Claim.{held, silent}
 use Rattle.claim.specs.Promises.{toldStanding}
 use Rattle.faults.specs.Private.{toldMeant}
 use Rattle.faults.specs.declared.Requesting.the-variants.{BrokenState, ListMalformed}
-use Rattle.faults.proofs.Steps.{bare-requested, requested-as, stands-told, heard-refused, heard-stands, heard-unheld}
+use Rattle.faults.proofs.Steps.{bare-requested, requested-as, stands-told, heard-refused, heard-stands}
+use Rattle.faults.proofs.Steps.{heard-unheld}
 use Rattle.faults.proofs.requests.heard.Statement.{statement}
 use Rattle.faults.proofs.requests.heard.Tie as tie
 

@@ -18,9 +18,11 @@ use prog.Wp.{Heap, Calls, Loops, WpFn, Tables}
 use ghost.Atoms.{Atoms, sem}
 use contract.Monad.{Fun, fact}
 use contract.Running.{givenOf, tables, tablesOf}
-use types.Kit.{Given, ‵, raw, given, _⊛_, some, later, ⋆, _$_, _∵_, !, qed, by, move, drop, use0, use1, use2, use3, split, join, pick, learn, rewrite, fsplit, fjoin, feqL, suffices, frame, await, done}
+use types.Kit.{Given, ‵, raw, given, _⊛_, some, later, ⋆, _$_, _∵_, !, qed, by, move, drop, use0, use1, use2, use3}
+use types.Kit.{split, join, pick, learn, rewrite, fsplit, fjoin, feqL, suffices, frame, await, done}
 use types.Part.{agg}
-use types.Run.{look, init, forget, stop, from, load, addr, lit, no-more, and-then, of-opd, assigns, land, returns, enter, alloc1, alloc0, params1, pass1, pass0, free1, free0}
+use types.Run.{look, init, forget, stop, from, load, addr, lit, no-more, and-then, of-opd, assigns, land, returns}
+use types.Run.{enter, alloc1, alloc0, params1, pass1, pass0, free1, free0}
 use types.SemTy.{cells, Arr}
 use types.Tokens.{lft-new, lft-end}
 use sound.WpLaws.{FmC, fmOf, WpFn-mono}
@@ -44,7 +46,8 @@ use denote.Triple.Entry.{Vals, onEntry}
 use denote.Triple.Spec.{Meets, tripleOf}
 use denote.Triple.Statement.{Contract, Triple}
 use denote.Triple.Table.{entered, cited}
-use denote.Triple.Walked.{says, Stays, stay-none-slice, stay-dropped, walkOf, goes-none-slice, goes-dropped, Walks, ends-at, walked, walk-meets}
+use denote.Triple.Walked.{says, Stays, stay-none-slice, stay-dropped, walkOf, goes-none-slice, goes-dropped, Walks}
+use denote.Triple.Walked.{ends-at, walked, walk-meets}
 use denote.Exit.{yes}
 use Rattle.nodes.specs.declared.Node.{Node}
 use Rattle.nodes.specs.declared.Hearing.{Hearing}

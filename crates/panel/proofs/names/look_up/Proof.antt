@@ -17,9 +17,11 @@ use prog.Wp.{Heap, Calls, Loops, WpFn, Tables}
 use ghost.Atoms.{Atoms, sem}
 use contract.Monad.{Fun, fact}
 use contract.Running.{givenOf, tables, tablesOf}
-use types.Kit.{Given, ‵, raw, given, _⊛_, some, later, _$_, _∵_, !, qed, by, move, keep, drop, use1, use2, split, join, pick, learn, rewrite, fsplit, fjoin, feqI, suffices, await, done}
+use types.Kit.{Given, ‵, raw, given, _⊛_, some, later, _$_, _∵_, !, qed, by, move, keep, drop, use1, use2, split, join}
+use types.Kit.{pick, learn, rewrite, fsplit, fjoin, feqI, suffices, await, done}
 use types.Part.{agg}
-use types.Run.{look, init, forget, stop, from, load, addr, lit, no-more, and-then, of-opd, assigns, land, returns, enter, alloc1, alloc0, params1, pass1, pass0, free1, free0}
+use types.Run.{look, init, forget, stop, from, load, addr, lit, no-more, and-then, of-opd, assigns, land, returns}
+use types.Run.{enter, alloc1, alloc0, params1, pass1, pass0, free1, free0}
 use types.Share.{arr-parts}
 use types.Tokens.{lft-new, lft-end, lent-back}
 use sound.WpLaws.{FmC, fmOf, WpFn-mono}
