@@ -5,14 +5,13 @@ use mathlib.Core.Bool.{true, false}
 use mathlib.Core.List.{List, [], _∷_}
 use Prim.Native.Nat.{ℕ, _%_, _<_, _≤_}
 use native.Mathlib.Nat.{div-one}
-use native.Mathlib.Omega.{arith}
 use borrow.Author.Tests.{eq-eqb, ne-eqb, lt-ltb, le-ltb}
 use lib.ListN.{take, getD}
 use Rattle.words.specs.Words.{if_then_else_, Told, refused, gives, given_then_}
 use Rattle.words.specs.Lists.{any}
 use Rattle.frame.specs.Bytes.{numberOf}
 use Rattle.frame.specs.Identifier.{greatestDgn, destinationOf, catalogueForm}
-use Rattle.frame.specs.Standard.{Frame, addressClaimed, dgnAt, everyone, greatestAddress, noAddress, noFrame}
+use Rattle.frame.specs.Standard.{Frame, addressClaimed, everyone, greatestAddress, noAddress, noFrame}
 use Rattle.frame.specs.Standard.{requestDgn}
 use Rattle.frame.specs.Promises.{destined}
 use Rattle.frame.specs.declared.Parts.{Parts}

@@ -6,7 +6,7 @@ use Prim.Native.Nat.{ℕ, _+_, _≤_, _<_}
 use mathlib.Core.Option.{some, none}
 use native.Mathlib.Omega.{arith}
 use borrow.Author.Tests.{ltb-false, le-ltb, lt-ltb, ltb-true}
-use Rattle.words.specs.Words.{if_then_else_, _=?_, _<?_, Told, refused, gives}
+use Rattle.words.specs.Words.{_=?_, _<?_, Told, refused, gives}
 use Rattle.words.proofs.Words.{by-test}
 use Rattle.places.specs.Format.{opens, goes, ends}
 use Rattle.places.specs.OneKey.{pauseAlone}

@@ -1,13 +1,12 @@
 -- What `claim` sends is a claim to `nodes`.
 -- Assumes nothing.
-use mathlib.Core.Path.{_≡_, refl, sym, ap, _∙_}
-use Prim.Native.Nat.{ℕ}
+use mathlib.Core.Path.{_≡_, refl, _∙_}
 use lib.ListN.{length}
 use Rattle.words.specs.Words.{gives}
 use Rattle.frame.specs.Frame.{checkedOf}
 use Rattle.frame.specs.Standard.{claimDgn}
 use Rattle.frame.specs.Bytes.{numberOf}
-use Rattle.claim.specs.Claim.{claimPriority, claimSource, claimId, claimBytes}
+use Rattle.claim.specs.Claim.{claimPriority, claimSource}
 use Rattle.claim.proofs.Laws.{claim-is-ours}
 use Rattle.nodes.proofs.Laws.{lowest-wins}
 use Rattle.demands.specs.ClaimsHeard.{ClaimIsHeard}

@@ -10,7 +10,7 @@ use native.Mathlib.Omega.{arith}
 use borrow.Author.Tests.{eq-eqb, ne-eqb, eqb-true, eqb-false, le-ltb, le-leb, lt-leb, ltb-false}
 use lib.ListN.{length, take, drop, getD, set, length-take, length-drop, length-map}
 use lib.Seq.{length-paste, take-paste, take-take}
-use Rattle.words.specs.Words.{if_then_else_, _<?_, _=?_, Told, refused, gives}
+use Rattle.words.specs.Words.{_<?_, _=?_, Told, refused, gives}
 use Rattle.words.specs.Lists.{every, count, first}
 use Rattle.frame.specs.Identifier.{sourceOf, greatestDgn}
 use Rattle.frame.specs.Frame.{frameBytes}

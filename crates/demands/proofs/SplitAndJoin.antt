@@ -9,7 +9,7 @@ use native.Mathlib.Omega.{arith}
 use borrow.Author.Tests.{eq-eqb, ne-eqb, le-ltb, le-leb}
 use lib.ListN.{length, take, drop, replicate, length-drop, length-take, length-append}
 use lib.Seq.{take-add, take-all, take-append-le, take-take}
-use Rattle.words.specs.Words.{if_then_else_, Told, refused, gives}
+use Rattle.words.specs.Words.{Told, refused, gives}
 use Rattle.frame.specs.Bytes.{bytesOf, byteAt}
 use Rattle.frame.specs.Identifier.{sourceOf, dgnOf, reservedOf, identifierOf, identifiers, greatestDgn, lowestPriority}
 use Rattle.frame.specs.Frame.{frameBytes, sourceAllowed}

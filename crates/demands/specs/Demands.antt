@@ -1,6 +1,4 @@
 -- The three demands on the library (RULES 13.1 to 13.5), each a statement over the definitions of its parts.
-use mathlib.Core.List.{List}
-use Prim.Native.Nat.{ℕ}
 use Rattle.frame.specs.Laws as Frame
 use Rattle.message.specs.Laws as Message
 use Rattle.fast.specs.Laws as Fast

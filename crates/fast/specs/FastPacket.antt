@@ -2,7 +2,7 @@
 -- limits, and the pair of sender and DGN that a message belongs to.
 use mathlib.Core.List.{List}
 use Prim.Native.Nat.{ℕ, _+_, _-_, _*_, _/_, min}
-use lib.ListN.{length, getD}
+use lib.ListN.{length}
 use Rattle.words.specs.Words.{if_then_else_, _≤?_, _=?_, _and_, bits, Told, refused, gives, given_then_}
 use Rattle.frame.specs.Frame.{checkedOf}
 use Rattle.frame.specs.Bytes.{byteAt}

@@ -1,31 +1,30 @@
 -- Fairness: while a due fault waits, each step sends one that has been due at least as long, and what is sent or added
 -- then is due later. So of 32 places at most 32 - j have been due for j steps. Assumes nothing.
 use mathlib.Core.Path.{_≡_, refl, sym, ap, _∙_, subst⁻¹}
-use mathlib.Core.Bool.{Bool, true, false}
+use mathlib.Core.Bool.{true, false}
 use mathlib.Core.List.{List, [], _∷_, map}
-use Prim.Native.Nat.{ℕ, zero, suc, _+_, _*_, _-_, _≤_, _<_}
+use Prim.Native.Nat.{ℕ, zero, suc, _+_, _≤_, _<_}
 use native.Mathlib.Omega.{arith}
-use borrow.Author.Tests.{eqb-true, eqb-false, eq-eqb, not-true}
+use borrow.Author.Tests.{eqb-true, eqb-false}
 use lib.ListN.{length, getD, set, length-set}
-use lib.Seq.{getD-set-other, getD-set-same}
-use Rattle.words.specs.Words.{if_then_else_, _=?_, _and_, _or_, Told, refused, gives}
+use lib.Seq.{getD-set-other}
+use Rattle.words.specs.Words.{_=?_, _or_}
 use Rattle.words.specs.Lists.{any, count, first}
-use Rattle.words.proofs.Words.{by-test, both-true, true-false, gives-same}
+use Rattle.words.proofs.Words.{by-test, both-true, true-false}
 use Rattle.words.specs.declared.Found.the-variants.{At}
 use Rattle.words.proofs.Lists.{found-at}
-use Rattle.claim.specs.declared.Claim.{Claim}
 use Rattle.faults.specs.Fault.{oldest, noFault, isEmpty, isActive, isDue, passed, added, sent}
-use Rattle.faults.specs.Sender.{faultPlaces, faultAt, replacing, passedAll, chosen, nothingDue, sends}
-use Rattle.faults.specs.Runs.{Happened, adds, clears, steps, requests, Leads, Ran, no-call, a-call, isStep}
-use Rattle.faults.specs.Runs.{isSent, stepsIn, sentIn, sendsFor, clearsAt, Spared, NotCleared, mostOthers, Waits}
+use Rattle.faults.specs.Sender.{faultPlaces, faultAt, replacing, passedAll, chosen}
+use Rattle.faults.specs.Runs.{Happened, Ran, no-call, a-call}
+use Rattle.faults.specs.Runs.{stepsIn, sentIn, sendsFor, clearsAt, Spared, NotCleared, mostOthers}
 use Rattle.faults.specs.Runs.{DueNext, Fair, SentWithin}
 use Rattle.faults.specs.declared.Fault.{Fault}
 use Rattle.faults.specs.declared.Sender.{Sender}
-use Rattle.faults.proofs.Counting.{count-all, count-image, count-set, count-drop, count-two, count-none}
-use Rattle.faults.proofs.Passing.{active-true, active-says, due-says, passed-period, ripe, ripe-says}
+use Rattle.faults.proofs.Counting.{count-all, count-image, count-set, count-drop, count-two}
+use Rattle.faults.proofs.Passing.{active-true, active-says, due-says, ripe, ripe-says}
 use Rattle.faults.proofs.Passing.{ripe-of-due, due-of-ripe, ripe-later, sent-unripe, added-unripe, none-unripe}
 use Rattle.faults.proofs.Passing.{ripe-suc}
-use Rattle.faults.proofs.Chosen.{Chosen, chosen-at, chosen-nowhere}
+use Rattle.faults.proofs.Chosen.{chosen-at, chosen-nowhere}
 use Rattle.faults.proofs.Moves.{Move, add-refused, added-at, clear-refused, cleared-at, step-refused, rested}
 use Rattle.faults.proofs.Moves.{sent-at, asked, move, inside, fault-passed, length-passed, neither}
 

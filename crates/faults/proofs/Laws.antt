@@ -1,39 +1,37 @@
 -- The statements of specs/Laws.antt on answers, refusals, states and steps, proved.
 -- Assumes nothing.
 use mathlib.Core.Path.{_≡_, refl, sym, ap, _∙_}
-use mathlib.Core.Bool.{Bool, true, false, not}
-use mathlib.Core.List.{List, [], _∷_, map}
-use Prim.Native.Nat.{ℕ, zero, suc, _+_, _-_, _≤_, _<_, min}
-use native.Mathlib.Nat.{le-of-suc-le-suc, not-suc-le-zero}
+use mathlib.Core.Bool.{Bool, true, false}
+use mathlib.Core.List.{List, map}
+use Prim.Native.Nat.{ℕ, zero, suc, _-_, _≤_}
 use native.Mathlib.Omega.{arith}
-use borrow.Author.Tests.{eqb-true, eqb-false, eq-eqb, ne-eqb, le-leb, leb-true, not-true, not-false}
-use lib.ListN.{length, getD, set, replicate}
+use borrow.Author.Tests.{ne-eqb, le-leb, leb-true}
+use lib.ListN.{getD, replicate}
 use lib.Seq.{getD-set-other}
-use Rattle.words.specs.Words.{if_then_else_, given_then_, _=?_, _≤?_, _and_, _or_, Told, refused, gives}
+use Rattle.words.specs.Words.{if_then_else_, _=?_, _≤?_, _or_, Told, refused, gives}
 use Rattle.words.specs.Lists.{every, first}
 use Rattle.frame.specs.Bytes.{numberOf}
 use Rattle.frame.specs.Standard.{Frame}
 use Rattle.frame.specs.declared.BadFrame.the-variants.{IdentifierTooLarge, NotEightBytes, ReservedBitSet}
 use Rattle.frame.specs.declared.BadFrame.the-variants.{SourceNotAllowed}
-use Rattle.words.proofs.Words.{by-test, both-true, true-false, refused-gives, gives-same, past-refusal, before-refusal}
+use Rattle.words.proofs.Words.{by-test, both-true}
 use Rattle.frame.proofs.Laws as frame-laws
 use Rattle.words.specs.declared.Found.{Found}
 use Rattle.words.specs.declared.Found.the-variants.{At, Nowhere}
 use Rattle.words.proofs.Lists.{found-at, every-map, every-set, every-at}
-use Rattle.claim.specs.Claim.{keepsRules as claimKeepsRules, Stand, held, claiming, silent, standOf, holdsList}
+use Rattle.claim.specs.Claim.{keepsRules as claimKeepsRules, standOf, holdsList}
 use Rattle.claim.specs.Promises.{soundOf}
 use Rattle.claim.specs.declared.Claim.{Claim}
 use Rattle.command.specs.Handed.{addressHeld}
 use Rattle.command.proofs.Laws as host-laws
-use Rattle.faults.specs.Fault.{stepTime, isAllowed, noFault, isZero, isEmpty, isActive, placeKeepsRules, passed}
+use Rattle.faults.specs.Fault.{stepTime, isAllowed, noFault, isZero, isEmpty, placeKeepsRules, passed}
 use Rattle.faults.specs.Fault.{added, sent}
-use Rattle.faults.specs.Sender.{keepsRules, standing, faultAt, replacing, begun, addedAt, addedFor, addedOf}
-use Rattle.faults.specs.Sender.{afterAdd, isActiveAt, clearedOf, afterClear, chosen, passedAll, Outcome}
-use Rattle.faults.specs.Sender.{nothingDue, sends, heldStep, steppedOf, afterStep}
+use Rattle.faults.specs.Sender.{keepsRules, standing, faultAt, replacing, addedAt, addedFor, addedOf}
+use Rattle.faults.specs.Sender.{clearedOf, passedAll, Outcome}
+use Rattle.faults.specs.Sender.{nothingDue, sends, steppedOf}
 use Rattle.faults.specs.Requests as Requests
-use Rattle.faults.specs.Requests.{requestedOf}
 use Rattle.faults.specs.Promises.{toldAdding, toldClearing, toldStepping, toldRequesting}
-use Rattle.faults.specs.Runs.{Happened, Ran, no-call, a-call}
+use Rattle.faults.specs.Runs.{Happened, no-call, a-call}
 use Rattle.faults.specs.Laws as the
 use Rattle.faults.specs.declared.Fault.{Fault}
 use Rattle.faults.specs.declared.Sender.{Sender}
@@ -45,10 +43,10 @@ use Rattle.faults.specs.declared.Stepping.{Stepping}
 use Rattle.faults.specs.declared.Stepping.the-variants as Stepping
 use Rattle.faults.specs.declared.Requesting.{Requesting}
 use Rattle.faults.specs.declared.Requesting.the-variants as Requesting
-use Rattle.faults.proofs.Passing.{Phase, vacant, ready, coming, phase, active-says, due-says}
+use Rattle.faults.proofs.Passing.{Phase, vacant, ready, coming, phase, due-says}
 use Rattle.faults.proofs.Chosen.{chosen-at}
 use Rattle.faults.proofs.Moves.{Move, add-refused, added-at, clear-refused, cleared-at, step-refused, rested}
-use Rattle.faults.proofs.Moves.{sent-at, asked, move, was-added, made, Step, none, one, held-step, fault-passed}
+use Rattle.faults.proofs.Moves.{sent-at, asked, move, was-added, made, fault-passed}
 use Rattle.faults.proofs.Waiting.{allowed-says}
 
 -- an answer is read back from what it tells

@@ -1,36 +1,33 @@
 -- The fault that a step sends is the one that has been due longest by the calls alone: the state's ages are the steps
 -- since it fell due, and never reach the 31 at which they stop. Assumes nothing.
 use mathlib.Core.Path.{_≡_, refl, sym, ap, _∙_, subst, subst⁻¹}
-use mathlib.Core.Bool.{Bool, true, false}
-use mathlib.Core.List.{List, [], _∷_, map}
-use Prim.Native.Nat.{ℕ, zero, suc, _+_, _*_, _-_, _/_, _%_, _≤_, _<_}
+use mathlib.Core.Bool.{true, false}
+use mathlib.Core.List.{List, map}
+use Prim.Native.Nat.{ℕ, zero, suc, _+_, _*_, _/_, _%_, _≤_, _<_}
 use native.Mathlib.Omega.{arith}
-use borrow.Author.Tests.{eqb-true, eqb-false, leb-true, leb-false, ltb-true, ltb-false, eq-eqb, ne-eqb, not-true}
+use borrow.Author.Tests.{eqb-true, eqb-false, leb-true, leb-false, ltb-true, ltb-false, eq-eqb, ne-eqb}
 use lib.ListN.{length, getD, set, replicate, length-set}
 use lib.Seq.{getD-set-other, getD-set-same}
-use Rattle.words.specs.Words.{if_then_else_, _=?_, _≤?_, _<?_, Told, refused, gives}
-use Rattle.words.specs.Lists.{count, first}
+use Rattle.words.specs.Words.{if_then_else_, _=?_, _≤?_, _<?_, gives}
 use Rattle.words.proofs.Words.{by-test, true-false}
 use Rattle.words.specs.declared.Found.the-variants.{At, Nowhere}
 use Rattle.words.proofs.Lists.{found-at}
 use Rattle.claim.specs.declared.Claim.{Claim}
-use Rattle.faults.specs.Fault.{stepTime, noFault, isEmpty, isActive, isDue, passed, added, sent}
-use Rattle.faults.specs.Sender.{faultPlaces, faultAt, replacing, begun, passedAll, chosen, Outcome, nothingDue}
-use Rattle.faults.specs.Sender.{sends, dmRvFrame}
-use Rattle.faults.specs.Promises.{Start}
-use Rattle.faults.specs.Runs.{Happened, adds, clears, steps, requests, Leads, Ran, no-call, a-call, Duty, idle}
-use Rattle.faults.specs.Runs.{dueFrom, again, Known, nothingKnown, learns, knownAfter, known, Longest, NoneDue}
+use Rattle.faults.specs.Fault.{stepTime, noFault, isEmpty, isDue, passed, added, sent}
+use Rattle.faults.specs.Sender.{faultPlaces, faultAt, replacing, begun, passedAll, chosen, Outcome}
+use Rattle.faults.specs.Runs.{Happened, adds, clears, steps, Ran, no-call, a-call, Duty, idle}
+use Rattle.faults.specs.Runs.{dueFrom, again, Known, nothingKnown, learns, knownAfter, known}
 use Rattle.faults.specs.Runs.{Rightly, LongestDue}
 use Rattle.faults.specs.declared.Fault.{Fault}
 use Rattle.faults.specs.declared.Sender.{Sender}
 use Rattle.faults.proofs.Counting.{count-one, count-none}
 use Rattle.faults.proofs.Passing.{Phase, vacant, ready, coming, phase, active-true, due-true, due-says, ripe}
-use Rattle.faults.proofs.Passing.{ripe-suc, ripe-says, added-unripe, none-unripe, sent-unripe, passed-period}
-use Rattle.faults.proofs.Chosen.{Chosen, chosen-at, chosen-nowhere}
+use Rattle.faults.proofs.Passing.{ripe-suc, ripe-says, added-unripe, none-unripe, sent-unripe}
+use Rattle.faults.proofs.Chosen.{chosen-at, chosen-nowhere}
 use Rattle.faults.proofs.Moves.{Move, add-refused, added-at, clear-refused, cleared-at, step-refused, rested}
 use Rattle.faults.proofs.Moves.{sent-at, asked, move, inside, active-at, fault-passed, length-passed}
 use Rattle.faults.proofs.Fair.{Few, few-zero, few-set, few-sent}
-use Rattle.faults.proofs.Waiting.{allowed-says, length-move, length-start}
+use Rattle.faults.proofs.Waiting.{allowed-says}
 
 -- what the calls tell of a place, after n steps, and what stands in it
 pub data Matches (n : ℕ) (f : Fault) : Duty → Type 0 where

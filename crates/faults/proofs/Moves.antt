@@ -3,14 +3,13 @@
 use mathlib.Core.Path.{_≡_, refl, sym, ap, _∙_, subst}
 use mathlib.Core.Bool.{Bool, true, false, not}
 use mathlib.Core.List.{List, [], _∷_, map}
-use Prim.Native.Nat.{ℕ, zero, suc, _+_, _≤_, _<_}
+use Prim.Native.Nat.{ℕ, zero, suc, _≤_, _<_}
 use native.Mathlib.Nat.{le-of-suc-le-suc, not-suc-le-zero}
 use native.Mathlib.Omega.{arith}
-use lib.ListN.{length, getD, set}
-use Rattle.words.specs.Words.{if_then_else_, given_then_, _and_, _or_, _<?_, Told, refused, gives}
+use lib.ListN.{length, getD}
+use Rattle.words.specs.Words.{if_then_else_, given_then_, _or_, _<?_, Told, refused, gives}
 use Rattle.words.specs.Lists.{first}
-use Rattle.frame.specs.Standard.{Frame}
-use Rattle.words.proofs.Words.{by-test, both-true, true-false, refused-gives, gives-same, past-refusal, before-refusal}
+use Rattle.words.proofs.Words.{both-true, true-false, refused-gives, gives-same, past-refusal, before-refusal}
 use Rattle.words.specs.declared.Found.{Found}
 use Rattle.words.specs.declared.Found.the-variants.{At, Nowhere}
 use Rattle.claim.specs.Claim.{Stand}

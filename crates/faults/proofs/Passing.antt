@@ -1,13 +1,13 @@
 -- What 50 ms make of a place: an empty one, a due one, and one that is not due yet; and how long a fault has been due.
 -- Assumes nothing.
 use mathlib.Core.Path.{_≡_, refl, sym, ap, _∙_}
-use mathlib.Core.Bool.{Bool, true, false, not}
+use mathlib.Core.Bool.{Bool, true, false}
 use mathlib.Core.List.{List}
 use Prim.Native.Nat.{ℕ, zero, suc, _+_, _-_, _≤_, _<_, min}
 use native.Mathlib.Omega.{arith}
 use borrow.Author.Tests.{eqb-true, eqb-false, leb-true, not-true, eq-eqb, ne-eqb, le-leb}
 use Rattle.words.specs.Words.{_=?_, _≤?_, _and_}
-use Rattle.words.proofs.Words.{by-test, both-true, true-false}
+use Rattle.words.proofs.Words.{by-test, both-true}
 use Rattle.faults.specs.Fault.{stepTime, oldest, older, noFault, isEmpty, isActive, isDue, passed, added, sent}
 use Rattle.faults.specs.declared.Fault.{Fault}
 

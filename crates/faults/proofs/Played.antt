@@ -1,13 +1,11 @@
 -- There is a run of whatever calls are made; and one in which a due fault waits for 31 others.
 -- Assumes nothing.
-use mathlib.Core.Path.{_≡_, refl, sym, ap, _∙_}
-use mathlib.Core.Bool.{Bool, true, false, not}
+use mathlib.Core.Path.{_≡_, refl, sym, _∙_}
 use mathlib.Core.List.{List, [], _∷_}
-use Prim.Native.Nat.{ℕ, zero, suc}
+use Prim.Native.Nat.{ℕ}
 use lib.ListN.{replicate}
-use Rattle.words.specs.Words.{if_then_else_, given_then_, Told, refused, gives}
+use Rattle.words.specs.Words.{given_then_, Told, gives}
 use Rattle.words.specs.Lists.{first}
-use Rattle.frame.specs.Standard.{Frame, noFrame}
 use Rattle.frame.specs.Bytes.{numberOf}
 use Rattle.words.proofs.Words.{by-test}
 use Rattle.words.specs.declared.Found.{Found}
@@ -18,11 +16,11 @@ use Rattle.claim.specs.Promises.{soundOf}
 use Rattle.claim.specs.declared.Claim.{Claim}
 use Rattle.command.specs.Handed.{addressHeld}
 use Rattle.faults.specs.Fault.{isAllowed, isZero, isEmpty, placeKeepsRules, passed}
-use Rattle.faults.specs.Sender.{keepsRules, standing, begun, addedAt, addedFor, addedOf, afterAdd, isActiveAt}
+use Rattle.faults.specs.Sender.{keepsRules, standing, begun, addedAt, addedFor, addedOf, isActiveAt}
 use Rattle.faults.specs.Sender.{clearedOf, longer, longestDue, chosen, Outcome, nothingDue, sends, heldStep}
-use Rattle.faults.specs.Sender.{steppedOf, afterStep}
+use Rattle.faults.specs.Sender.{steppedOf}
 use Rattle.faults.specs.Promises.{toldAdding, toldClearing, toldStepping, sentIn}
-use Rattle.faults.specs.Runs.{Happened, adds, Leads, Ran, no-call, a-call, Call, adding, clearing, stepping}
+use Rattle.faults.specs.Runs.{Leads, no-call, a-call, Call, adding, clearing, stepping}
 use Rattle.faults.specs.Runs.{happens, leaves, played, playedTo, EveryRunRuns, Sharp}
 use Rattle.faults.specs.Laws.{holding}
 use Rattle.faults.specs.declared.Sender.{Sender}

@@ -2,21 +2,21 @@
 -- Assumes nothing.
 use mathlib.Core.Path.{_≡_, refl, sym, ap, _∙_}
 use mathlib.Core.Bool.{Bool, true, false, not}
-use mathlib.Core.List.{List, [], _∷_}
-use Prim.Native.Nat.{ℕ, _+_, _*_, _≤_, _<_, _%_, _/_, _^_}
+use mathlib.Core.List.{List}
+use Prim.Native.Nat.{ℕ, _<_}
 use native.Mathlib.Omega.{arith}
-use borrow.Author.Tests.{ltb-true, ltb-false, eq-eqb, ne-eqb, lt-ltb, le-ltb, not-false}
-use lib.ListN.{length, getD, take, drop, replicate}
+use borrow.Author.Tests.{ltb-true, ltb-false, eq-eqb, lt-ltb, not-false}
+use lib.ListN.{length}
 use Rattle.words.specs.Words.{if_then_else_, given_then_, _=?_, _<?_, _and_, _or_, Told, refused, gives}
-use Rattle.words.specs.Lists.{any, first}
-use Rattle.frame.specs.Bytes.{numberOf, bytesOf}
+use Rattle.words.specs.Lists.{first}
+use Rattle.frame.specs.Bytes.{numberOf}
 use Rattle.frame.specs.Identifier.{priorityOf, reservedOf, dgnOf, sourceOf, identifierOf, identifiers, isAddressed}
 use Rattle.frame.specs.Identifier.{catalogueForm, destinationOf, greatestDgn}
-use Rattle.frame.specs.Frame.{checkedOf, sourceAllowed, formedOf, apartOf, frameBytes}
-use Rattle.frame.specs.Standard.{Frame, greatestAddress, everyone, requestDgn, addressClaimed, dgnAt}
+use Rattle.frame.specs.Frame.{checkedOf, sourceAllowed}
+use Rattle.frame.specs.Standard.{Frame, everyone, requestDgn, addressClaimed, dgnAt}
 use Rattle.frame.specs.Laws.{toldButPriority}
 use Rattle.frame.specs.declared.Parts.{Parts}
-use Rattle.words.proofs.Words.{by-test, both-true, true-false, refused-gives, gives-same, past-refusal, before-refusal}
+use Rattle.words.proofs.Words.{by-test, both-true, true-false, refused-gives, gives-same, past-refusal}
 use Rattle.frame.proofs.Laws as frame-laws
 use Rattle.frame.proofs.Frame.{source-low}
 use Rattle.words.specs.declared.Found.{Found}
@@ -33,16 +33,15 @@ use Rattle.command.specs.Requests.{instanceAsked, requestedDgn, askedOf, isOurs
 use Rattle.command.specs.Requests.{replyOf, answerOf, requestedOf as hostRequestedOf}
 use Rattle.command.specs.declared.Host.{Host}
 use Rattle.faults.specs.Rows.{dmRv}
-use Rattle.faults.specs.Fault.{isAllowed, noFault, isZero, isEmpty, isActive, placeKeepsRules, passed}
+use Rattle.faults.specs.Fault.{isAllowed, noFault, isZero, isActive, placeKeepsRules, passed}
 use Rattle.faults.specs.Sender.{dmRvPriority, dmRvId, keepsRules, standing, faultAt, addedAt, addedOf, longer}
 use Rattle.faults.specs.Sender.{longestDue, chosen, heldStep, steppedOf}
-use Rattle.faults.specs.Requests.{Asks, other, faultsOf, meantBy, isForUs, replyFrom, replyBytes, Reply}
+use Rattle.faults.specs.Requests.{faultsOf, meantBy, isForUs, replyFrom, replyBytes, Reply}
 use Rattle.faults.specs.Requests.{nothingToDo, sends, answerAt, heardOf, requestedOf}
 use Rattle.faults.specs.Promises.{hostTold}
 use Rattle.faults.specs.Laws as the
-use Rattle.faults.specs.declared.Fault.{Fault}
 use Rattle.faults.specs.declared.Sender.{Sender}
-use Rattle.faults.proofs.Laws.{standing-sound, standing-broken, standing-ill}
+use Rattle.faults.proofs.Laws.{standing-sound, standing-ill}
 
 -- what a frame asks for
 

@@ -13,9 +13,8 @@ use lib.ListN.{length, drop, getD, drop-of-length-le}
 use lib.Seq.{drop-cons}
 use Rattle.words.specs.Words.{if_then_else_, given_then_, _<?_, Told, refused, gives}
 use Rattle.words.specs.Lists.{firstFrom, first}
-use Rattle.frame.specs.Bytes.{numberOf}
 use Rattle.frame.specs.Frame.{checkedOf}
-use Rattle.frame.specs.Standard.{noFrame, dgnAt}
+use Rattle.frame.specs.Standard.{noFrame}
 use Rattle.frame.specs.Promises.{bytesIf}
 use Rattle.frame.specs.declared.Parts.{Parts}
 use Rattle.words.proofs.Words.{by-test, both-true}

@@ -2,30 +2,30 @@
 -- laws over calls alone. Assumes nothing.
 use mathlib.Core.Path.{_≡_, refl, sym, ap, _∙_}
 use mathlib.Core.Bool.{Bool, true, false}
-use mathlib.Core.List.{List, [], _∷_, map}
+use mathlib.Core.List.{List, map}
 use Prim.Native.Nat.{ℕ, zero, suc, _+_, _*_, _-_, _%_, _≤_, _<_}
 use native.Mathlib.Omega.{arith}
 use borrow.Author.Tests.{eqb-true, eqb-false, leb-true, ltb-true, ltb-false, ne-eqb}
-use lib.ListN.{length, getD, set, replicate, length-set}
+use lib.ListN.{length, getD, set, length-set}
 use lib.Seq.{getD-set-other, getD-set-same}
-use Rattle.words.specs.Words.{if_then_else_, given_then_, _<?_, _=?_, _≤?_, _and_, _or_, Told, refused, gives}
+use Rattle.words.specs.Words.{if_then_else_, given_then_, _<?_, _=?_, _≤?_, _or_, gives}
 use Rattle.words.specs.Lists.{any, first}
 use Rattle.frame.specs.Standard.{Frame}
-use Rattle.words.proofs.Words.{by-test, both-true, true-false}
+use Rattle.words.proofs.Words.{by-test, both-true}
 use Rattle.words.specs.declared.Found.the-variants.{At}
 use Rattle.words.proofs.Lists.{found-at}
 use Rattle.claim.specs.declared.Claim.{Claim}
-use Rattle.faults.specs.Fault.{stepTime, isAllowed, noFault, isEmpty, isActive, isDue, passed, added, sent}
+use Rattle.faults.specs.Fault.{stepTime, isAllowed, noFault, isEmpty, isDue, passed, added, sent}
 use Rattle.command.specs.Handed.{addressHeld}
 use Rattle.faults.specs.Sender.{faultPlaces, standing, faultAt, replacing, passedAll, chosen, sends, dmRvFrame}
 use Rattle.faults.specs.Promises.{Start}
-use Rattle.faults.specs.Runs.{Happened, adds, clears, steps, requests, Leads, Ran, no-call, a-call, isStep}
-use Rattle.faults.specs.Runs.{stepsIn, sendsFor, clearsAt, addsAt, Spared, NotCleared, Waits, DueNext, Active}
-use Rattle.faults.specs.Runs.{Own, FairAdded, FairAgain, SentIsOwn, NeverEarly, NeverCleared}
+use Rattle.faults.specs.Runs.{Happened, adds, clears, steps, Leads, Ran, no-call, a-call, isStep}
+use Rattle.faults.specs.Runs.{stepsIn, sendsFor, clearsAt, addsAt, Spared, NotCleared, DueNext, Active}
+use Rattle.faults.specs.Runs.{FairAdded, FairAgain, SentIsOwn, NeverEarly, NeverCleared}
 use Rattle.faults.specs.declared.Fault.{Fault}
 use Rattle.faults.specs.declared.Sender.{Sender}
-use Rattle.faults.proofs.Passing.{active-true, active-says, due-says, passed-bytes, passed-period, passed-until}
-use Rattle.faults.proofs.Passing.{passed-none, ripe-zero, due-of-ripe, ripe-of-due, ripe-zero-says}
+use Rattle.faults.proofs.Passing.{due-says, passed-bytes, passed-period, passed-until}
+use Rattle.faults.proofs.Passing.{ripe-zero, due-of-ripe, ripe-of-due, ripe-zero-says}
 use Rattle.faults.proofs.Chosen.{chosen-at}
 use Rattle.faults.proofs.Moves.{Move, add-refused, added-at, clear-refused, cleared-at, step-refused, rested}
 use Rattle.faults.proofs.Moves.{sent-at, asked, move, inside, outside, active-at, fault-passed, length-passed}

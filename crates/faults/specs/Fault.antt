@@ -1,5 +1,5 @@
 -- One place of a sender, and what time makes of the fault in it (RULES 14.5 to 14.14; 000 and 001, 3.2.5.1).
-use mathlib.Core.Bool.{Bool, true, false, not}
+use mathlib.Core.Bool.{Bool, not}
 use mathlib.Core.List.{List}
 use Prim.Native.Nat.{ℕ, _+_, _-_, _%_, min}
 use lib.ListN.{replicate}

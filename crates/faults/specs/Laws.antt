@@ -5,8 +5,8 @@ use mathlib.Core.Path.{_≡_}
 use mathlib.Core.Bool.{true, false}
 use mathlib.Core.List.{List, [], _∷_}
 use Prim.Native.Nat.{ℕ, _≤_, _<_, _%_, _^_}
-use lib.ListN.{length, replicate}
-use Rattle.words.specs.Words.{Told, refused, gives}
+use lib.ListN.{length}
+use Rattle.words.specs.Words.{refused, gives}
 use Rattle.words.specs.Lists.{first}
 use Rattle.frame.specs.Identifier.{identifiers, catalogueForm, destinationOf, greatestDgn}
 use Rattle.frame.specs.Frame.{checkedOf, frameBytes}
@@ -33,10 +33,10 @@ use Rattle.command.specs.declared.Acknowledgment.{Acknowledgment}
 use Rattle.command.specs.declared.Edition.the-variants.{One}
 use Rattle.faults.specs.Rows.{dmRv}
 use Rattle.faults.specs.Fault.{isAllowed, isEmpty, isActive, passed}
-use Rattle.faults.specs.Sender.{dmRvPriority, dmRvId, dmRvFrame, faultPlaces, keepsRules, faultAt, begun, addedOf}
-use Rattle.faults.specs.Sender.{afterAdd, isActiveAt, clearedOf, Outcome, nothingDue, sends, heldStep, steppedOf}
+use Rattle.faults.specs.Sender.{dmRvPriority, dmRvId, dmRvFrame, keepsRules, faultAt, begun, addedOf}
+use Rattle.faults.specs.Sender.{afterAdd, isActiveAt, clearedOf, nothingDue, sends, heldStep, steppedOf}
 use Rattle.faults.specs.Requests as Requests
-use Rattle.faults.specs.Requests.{meantBy, noneActive, replyBytes, answerAt, requestedOf}
+use Rattle.faults.specs.Requests.{meantBy, noneActive, replyBytes, requestedOf}
 use Rattle.faults.specs.Promises.{toldServicePoint, PackedRows, RowAt, ReadField, WriteField, ReadServicePoint}
 use Rattle.faults.specs.Promises.{WriteServicePoint, ServicePointRefusal}
 use Rattle.faults.specs.Promises.{toldAdding, toldClearing, toldStepping, toldRequesting, Start, Add, Clear, Step}

@@ -1,9 +1,9 @@
 -- The places of a sender, the fault that is sent at a step, and the frame of a DM_RV (RULES 14.5 to 14.14).
-use mathlib.Core.Bool.{Bool, true, false, not}
+use mathlib.Core.Bool.{Bool, not}
 use mathlib.Core.List.{List, [], _∷_, map}
 use Prim.Native.Nat.{ℕ}
-use lib.ListN.{length, getD, set, replicate}
-use Rattle.words.specs.Words.{if_then_else_, given_then_, _<?_, _≤?_, _=?_, _and_, Told, refused, gives}
+use lib.ListN.{getD, set, replicate}
+use Rattle.words.specs.Words.{if_then_else_, given_then_, _<?_, _=?_, _and_, Told, refused, gives}
 use Rattle.words.specs.Lists.{every, first}
 use Rattle.frame.specs.Identifier.{identifierOf}
 use Rattle.frame.specs.Standard.{Frame}

@@ -7,7 +7,7 @@ use Prim.Native.Nat.{ℕ, _≤_}
 use native.Mathlib.Omega.{arith}
 use borrow.Author.Tests.{eqb-true, ne-eqb}
 use lib.ListN.{getD}
-use Rattle.words.specs.Words.{if_then_else_, _≤?_, _=?_, refused, gives}
+use Rattle.words.specs.Words.{_≤?_, _=?_, gives}
 use Rattle.frame.specs.Bytes.{numberOf}
 use Rattle.frame.specs.Identifier.{reservedOf, sourceOf, dgnOf, partsOf, identifiers}
 use Rattle.frame.specs.Frame.{sourceAllowed, checkedOf, frameBytes}

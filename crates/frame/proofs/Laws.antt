@@ -2,12 +2,10 @@
 -- Assumes nothing.
 use mathlib.Core.Path.{_≡_, refl, sym, ap, _∙_}
 use mathlib.Core.Bool.{Bool, true, false, not}
-use mathlib.Core.List.{List}
-use Prim.Native.Nat.{ℕ, _+_, _*_, _/_, _%_, _^_, _≤_, _<_}
-use native.Mathlib.Nat.{div-one}
+use Prim.Native.Nat.{ℕ, _+_, _*_, _/_, _^_, _≤_, _<_}
 use native.Mathlib.Omega.{arith}
-use borrow.Author.Tests.{eq-eqb, ne-eqb, lt-ltb, le-ltb, le-leb, lt-leb, ltb-false, leb-false, eqb-true, eqb-false}
-use lib.ListN.{length, replicate}
+use borrow.Author.Tests.{eq-eqb, ne-eqb, le-ltb, le-leb, lt-leb, ltb-false, leb-false, eqb-false}
+use lib.ListN.{length}
 use lib.Pow.{shr-shr}
 use Rattle.words.specs.Words.{if_then_else_, _≤?_, _<?_, _=?_, Told, refused, gives}
 use Rattle.frame.specs.Identifier.{priorityOf, reservedOf, dgnOf, sourceOf, partsOf, identifierOf, identifiers}
@@ -29,8 +27,7 @@ use Rattle.frame.specs.declared.BadFrame.the-variants.{IdentifierTooLarg
 use Rattle.frame.specs.declared.BadFrame.the-variants.{SourceNotAllowed}
 use Rattle.frame.specs.declared.Verdict.{Verdict}
 use Rattle.frame.specs.declared.Verdict.the-variants.{Sound, Bad}
-use Rattle.frame.specs.declared.Checked.{Checked}
-use Rattle.words.proofs.Words.{past-refusal, before-refusal, gives-same}
+use Rattle.words.proofs.Words.{past-refusal, gives-same}
 use Rattle.frame.proofs.Bytes.{number-of-bytes, bytes-of-number}
 
 -- an answer is read back from what it tells

@@ -7,8 +7,7 @@ use Prim.Native.Nat.{ℕ, _≤_, _<_, _%_, _^_}
 use lib.ListN.{length, replicate}
 use Rattle.words.specs.Words.{Told, refused, gives}
 use Rattle.frame.specs.Bytes.{numberOf, bytesOf, AreBytes}
-use Rattle.frame.specs.Identifier.{reservedOf, dgnOf, sourceOf, partsOf, identifierOf, identifiers, greatestDgn}
-use Rattle.frame.specs.Identifier.{lowestPriority}
+use Rattle.frame.specs.Identifier.{reservedOf, dgnOf, sourceOf, partsOf, identifiers, greatestDgn}
 use Rattle.frame.specs.Frame.{frameBytes, sourceAllowed, apartOf, formedOf, checkedOf}
 use Rattle.frame.specs.Standard.{noFrame, dgnBytes}
 use Rattle.frame.specs.Promises.{toldApart, toldFormed, toldVerdict, TakeApart, Form, Check, DestinationOf}

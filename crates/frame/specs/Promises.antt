@@ -1,7 +1,6 @@
 -- What each public call of this crate promises (RULES 3.9 to 3.12 and 13.7): one proposition over all that it answers.
 -- The answers are read as numbers and values (RULES 2.10).
 use mathlib.Core.Path.{_≡_}
-use mathlib.Core.Bool.{Bool, true, false}
 use mathlib.Core.List.{List, [], _∷_}
 use Prim.Native.Nat.{ℕ}
 use lib.ListN.{length, replicate}

@@ -8,7 +8,7 @@ use native.Mathlib.Omega.{arith}
 use borrow.Author.Tests.{eq-eqb, ne-eqb, lt-ltb, le-ltb, leb-true, leb-false, ltb-false}
 use lib.ListN.{length, take, drop, replicate, length-drop}
 use lib.Seq.{paste, take-all, take-append-le, take-append-add}
-use Rattle.words.specs.Words.{if_then_else_, _<?_, _≤?_, Told, refused, gives}
+use Rattle.words.specs.Words.{_<?_, _≤?_, Told, refused, gives}
 use Rattle.frame.specs.Frame.{frameBytes}
 use Rattle.frame.specs.Identifier.{greatestDgn}
 use Rattle.frame.specs.Standard.{unused}

@@ -8,7 +8,7 @@ use Prim.Native.Nat.{ℕ, _+_, _<_, _≤_}
 use native.Mathlib.Omega.{arith}
 use borrow.Author.Tests.{leb-true, eqb-true, eqb-false, not-true, eq-eqb, ne-eqb, lt-ltb, le-ltb}
 use lib.ListN.{length, getD, set}
-use Rattle.words.specs.Words.{if_then_else_, _≤?_, _=?_, Told, refused, gives}
+use Rattle.words.specs.Words.{_≤?_, _=?_, Told, refused, gives}
 use Rattle.words.specs.Lists.{every, first}
 use Rattle.frame.specs.Identifier.{greatestDgn}
 use Rattle.frame.specs.Frame.{checkedOf}

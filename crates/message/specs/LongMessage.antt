@@ -2,7 +2,7 @@
 -- packet are, and the limits.
 use mathlib.Core.List.{List}
 use Prim.Native.Nat.{ℕ, _+_, _-_, _*_, _/_, min}
-use lib.ListN.{length, take, drop, getD}
+use lib.ListN.{length, take, drop}
 use Rattle.words.specs.Words.{if_then_else_, _≤?_, _=?_, _and_, Told, refused, gives, given_then_}
 use Rattle.frame.specs.Bytes.{numberOf, byteAt}
 use Rattle.frame.specs.Identifier.{greatestDgn}

@@ -5,7 +5,6 @@ use mathlib.Core.List.{List, []}
 use Prim.Native.Nat.{ℕ, _≤_, _*_}
 use lib.ListN.{length, take, drop, replicate}
 use Rattle.words.specs.Words.{if_then_else_, _<?_, _≤?_, _or_, Told, refused, gives, numberIn}
-use Rattle.frame.specs.Frame.{frameBytes}
 use Rattle.frame.specs.Promises.{refusalOf}
 use Rattle.frame.specs.Standard.{bytesIn}
 use Rattle.places.specs.Places.{placeCount}

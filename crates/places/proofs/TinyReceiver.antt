@@ -10,7 +10,7 @@ use native.Mathlib.Omega.{arith}
 use borrow.Author.Tests.{eq-eqb, ne-eqb, eqb-true, eqb-false, le-leb, lt-leb, leb-true, leb-false, not-true}
 use lib.ListN.{length, take, getD, set, length-take, length-drop, length-map}
 use lib.Seq.{length-paste, take-paste}
-use Rattle.words.specs.Words.{if_then_else_, _<?_, _≤?_, _=?_, gives}
+use Rattle.words.specs.Words.{_<?_, _≤?_, _=?_, gives}
 use Rattle.words.specs.Lists.{every, count, first}
 use Rattle.words.proofs.Words.{by-test, both-true}
 use Rattle.places.specs.Format.{finishes, opens, feeds, goes, ends}

@@ -4,7 +4,7 @@ use mathlib.Core.Path.{_≡_, refl, sym}
 use mathlib.Core.Bool.{Bool, true, false, not}
 use Prim.Native.Nat.{ℕ}
 use native.Mathlib.Omega.{arith}
-use Rattle.words.specs.Words.{if_then_else_, Told, refused, gives, _and_, _or_}
+use Rattle.words.specs.Words.{if_then_else_, Told, refused, gives, _and_}
 
 module _ {A : Type 0} where
   -- a refusal gives nothing

@@ -1,7 +1,7 @@
 -- The words that every definition of this library is written in: tests on numbers that read as they stand, and an
 -- answer as RULES 2 has it.
 use mathlib.Core.Bool.{Bool, true, false}
-use Prim.Native.Nat.{ℕ, suc, _+_, _-_, _/_, _%_, _^_}
+use Prim.Native.Nat.{ℕ, _+_, _-_, _/_, _%_, _^_}
 use lib.Dec.{ltb, leb, eqb}
 
 infixr 5 if_then_else_

@@ -3,7 +3,7 @@ use mathlib.Core.Path.{_≡_, sym, _∙_}
 use Prim.Native.Nat.{_≤_, _<_, _-_}
 use native.Mathlib.Omega.{arith}
 use borrow.Author.Needs.{needs}
-use lib.ListN.{length, drop}
+use lib.ListN.{length}
 use Rattle.words.proofs.Lists.{length-field}
 use Rattle.faults.specs.Sender.{isChosen, chosen}
 use Rattle.faults.proofs.Steps.{outside, foundOr, pass-turn, pass-end}
