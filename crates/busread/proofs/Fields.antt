@@ -3,11 +3,9 @@
 use mathlib.Core.Path.{_≡_, sym, ap, _∙_}
 use mathlib.Core.Bool.{true}
 use mathlib.Core.List.{List, [], _∷_, _++_, append-assoc, append-nil}
-use Prim.Native.Nat.{ℕ, _+_, _*_, _/_, _%_, _^_, _≤_, _<_}
-use native.Mathlib.Nat.{mod-lt}
+use Prim.Native.Nat.{ℕ, _+_, _*_, _≤_, _<_}
 use native.Mathlib.Numerals.{add-one}
 use native.Mathlib.Omega.{arith}
-use lib.Pow.{pow-pos, pow-mono}
 use lib.ListN.{length, take, drop, getD, length-take, length-drop}
 use lib.Seq.{take-suc, take-all, getD-take, getD-drop}
 use Rattle.words.proofs.Tests.{tests}
@@ -16,16 +14,14 @@ use Rattle.words.specs.Words.{_<?_, gives}
 use Rattle.words.proofs.Words.{refused-gives, gives-same}
 use Rattle.catalogue.specs.Rows.{rows}
 use Rattle.catalogue.specs.Table.{noRow, rowIn, rowAt, rowOf, spanOf}
-use Rattle.catalogue.specs.Field.{fieldOf}
 use Rattle.catalogue.specs.Catalogue.{fieldIn}
 use Rattle.catalogue.specs.Packed.{packedRows, tableRow, tableSpan}
-use Rattle.catalogue.specs.Promises.{RowIn, RowsIn, Classify, toldLooked}
+use Rattle.catalogue.specs.Promises.{RowIn, RowsIn, toldLooked}
 use Rattle.catalogue.specs.declared.Row.{Row}
 use Rattle.catalogue.specs.declared.Span.{Span}
-use Rattle.catalogue.specs.declared.Field.{Field}
 use Rattle.catalogue.specs.declared.Looked.{Looked}
 use Rattle.catalogue.specs.declared.Looked.the-variants as Looked
-use Rattle.catalogue.proofs.Laws.{row-count, ends, within, row-in-packed, rows-in-packed}
+use Rattle.catalogue.proofs.Laws.{row-count, within, row-in-packed, rows-in-packed}
 use Rattle.busread.specs.Step.{lineRoom}
 use Rattle.busread.specs.Report.{fieldText, fieldsText, rowsOf}
 

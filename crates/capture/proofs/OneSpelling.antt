@@ -10,9 +10,9 @@ use borrow.Author.Tests.{eqb-true, le-ltb, le-leb, eq-eqb}
 use lib.Dec.{lit<, lit≤}
 use lib.ListN.{length, take, drop, length-append, length-drop, take-append-drop}
 use lib.Seq.{take-at, drop-at, take-all, drop-drop, length-take-le}
-use Rattle.words.specs.Words.{given_then_, _<?_, _≤?_, _=?_, Told, refused, gives}
+use Rattle.words.specs.Words.{given_then_, _≤?_, _=?_, Told, refused, gives}
 use Rattle.frame.specs.Bytes.{AreBytes}
-use Rattle.words.proofs.Words.{by-test, both-true, past-refusal, not-flips, gives-same, refused-gives, true-false}
+use Rattle.words.proofs.Words.{both-true, past-refusal, not-flips, gives-same, refused-gives, true-false}
 use Rattle.text.specs.Text.{digits, decimalWidth, decimal, bytePairs}
 use Rattle.text.proofs.Digits.{length-digits, length-decimal, width-digits}
 use Rattle.capture.specs.Digits.{numberRead}

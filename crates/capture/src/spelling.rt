@@ -1,6 +1,5 @@
 // The spelling of a line: its keys, and the numbers that its digits spell.
 ghost use mathlib.Core.Path.{_≡_};
-ghost use mathlib.Core.List.{List};
 ghost use Prim.Native.Nat.{_+_, _≤_, _<_};
 ghost use lib.ListN.{length, drop};
 ghost use Rattle.capture.specs.Digits.{valueOf, numberRead};

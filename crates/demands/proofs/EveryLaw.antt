@@ -47,7 +47,9 @@ use Rattle.faults.proofs.Played as FaultsPlayed
 use Rattle.capture.proofs.Feeding as CaptureFeeding
 use Rattle.capture.proofs.Laws as Capture
 use Rattle.text.proofs.Laws as Text
-use Rattle.demands.specs.EveryLaw.{EveryLaw, FrameLaws, SearchLaws, LayoutLaws, StepLaws, FormatLaws, CallLaws, PlacesLaws, MessageLaws, FastLaws, CatalogueLaws, ClaimLaws, NodesLaws, CommandLaws, FaultsLaws, CaptureLaws, TextLaws}
+use Rattle.demands.specs.EveryLaw.{EveryLaw, FrameLaws, SearchLaws, LayoutLaws, StepLaws, FormatLaws}
+use Rattle.demands.specs.EveryLaw.{CallLaws, PlacesLaws, MessageLaws, FastLaws, CatalogueLaws, ClaimLaws}
+use Rattle.demands.specs.EveryLaw.{NodesLaws, CommandLaws, FaultsLaws, CaptureLaws, TextLaws}
 
 frame-laws : FrameLaws
 frame-laws =

@@ -1,6 +1,6 @@
 -- The statements of specs/Laws.antt, proved.
 -- Assumes nothing.
-use mathlib.Core.Path.{_≡_, sym, _∙_}
+use mathlib.Core.Path.{sym, _∙_}
 use mathlib.Core.List.{_++_}
 use Prim.Native.Nat.{_+_}
 use borrow.Author.Tests.{lt-leb}

@@ -1,7 +1,7 @@
 -- `text::decimal_width` meets its contract. The loop's invariant: the digits that are counted, and those of the rest,
 -- are one more than the number has. Assumes nothing.
 use mathlib.Core.Path.{_≡_}
-use Prim.Native.Nat.{_+_, _≤_, _/_}
+use Prim.Native.Nat.{_+_, _≤_}
 use borrow.Author.Needs.{needs}
 use native.Mathlib.Omega.{arith}
 use Rattle.text.specs.Text.{decimalWidth}
