@@ -48,28 +48,40 @@ same-length c = search needs
 
 returns : tie.Need-returns
 unfolding className
-returns c = rw (c .before .before .before .before .before .enum-told .given .1) (let w = fits-wrote {word = text " class=number"} (c .before .before .put .ensures) (omega arith) in (w, omega (arith, w .next)))
+returns c =
+    rw (c .before .before .before .before .before .enum-told .given .1)
+    (let w = fits-wrote {word = text " class=number"} (c .before .before .put .ensures) (omega arith) in
+    (w, omega (arith, w .next)))
 
 same-length-2 : tie.Need-same-length-2
 same-length-2 c = search needs
 
 returns-2 : tie.Need-returns-2
 unfolding className
-returns-2 c = rw (c .before .before .before .before .before .enum-told2 .given .1) (let w = fits-wrote {word = text " class=no-data"} (c .before .before .put2 .ensures) (omega arith) in (w, omega (arith, w .next)))
+returns-2 c =
+    rw (c .before .before .before .before .before .enum-told2 .given .1)
+    (let w = fits-wrote {word = text " class=no-data"} (c .before .before .put2 .ensures) (omega arith) in
+    (w, omega (arith, w .next)))
 
 same-length-3 : tie.Need-same-length-3
 same-length-3 c = search needs
 
 returns-3 : tie.Need-returns-3
 unfolding className
-returns-3 c = rw (c .before .before .before .before .before .enum-told3 .given .1) (let w = fits-wrote {word = text " class=out-of-range"} (c .before .before .put3 .ensures) (omega arith) in (w, omega (arith, w .next)))
+returns-3 c =
+    rw (c .before .before .before .before .before .enum-told3 .given .1)
+    (let w = fits-wrote {word = text " class=out-of-range"} (c .before .before .put3 .ensures) (omega arith) in
+    (w, omega (arith, w .next)))
 
 same-length-4 : tie.Need-same-length-4
 same-length-4 c = search needs
 
 returns-4 : tie.Need-returns-4
 unfolding className
-returns-4 c = rw (c .before .before .before .before .before .enum-told4 .given .1) (let w = fits-wrote {word = text " class=reserved"} (c .before .before .put4 .ensures) (omega arith) in (w, omega (arith, w .next)))
+returns-4 c =
+    rw (c .before .before .before .before .before .enum-told4 .given .1)
+    (let w = fits-wrote {word = text " class=reserved"} (c .before .before .put4 .ensures) (omega arith) in
+    (w, omega (arith, w .next)))
 
 pub put-class-spec : {M : Type 1} → statement M
 put-class-spec =

@@ -54,9 +54,13 @@ returns c =
     let w₁ = fits-wrote (q₁ .put .ensures) (omega (arith, h .0, h .1)) in
     let w₂ = q₂ .put-place .ensures in
     let w₃ = q₃ .put-class .ensures in
-    let w₄ = wrote-decimal (text " raw=") _ (q₄ .put-decimal .ensures) (code-fits start) (omega (arith, w₁ .next, w₁ .room, w₂ .1, w₂ .0 .room, w₃ .1, w₃ .0 .room)) in
-    let w₅ = fits-wrote {word = text "\n"} (q₅ .put2 .ensures) (omega (arith, w₁ .next, w₁ .room, w₂ .1, w₂ .0 .room, w₃ .1, w₃ .0 .room, w₄ .1, w₄ .0 .room)) in
-    (behind (behind (behind (behind w₁ (w₂ .0)) (w₃ .0)) (w₄ .0)) w₅, omega (arith, w₁ .next, w₂ .1, w₃ .1, w₄ .1, w₅ .next))
+    let w₄ = wrote-decimal (text " raw=") _ (q₄ .put-decimal .ensures) (code-fits start)
+    (omega (arith, w₁ .next, w₁ .room, w₂ .1, w₂ .0 .room, w₃ .1, w₃ .0 .room)) in
+    let w₅ = fits-wrote {word = text "\n"} (q₅ .put2 .ensures)
+    (omega (arith, w₁ .next, w₁ .room, w₂ .1, w₂ .0 .room, w₃ .1, w₃ .0 .room, w₄ .1, w₄ .0 .room)) in (
+      behind (behind (behind (behind w₁ (w₂ .0)) (w₃ .0)) (w₄ .0)) w₅,
+      omega (arith, w₁ .next, w₂ .1, w₃ .1, w₄ .1, w₅ .next),
+    )
 
 pub put-field-spec : {M : Type 1} → statement M
 put-field-spec =
