@@ -44,7 +44,8 @@ pub data Ran (block : List ℕ) (readTo : ℕ) (c : Cutter) (k : Kept) : List �
   begun : Ran block readTo c k [] readTo c k On
   a-line : {words : List ℕ} {readTo′ : ℕ} {c′ : Cutter} {k′ : Kept} (r : Cut) (piece : Piece)
       → Ran block readTo c k words readTo′ c′ k′ On → Next block readTo′ c′ r → yieldOf block r ≡ brings piece
-      → Ran block readTo c k (words ++ lineText k′ (pieceRead piece)) (r .«read_to») (r .cutter) (keptAfter k′ (pieceRead piece)) On
+      → Ran block readTo c k (words ++ lineText k′ (pieceRead piece))
+      (r .«read_to») (r .cutter) (keptAfter k′ (pieceRead piece)) On
   all-used : {words : List ℕ} {readTo′ : ℕ} {c′ : Cutter} {k′ : Kept} (r : Cut)
       → Ran block readTo c k words readTo′ c′ k′ On → Next block readTo′ c′ r → yieldOf block r ≡ used
       → Ran block readTo c k words (r .«read_to») (r .cutter) k′ Used
@@ -65,7 +66,12 @@ after cutter readTo step =
 
 abbrev pub stayed : Reader → Cutter → ℕ → ℕ → Going → Run
 stayed reader cutter readTo writtenTo going =
-    record { reader = record { cutter = cutter; receiver = reader .receiver; counts = reader .counts }; «read_to» = readTo; «written_to» = writtenTo; going = going }
+    record {
+      reader = record { cutter = cutter; receiver = reader .receiver; counts = reader .counts };
+      «read_to» = readTo;
+      «written_to» = writtenTo;
+      going = going;
+    }
 
 -- one more line may be counted
 pub record OneMore (c : Counts) : Type 0 where
@@ -73,26 +79,33 @@ pub record OneMore (c : Counts) : Type 0 where
   pub counting : Counting c
 
 -- a line taken, and the run that it leaves
-pub record Went (reader : Reader) (cutter : Cutter) (readTo : ℕ) (line : Told Frame) (storage out : List ℕ) (writtenTo : ℕ) (r : Run) (storage′ out′ : List ℕ) : Type 0 where
+pub record Went (reader : Reader) (cutter : Cutter) (readTo : ℕ) (line : Told Frame) (storage out : List ℕ) (writtenTo : ℕ)
+    (r : Run) (storage′ out′ : List ℕ) : Type 0 where
   pub step : Step
   pub took : Took (keptBy reader storage) line out writtenTo step storage′ out′
   pub left : r ≡ after cutter readTo step
 
 -- a line of more than 80 bytes, whatever the storage is
 abbrev pub WentPast : Reader → Cutter → ℕ → List ℕ → ℕ → Run → List ℕ → Type 0
-WentPast reader cutter readTo out writtenTo r out′ = (storage : List ℕ) → Went reader cutter readTo (refused 19) storage out writtenTo r storage out′
+WentPast reader cutter readTo out writtenTo r out′ =
+    (storage : List ℕ) → Went reader cutter readTo (refused 19) storage out writtenTo r storage out′
 
 -- one turn carries on whatever was run before
-pub record Turned (block : List ℕ) (readTo : ℕ) (reader : Reader) (storage out : List ℕ) (writtenTo : ℕ) (r : Run) (storage′ out′ : List ℕ) : Type 0 where
-  pub runs : (from : ℕ) (c : Cutter) (k : Kept) → Ran block from c k (take writtenTo out) readTo (reader .cutter) (keptBy reader storage) On
-      → Ran block from c k (take (r .«written_to») out′) (r .«read_to») (r .reader .cutter) (keptBy (r .reader) storage′) (r .going)
+pub record Turned (block : List ℕ) (readTo : ℕ) (reader : Reader) (storage out : List ℕ) (writtenTo : ℕ)
+    (r : Run) (storage′ out′ : List ℕ) : Type 0 where
+  pub runs : (from : ℕ) (c : Cutter) (k : Kept)
+      → Ran block from c k (take writtenTo out) readTo (reader .cutter) (keptBy reader storage) On
+      → Ran block from c k (take (r .«written_to») out′)
+      (r .«read_to») (r .reader .cutter) (keptBy (r .reader) storage′) (r .going)
   pub ready : Ready (r .reader)
   pub fits : r .«written_to» ≤ length out′
   pub advances : r .going ≡ On → (readTo < r .«read_to») × (r .«read_to» ≤ length block)
 
 -- a run, its text at the start of the output
-pub record Runs (block : List ℕ) (readTo : ℕ) (reader : Reader) (storage : List ℕ) (r : Run) (storage′ out′ : List ℕ) : Type 0 where
-  pub runs : Ran block readTo (reader .cutter) (keptBy reader storage) (take (r .«written_to») out′) (r .«read_to») (r .reader .cutter) (keptBy (r .reader) storage′) (r .going)
+pub record Runs (block : List ℕ) (readTo : ℕ) (reader : Reader) (storage : List ℕ)
+    (r : Run) (storage′ out′ : List ℕ) : Type 0 where
+  pub runs : Ran block readTo (reader .cutter) (keptBy reader storage) (take (r .«written_to») out′)
+      (r .«read_to») (r .reader .cutter) (keptBy (r .reader) storage′) (r .going)
   pub ready : Ready (r .reader)
   pub fits : r .«written_to» ≤ length out′
   pub advances : r .going ≡ On → (readTo < r .«read_to») × (r .«read_to» ≤ length block)

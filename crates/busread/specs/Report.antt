@@ -61,10 +61,12 @@ className Reserved = text "reserved"
 unfoldable pub placeText : Row → List ℕ
 placeText row = keyed " bit=" (decimal (row .first)) ++ keyed " width=" (decimal (row .width))
 
+unfoldable pub valueText : Class → ℕ → List ℕ
+valueText class code = keyed " class=" (className class) ++ keyed " raw=" (decimal code)
+
 -- a field's line, behind the head of its frame
 unfoldable pub fieldText : List ℕ → Row → Field → List ℕ
-fieldText head row field =
-    head ++ placeText row ++ keyed " class=" (className (field .class)) ++ keyed " raw=" (decimal (field .code)) ++ newline
+fieldText head row field = head ++ placeText row ++ valueText (field .class) (field .code) ++ newline
 
 -- a line for each of some rows, of a frame whose eight bytes are this number
 unfoldable pub fieldsText : List ℕ → ℕ → List Row → List ℕ

@@ -23,7 +23,8 @@ pub record Counting (c : Counts) : Type 0 where
   pub messages : c .messages ≤ c .frames
 
 -- one line: what it prints behind what was written, and all that is kept
-pub record Took (k : Kept) (line : Told Frame) (out : List ℕ) (writtenTo : ℕ) (r : Step) (storage after : List ℕ) : Type 0 where
+pub record Took (k : Kept) (line : Told Frame) (out : List ℕ) (writtenTo : ℕ)
+    (r : Step) (storage after : List ℕ) : Type 0 where
   pub printed : Wrote out writtenTo (lineText k line) after (r .«written_to»)
   pub short : r .«written_to» ≤ writtenTo + lineRoom
   pub kept : kept (r .receiver) storage (r .counts) ≡ keptAfter k line
@@ -32,4 +33,5 @@ pub record Took (k : Kept) (line : Told Frame) (out : List ℕ) (writtenTo : ℕ
 
 -- a malformed line, whatever the storage is: it is neither read nor written
 abbrev pub Passed : Receiver → Counts → List ℕ → ℕ → Step → List ℕ → Type 0
-Passed receiver counts out writtenTo r after = (storage : List ℕ) → Took (kept receiver storage counts) (refused 19) out writtenTo r storage after
+Passed receiver counts out writtenTo r after =
+    (storage : List ℕ) → Took (kept receiver storage counts) (refused 19) out writtenTo r storage after

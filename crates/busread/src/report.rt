@@ -2,8 +2,8 @@
 ghost use Prim.Native.Nat.{_+_, _≤_};
 ghost use lib.ListN.{length};
 ghost use Rattle.text.specs.Pieces.{Wrote};
-ghost use Rattle.busread.specs.Report.{keyed, headText, refusalText, messageText, className, placeText};
-ghost use Rattle.busread.specs.Report.{fieldText, closingText};
+ghost use Rattle.busread.specs.Report.{headText, refusalText, messageText};
+ghost use Rattle.busread.specs.Report.{placeText, valueText, fieldText, closingText};
 use catalogue::Class;
 use catalogue::Field;
 use catalogue::Row;
@@ -53,16 +53,16 @@ pub fn put_message(
     text::put(out, bytes_end, b"\n")
 }
 
-// The class of a field.
-fn put_class(out: &mut [u8], at: usize, class: Class) -> usize
-    requires { ⌜ at + 20 ≤ length (now out) ⌝ }
-    ensures { λ r. ⌜ Wrote (now (out .entry)) at (keyed " class=" (className class)) (now (out .exit)) r × (r ≤ at + 20) ⌝ }
+// The class of a field, and its code.
+fn put_value(out: &mut [u8], at: usize, class: Class, code: u64) -> usize
+    requires { ⌜ at + 44 ≤ length (now out) ⌝ }
+    ensures { λ r. ⌜ Wrote (now (out .entry)) at (valueText class code) (now (out .exit)) r × (r ≤ at + 44) ⌝ }
 {
     match class {
-        Class::Number => text::put(out, at, b" class=number"),
-        Class::NoData => text::put(out, at, b" class=no-data"),
-        Class::OutOfRange => text::put(out, at, b" class=out-of-range"),
-        Class::Reserved => text::put(out, at, b" class=reserved"),
+        Class::Number => text::put_decimal(out, at, b" class=number raw=", code),
+        Class::NoData => text::put_decimal(out, at, b" class=no-data raw=", code),
+        Class::OutOfRange => text::put_decimal(out, at, b" class=out-of-range raw=", code),
+        Class::Reserved => text::put_decimal(out, at, b" class=reserved raw=", code),
     }
 }
 
@@ -74,9 +74,8 @@ pub fn put_field(out: &mut [u8], at: usize, head: &[u8], row: Row, field: Field)
     let head_end = text::put(out, at, head);
     let place_end = put_place(out, head_end, row);
     let class = field.class;
-    let class_end = put_class(out, place_end, class);
-    let raw_end = text::put_decimal(out, class_end, b" raw=", field.code);
-    text::put(out, raw_end, b"\n")
+    let value_end = put_value(out, place_end, class, field.code);
+    text::put(out, value_end, b"\n")
 }
 
 // Where a field lies.

@@ -32,7 +32,8 @@ placed-padded l h = let e : 0 + length l ≡ length l = omega arith in rw (e, dr
 
 -- the three pieces of a line, one behind the other
 pub line-put : {t₁ t₂ t₃ : List ℕ} {n₁ n₂ n₃ : ℕ} (f : Frame) → f .gap ≤ 65535 → length (f .bytes) ≡ 8
-    → PutDecimal (replicate 43 0) 0 gapKey (f .gap) n₁ t₁ → PutHex t₁ n₁ idKey (f .id) 8 n₂ t₂ → PutBytes t₂ n₂ dataKey (f .bytes) n₃ t₃
+    → PutDecimal (replicate 43 0) 0 gapKey (f .gap) n₁ t₁ → PutHex t₁ n₁ idKey (f .id) 8 n₂ t₂
+    → PutBytes t₂ n₂ dataKey (f .bytes) n₃ t₃
     → (t₃ ≡ padded (lineOf f)) × (n₃ ≡ length (lineOf f))
 unfolding lineOf
 line-put {t₁} {t₂} {t₃} {n₁} {n₂} f g e p₁ p₂ p₃ =
@@ -54,5 +55,8 @@ line-put {t₁} {t₂} {t₃} {n₁} {n₂} f g e p₁ p₂ p₃ =
     let k₂ : n₂ ≡ 0 + length (a ++ b) = omega (arith, q₁ .1, q₂ .1) in
     let r₃ = one-behind zeros (a ++ b) d 0 r₂ k₂ (q₃ .0) (omega arith) in
     let le : length (a ++ b ++ d) ≡ length (a ++ b) + length d = length-append (a ++ b) d in
-    let line : a ++ b ++ d ≡ lineOf f = simp append-assoc in
-    (r₃ ∙ placed-padded (a ++ b ++ d) (omega arith) ∙ ap padded line, omega (arith, q₁ .1, q₂ .1, q₃ .1) ∙ ap length line)
+    let line : a ++ b ++ d ≡ lineOf f = simp append-assoc in (
+      r₃ ∙ placed-padded (a ++ b ++ d) (omega arith) ∙ ap padded line,
+      omega (arith, q₁ .1, q₂ .1, q₃ .1) ∙ ap length
+          line,
+    )

@@ -9,12 +9,12 @@ use Rattle.words.specs.Words.{refused, gives}
 use Rattle.text.specs.Text.{digits}
 use Rattle.frame.specs.Frame.{frameBytes}
 use Rattle.capture.specs.Digits.{greatestBase, numberRead}
-use Rattle.capture.specs.Line.{Frame, lineOf, lineRead, IsFrame, IsLineOf, greatestGap, shortestLine}
-use Rattle.capture.specs.Line.{longestSound}
+use Rattle.capture.specs.Line.{Frame, lineOf, lineRead, IsFrame, IsLineOf}
+use Rattle.capture.specs.Line.{greatestGap, shortestLine, longestSound}
 use Rattle.capture.specs.Stream.{newline, longestLine, mostLines, Piece, pieceOf, linesOf, pieceRead}
 use Rattle.capture.specs.Cutter.{fresh}
-use Rattle.capture.specs.Promises.{toldReading, frameIn, noFrame, TakeApart, Write, New, Next, Last}
-use Rattle.capture.specs.Promises.{ReadingRefusal}
+use Rattle.capture.specs.Promises.{toldReading, frameIn, noFrame}
+use Rattle.capture.specs.Promises.{TakeApart, Write, New, Next, Last, ReadingRefusal}
 use Rattle.capture.specs.Feeding.{joined, yieldOf, brings, between, Fed}
 use Rattle.capture.specs.declared.Reading.{Reading}
 use Rattle.capture.specs.declared.Reading.the-variants as Reading
@@ -57,7 +57,9 @@ MalformedKeeps = (line : List ℕ) (r : Line) → TakeApart line r → r .answer
 -- Digits and the number that they spell give each other back, in every base up to sixteen.
 
 abbrev pub NumberBack : Type 0
-NumberBack = (base : ℕ) → 0 < base → base ≤ greatestBase → (count n : ℕ) → n < base ^ count → numberRead base (digits base count n) ≡ gives n
+NumberBack =
+    (base : ℕ) → 0 < base → base ≤ greatestBase → (count n : ℕ) → n < base ^ count
+    → numberRead base (digits base count n) ≡ gives n
 
 abbrev pub DigitsBack : Type 0
 DigitsBack =
@@ -87,7 +89,8 @@ OneFrame = (f g : Frame) → IsFrame f → IsFrame g → lineOf f ≡ lineOf g �
 -- A sound line has 39 to 43 bytes, and so has what is written.
 
 abbrev pub SoundLength : Type 0
-SoundLength = (line : List ℕ) (f : Frame) → lineRead line ≡ gives f → (shortestLine ≤ length line) × (length line ≤ longestSound)
+SoundLength =
+    (line : List ℕ) (f : Frame) → lineRead line ≡ gives f → (shortestLine ≤ length line) × (length line ≤ longestSound)
 
 abbrev pub WrittenLength : Type 0
 WrittenLength =
@@ -106,7 +109,8 @@ WrittenTakenApart =
 
 abbrev pub TakenApartWritten : Type 0
 TakenApartWritten =
-    (line : List ℕ) (r : Line) (t : Text) → TakeApart line r → r .answer ≡ Reading.Sound → Write (r .gap) (r .id) (r .bytes) t
+    (line : List ℕ) (r : Line) (t : Text) → TakeApart line r → r .answer ≡ Reading.Sound
+    → Write (r .gap) (r .id) (r .bytes) t
     → textOf t ≡ line
 
 -- Zero bytes are zero lines; the last line may lack its newline, which starts no line (RULES 11.6).
@@ -115,7 +119,9 @@ abbrev pub NoBytesNoLines : Type 0
 NoBytesNoLines = linesOf [] ≡ []
 
 abbrev pub FinalNewline : Type 0
-FinalNewline = (stream : List ℕ) (b : ℕ) → (b ≡ newline → ⊥) → linesOf (stream ++ (b ∷ newline ∷ [])) ≡ linesOf (stream ++ (b ∷ []))
+FinalNewline =
+    (stream : List ℕ) (b : ℕ) → (b ≡ newline → ⊥)
+    → linesOf (stream ++ (b ∷ newline ∷ [])) ≡ linesOf (stream ++ (b ∷ []))
 
 -- Nothing past 1,000,000 lines is read.
 abbrev pub NoMoreLines : Type 0
@@ -127,11 +133,14 @@ PieceSays = (line : List ℕ) → pieceRead (pieceOf line) ≡ lineRead line
 
 -- However a stream came in blocks, feeding them brings its lines.
 abbrev pub BlocksDoNotMatter : Type 0
-BlocksDoNotMatter = (blocks : List (List ℕ)) (pieces : List Piece) → Fed fresh between blocks pieces → pieces ≡ linesOf (joined blocks)
+BlocksDoNotMatter =
+    (blocks : List (List ℕ)) (pieces : List Piece) → Fed fresh between blocks pieces → pieces ≡ linesOf (joined blocks)
 
 -- A call that brings a line goes on in the block, and not past its end; so feeding ends.
 abbrev pub NextAdvances : Type 0
-NextAdvances = (block : List ℕ) (at : ℕ) (c : Cutter) (r : Cut) (piece : Piece) → Next block at c r → yieldOf block r ≡ brings piece → (at < r .«read_to») × (r .«read_to» ≤ length block)
+NextAdvances =
+    (block : List ℕ) (at : ℕ) (c : Cutter) (r : Cut) (piece : Piece) → Next block at c r → yieldOf block r ≡ brings piece
+    → (at < r .«read_to») × (r .«read_to» ≤ length block)
 
 -- Where an answer says that a line lies, it lies.
 
@@ -141,7 +150,9 @@ WithinBlock =
     → (from ≤ to) × (to ≤ length block) × (to - from ≤ longestLine)
 
 abbrev pub CarriedFits : Type 0
-CarriedFits = (block : List ℕ) (at n : ℕ) (c : Cutter) (r : Cut) → Next block at c r → r .answer ≡ Cutting.Carried n → n ≤ longestLine
+CarriedFits =
+    (block : List ℕ) (at n : ℕ) (c : Cutter) (r : Cut) → Next block at c r → r .answer ≡ Cutting.Carried n
+    → n ≤ longestLine
 
 abbrev pub LastFits : Type 0
 LastFits = (n : ℕ) (c : Cutter) (r : Ending) → Last c r → r ≡ Ending.Carried n → n ≤ longestLine

@@ -3,10 +3,10 @@
 mod blocks;
 mod spelling;
 
+use spelling::Spelled;
 ghost use mathlib.Core.Path.{_≡_};
 ghost use Rattle.capture.specs.Promises.{TakeApart, Write, New, Next, Last, ReadingRefusal};
 ghost use Rattle.capture.specs.Private.{blank};
-use spelling::Spelled;
 
 // A line has at most so many bytes before its newline, and so many lines are read.
 pub const LONGEST_LINE: usize = 80;
@@ -78,7 +78,7 @@ pub enum Ending {
 }
 
 impl Reading {
-    // The number of the refusal; 0 where the line is that of a frame.
+    // The number of the refusal, 19; 0 where the line is that of a frame.
     pub fn refusal(self) -> u8
         ensures { λ r. ⌜ ReadingRefusal self r ⌝ }
     {
@@ -90,50 +90,8 @@ impl Reading {
     }
 }
 
-// Takes a line apart, given without its newline.
-pub fn take_apart(line: &[u8]) -> Line
-    ensures { λ r. ⌜ TakeApart (now (line .entry)) r ⌝ }
-{
-    if !spelling::has_shape(line) {
-        return malformed();
-    }
-    let width = line.len() - KEYS_AND_DIGITS;
-    let gap_end = width + 4;
-    let id_start = width + 8;
-    let id_end = width + 16;
-    let data_start = width + 22;
-    let Spelled::Number(gap) = spelling::gap(&line[4..gap_end]) else {
-        return malformed();
-    };
-    let Spelled::Number(id) = spelling::number(16, &line[id_start..id_end]) else {
-        return malformed();
-    };
-    let data_read = spelling::eight_bytes(&line[data_start..]);
-    if !data_read.sound {
-        return malformed();
-    }
-    let bytes = data_read.bytes;
-    Line {
-        answer: Reading::Sound,
-        gap: gap as u16,
-        id,
-        bytes,
-    }
-}
-
-// Writes the line of a frame.
-pub fn write(gap: u16, id: u32, bytes: [u8; 8]) -> Text
-    ensures { λ r. ⌜ Write gap id bytes r ⌝ }
-{
-    let mut line = [0u8; TEXT_BYTES];
-    let gap_end = text::put_decimal(&mut line, 0, b"gap=", gap as u64);
-    let id_end = text::put_hex(&mut line, gap_end, b" id=", id as u64, 8);
-    let count = text::put_bytes(&mut line, id_end, b" data=", &bytes);
-    Text { bytes: line, count }
-}
-
 impl Cutter {
-    // At the start of a stream.
+    // A cutter at the start of a stream; hand it to `next` with the first block.
     pub fn new() -> Cutter
         ensures { λ r. ⌜ New r ⌝ }
     {
@@ -144,7 +102,10 @@ impl Cutter {
         }
     }
 
-    // Looks for the next line in a block, from position `at` on.
+    // Looks for the next line in a block, from position `at` on, 0 for a new block. After a line, ask again with the
+    // cutter and `read_to` of the answer; after `BlockUsed`, hand the next block over from 0 on, or call `last` where
+    // there is none; after `AllRead`, stop. It refuses nothing: every cutter and every position has a meaning, and how
+    // a stream came in blocks makes no difference to its lines.
     pub fn next(self, block: &[u8], at: usize) -> Cut
         ensures { λ r. ⌜ Next (now (block .entry)) at self r ⌝ }
     {
@@ -177,7 +138,8 @@ impl Cutter {
         }
     }
 
-    // The line that the end of the stream ends.
+    // The line that the end of the stream ends, once every block was used. There is none where the last byte was a
+    // newline.
     pub fn last(self) -> Ending
         ensures { λ r. ⌜ Last self r ⌝ }
     {
@@ -192,6 +154,52 @@ impl Cutter {
         }
         Ending::Carried(self.length)
     }
+}
+
+// Takes a line apart, given without its newline. `Sound` has the pause before the frame in milliseconds, the
+// identifier and the eight bytes: let the pause pass first, then hear the frame. An identifier of 2^29 or more is well
+// spelled, and refused where it is heard (3). Refused with 19, `Malformed`, is every line that is not the one line of a
+// frame; zeros stand beside it, and no time passes.
+pub fn take_apart(line: &[u8]) -> Line
+    ensures { λ r. ⌜ TakeApart (now (line .entry)) r ⌝ }
+{
+    if !spelling::has_shape(line) {
+        return malformed();
+    }
+    let width = line.len() - KEYS_AND_DIGITS;
+    let gap_end = width + 4;
+    let id_start = width + 8;
+    let id_end = width + 16;
+    let data_start = width + 22;
+    let Spelled::Number(gap) = spelling::gap(&line[4..gap_end]) else {
+        return malformed();
+    };
+    let Spelled::Number(id) = spelling::number(16, &line[id_start..id_end]) else {
+        return malformed();
+    };
+    let data_read = spelling::eight_bytes(&line[data_start..]);
+    if !data_read.sound {
+        return malformed();
+    }
+    let bytes = data_read.bytes;
+    Line {
+        answer: Reading::Sound,
+        gap: gap as u16,
+        id,
+        bytes,
+    }
+}
+
+// Writes the one line of a frame, without its newline: the first `count` of the bytes, 39 to 43 of them. It refuses
+// nothing, and `take_apart` gives the same frame back.
+pub fn write(gap: u16, id: u32, bytes: [u8; 8]) -> Text
+    ensures { λ r. ⌜ Write gap id bytes r ⌝ }
+{
+    let mut line = [0u8; TEXT_BYTES];
+    let gap_end = text::put_decimal(&mut line, 0, b"gap=", gap as u64);
+    let id_end = text::put_hex(&mut line, gap_end, b" id=", id as u64, 8);
+    let count = text::put_bytes(&mut line, id_end, b" data=", &bytes);
+    Text { bytes: line, count }
 }
 
 fn malformed() -> Line

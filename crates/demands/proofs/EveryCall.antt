@@ -1043,27 +1043,33 @@ every-call M =
       text-put-decimal = record {
         meets = text-put-decimal.met;
         asks-nothing = free;
-        Promise = λ κs a r e. text-promises.PutDecimal (now (a .0)) (a .1 .0) (now (a .1 .1 .0)) (a .1 .1 .1 .0) r (now (e .0));
+        Promise = λ κs a r e.
+            text-promises.PutDecimal (now (a .0)) (a .1 .0) (now (a .1 .1 .0)) (a .1 .1 .1 .0) r (now (e .0));
         promises = λ 𝓤 H A mem run κs a ghost r. refl;
         one-answer = λ κs a r s w v h k.
             lent (λ x. (x, (tt, (tt, (tt, tt)))))
-            (Text.put-decimal-only (now (a .0)) (a .1 .0) (now (a .1 .1 .0)) (a .1 .1 .1 .0) r s (w .0) (v .0) h k);
+            (Text.put-decimal-only
+            (now (a .0)) (a .1 .0) (now (a .1 .1 .0)) (a .1 .1 .1 .0) r s (w .0) (v .0) h k);
         only = Text.put-decimal-only;
       };
       text-put-hex = record {
         meets = text-put-hex.met;
         asks-nothing = free;
-        Promise = λ κs a r e. text-promises.PutHex (now (a .0)) (a .1 .0) (now (a .1 .1 .0)) (a .1 .1 .1 .0) (a .1 .1 .1 .1 .0) r (now (e .0));
+        Promise = λ κs a r e.
+            text-promises.PutHex
+            (now (a .0)) (a .1 .0) (now (a .1 .1 .0)) (a .1 .1 .1 .0) (a .1 .1 .1 .1 .0) r (now (e .0));
         promises = λ 𝓤 H A mem run κs a ghost r. refl;
         one-answer = λ κs a r s w v h k.
             lent (λ x. (x, (tt, (tt, (tt, (tt, tt))))))
-            (Text.put-hex-only (now (a .0)) (a .1 .0) (now (a .1 .1 .0)) (a .1 .1 .1 .0) (a .1 .1 .1 .1 .0) r s (w .0) (v .0) h k);
+            (Text.put-hex-only
+            (now (a .0)) (a .1 .0) (now (a .1 .1 .0)) (a .1 .1 .1 .0) (a .1 .1 .1 .1 .0) r s (w .0) (v .0) h k);
         only = Text.put-hex-only;
       };
       text-put-bytes = record {
         meets = text-put-bytes.met;
         asks-nothing = free;
-        Promise = λ κs a r e. text-promises.PutBytes (now (a .0)) (a .1 .0) (now (a .1 .1 .0)) (now (a .1 .1 .1 .0)) r (now (e .0));
+        Promise = λ κs a r e.
+            text-promises.PutBytes (now (a .0)) (a .1 .0) (now (a .1 .1 .0)) (now (a .1 .1 .1 .0)) r (now (e .0));
         promises = λ 𝓤 H A mem run κs a ghost r. refl;
         one-answer = λ κs a r s w v h k.
             lent (λ x. (x, (tt, (tt, (tt, tt)))))

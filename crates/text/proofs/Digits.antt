@@ -87,7 +87,8 @@ power-more (suc (suc k)) n p h l =
     let m : 10 ^ suc k ≤ n / 10 = rw e at (l (omega arith)) in
     rw pow-suc (omega arith)
 
-width-within : (most n : ℕ) → n ≤ most → (n < 10 ^ decimalWidth n) × (1 < decimalWidth n → 10 ^ (decimalWidth n - 1) ≤ n)
+width-within : (most n : ℕ) → n ≤ most
+    → (n < 10 ^ decimalWidth n) × (1 < decimalWidth n → 10 ^ (decimalWidth n - 1) ≤ n)
 width-within zero n h =
     let w = width-one n (omega arith) in
     rw w (omega arith, λ l. absurd (omega arith))
@@ -102,7 +103,8 @@ width-within (suc most) n h =
     let p : n / 10 ≤ most = omega arith in
     let t = width-within most (n / 10) p in
     let below : n / 10 < 10 ^ decimalWidth (n / 10) = t .0 in
-    let least : 10 ^ decimalWidth (n / 10) ≤ n = power-more (decimalWidth (n / 10)) n (width-positive (n / 10)) s (t .1) in
+    let least : 10 ^ decimalWidth (n / 10) ≤ n =
+    power-more (decimalWidth (n / 10)) n (width-positive (n / 10)) s (t .1) in
     let e : suc (decimalWidth (n / 10)) - 1 ≡ decimalWidth (n / 10) = omega arith in
     rw (width-more n s, e) (rw pow-suc (omega arith), λ l. least))
 

@@ -7,8 +7,8 @@ use borrow.Author.Tests.{lt-leb}
 use lib.ListN.{length}
 use Rattle.text.specs.Text.{digits, decimal, bytePairs}
 use Rattle.text.specs.Pieces.{putIn, endOf}
-use Rattle.text.specs.Laws.{PutOnly, PutDecimalOnly, PutHexOnly, PutBytesOnly, DecimalWidthOnly, FitsWrote}
-use Rattle.text.specs.Laws.{NoRoomKeeps, NoLeadingZeros, WidthAtMost}
+use Rattle.text.specs.Laws.{PutOnly, PutDecimalOnly, PutHexOnly, PutBytesOnly, DecimalWidthOnly}
+use Rattle.text.specs.Laws.{FitsWrote, NoRoomKeeps, NoLeadingZeros, WidthAtMost}
 use Rattle.text.proofs.Digits.{width-digits, width-most}
 use Rattle.text.proofs.Pieces as Pieces
 

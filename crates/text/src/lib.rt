@@ -91,7 +91,8 @@ fn fits(room: usize, at: usize, size: usize) -> bool
 // A word that fits.
 fn put_word(out: &mut [u8], at: usize, word: &[u8]) -> usize
     requires { ⌜ at + length (now word) ≤ length (now out) ⌝ }
-    ensures { λ r. ⌜ (now (out .exit) ≡ placed (now (out .entry)) at (now (word .entry))) × (r ≡ at + length (now (word .entry))) ⌝ }
+    ensures { λ r. ⌜ (now (out .exit) ≡ placed (now (out .entry)) at (now (word .entry)))
+        × (r ≡ at + length (now (word .entry))) ⌝ }
 {
     let mut i: usize = 0;
     while i < word.len() {
@@ -119,7 +120,8 @@ fn put_digits(out: &mut [u8], at: usize, base: u64, number: u64, count: usize) -
 // Two digits for each byte.
 fn put_pairs(out: &mut [u8], at: usize, bytes: &[u8]) -> usize
     requires { ⌜ at + 2 * length (now bytes) ≤ length (now out) ⌝ }
-    ensures { λ r. ⌜ (now (out .exit) ≡ placed (now (out .entry)) at (bytePairs (now (bytes .entry)))) × (r ≡ at + 2 * length (now (bytes .entry))) ⌝ }
+    ensures { λ r. ⌜ (now (out .exit) ≡ placed (now (out .entry)) at (bytePairs (now (bytes .entry))))
+        × (r ≡ at + 2 * length (now (bytes .entry))) ⌝ }
 {
     let mut end = at;
     let mut i: usize = 0;

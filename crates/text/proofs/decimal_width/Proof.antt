@@ -10,7 +10,8 @@ use Rattle.text.proofs.decimal_width.Statement.{statement}
 use Rattle.text.proofs.decimal_width.Tie as tie
 
 abbrev Inv-loop : tie.InvT-loop
-Inv-loop number width₀ rest₀ width rest = (width + rest ≤ number + 1) × (width + decimalWidth rest ≡ decimalWidth number + 1)
+Inv-loop number width₀ rest₀ width rest =
+    (width + rest ≤ number + 1) × (width + decimalWidth rest ≡ decimalWidth number + 1)
 
 abbrev μ-loop : tie.MeasureT-loop
 μ-loop number width₀ rest₀ width rest = rest

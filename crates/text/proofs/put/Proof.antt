@@ -14,7 +14,8 @@ returns c =
     let f = c .before in
     let a = f .before .before .before .args in
     let word = a .word .now in
-    put-none (a .at) (length word) word refl (no-room (length (a .out .now)) (a .at) (length word) (f .fits2 .ensures) (c .if1 .taken))
+    put-none (a .at) (length word) word refl
+    (no-room (length (a .out .now)) (a .at) (length word) (f .fits2 .ensures) (c .if1 .taken))
 
 put-word-requires : tie.Need-put-word-requires
 put-word-requires c κs =

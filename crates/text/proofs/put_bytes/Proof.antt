@@ -30,14 +30,16 @@ returns-2 c =
     let f = c .before in
     let a = f .before .before .before .before .before .args in
     let bytes = a .bytes .now in
-    let h = no-room (length (a .out .now)) (a .at) (length (a .key .now) + 2 * length bytes) (f .fits2 .ensures) (c .if2 .taken) in
+    let h = no-room (length (a .out .now)) (a .at) (length (a .key .now) + 2 * length bytes) (f .fits2 .ensures)
+    (c .if2 .taken) in
     keyed-none (a .at) (2 * length bytes) (a .key .now) (bytePairs bytes) (sym (length-pairs bytes)) h
 
 put-word-requires : tie.Need-put-word-requires
 put-word-requires c κs =
     let f = c .before .before in
     let a = f .before .before .before .before .before .args in
-    let h = has-room (length (a .out .now)) (a .at) (length (a .key .now) + 2 * length (a .bytes .now)) (f .fits2 .ensures) (c .before .if2 .left) in
+    let h = has-room (length (a .out .now)) (a .at) (length (a .key .now) + 2 * length (a .bytes .now))
+    (f .fits2 .ensures) (c .before .if2 .left) in
     omega arith
 
 put-pairs-requires : tie.Need-put-pairs-requires
@@ -45,7 +47,8 @@ put-pairs-requires c κs =
     let p = c .before .before .before in
     let f = p .before .before .before in
     let a = f .before .before .before .before .before .args in
-    let h = has-room (length (a .out .now)) (a .at) (length (a .key .now) + 2 * length (a .bytes .now)) (f .fits2 .ensures) (p .before .before .if2 .left) in
+    let h = has-room (length (a .out .now)) (a .at) (length (a .key .now) + 2 * length (a .bytes .now))
+    (f .fits2 .ensures) (p .before .before .if2 .left) in
     omega arith
 
 same-length : tie.Need-same-length
@@ -58,7 +61,8 @@ returns-3 c =
     let f = p .before .before .before in
     let a = f .before .before .before .before .before .args in
     let bytes = a .bytes .now in
-    let h = has-room (length (a .out .now)) (a .at) (length (a .key .now) + 2 * length bytes) (f .fits2 .ensures) (p .before .before .if2 .left) in
+    let h = has-room (length (a .out .now)) (a .at) (length (a .key .now) + 2 * length bytes) (f .fits2 .ensures)
+    (p .before .before .if2 .left) in
     keyed-fits (a .at) (2 * length bytes) (a .key .now) (bytePairs bytes) (sym (length-pairs bytes)) h
     (p .put-word .ensures .0) (p .put-word .ensures .1) (q .put-pairs .ensures .0) (omega arith)
 

@@ -28,14 +28,17 @@ returns c =
     let f = c .before in
     let w = f .before .decimal-width in
     let a = f .before .before .before .before .args in
-    let h = no-room (length (a .out .now)) (a .at) (length (a .key .now) + w .result) (f .fits2 .ensures) (c .if1 .taken) in
-    keyed-none (a .at) (w .result) (a .key .now) (decimal (a .number)) (w .ensures .width ∙ sym (length-decimal (a .number))) h
+    let h = no-room (length (a .out .now)) (a .at) (length (a .key .now) + w .result) (f .fits2 .ensures)
+    (c .if1 .taken) in
+    keyed-none (a .at) (w .result) (a .key .now) (decimal (a .number))
+    (w .ensures .width ∙ sym (length-decimal (a .number))) h
 
 put-word-requires : tie.Need-put-word-requires
 put-word-requires c κs =
     let f = c .before .before in
     let a = f .before .before .before .before .args in
-    let h = has-room (length (a .out .now)) (a .at) (length (a .key .now) + f .before .decimal-width .result) (f .fits2 .ensures) (c .before .if1 .left) in
+    let h = has-room (length (a .out .now)) (a .at) (length (a .key .now) + f .before .decimal-width .result)
+    (f .fits2 .ensures) (c .before .if1 .left) in
     omega arith
 
 put-digits-requires : tie.Need-put-digits-requires
@@ -43,7 +46,8 @@ put-digits-requires c κs =
     let p = c .before .before .before in
     let f = p .before .before .before in
     let a = f .before .before .before .before .args in
-    let h = has-room (length (a .out .now)) (a .at) (length (a .key .now) + f .before .decimal-width .result) (f .fits2 .ensures) (p .before .before .if1 .left) in
+    let h = has-room (length (a .out .now)) (a .at) (length (a .key .now) + f .before .decimal-width .result)
+    (f .fits2 .ensures) (p .before .before .if1 .left) in
     (omega arith, omega arith, omega arith)
 
 same-length : tie.Need-same-length
@@ -57,9 +61,12 @@ returns-2 c =
     let f = p .before .before .before in
     let w = f .before .decimal-width in
     let a = f .before .before .before .before .args in
-    let h = has-room (length (a .out .now)) (a .at) (length (a .key .now) + w .result) (f .fits2 .ensures) (p .before .before .if1 .left) in
-    keyed-fits (a .at) (w .result) (a .key .now) (decimal (a .number)) (w .ensures .width ∙ sym (length-decimal (a .number))) h
-    (p .put-word .ensures .0) (p .put-word .ensures .1) (rw (← w .ensures .width) (q .put-digits .ensures .0)) (q .put-digits .ensures .1)
+    let h = has-room (length (a .out .now)) (a .at) (length (a .key .now) + w .result) (f .fits2 .ensures)
+    (p .before .before .if1 .left) in
+    keyed-fits (a .at) (w .result) (a .key .now) (decimal (a .number))
+    (w .ensures .width ∙ sym (length-decimal (a .number))) h
+    (p .put-word .ensures .0) (p .put-word .ensures .1) (rw (← w .ensures .width) (q .put-digits .ensures .0))
+    (q .put-digits .ensures .1)
 
 pub put-decimal-spec : {M : Type 1} → statement M
 put-decimal-spec =

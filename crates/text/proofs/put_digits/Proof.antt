@@ -10,7 +10,8 @@ use Rattle.text.proofs.put_digits.Statement.{statement}
 use Rattle.text.proofs.put_digits.Tie as tie
 
 abbrev Inv-loop : tie.InvT-loop
-Inv-loop out₀ at base number count rest₀ i₀ out rest i = (i ≤ count) × (length out ≡ length out₀) × (putDown base at i rest out ≡ putDown base at count number out₀)
+Inv-loop out₀ at base number count rest₀ i₀ out rest i =
+    (i ≤ count) × (length out ≡ length out₀) × (putDown base at i rest out ≡ putDown base at count number out₀)
 
 abbrev μ-loop : tie.MeasureT-loop
 μ-loop out₀ at base number count rest₀ i₀ out rest i = i
@@ -46,8 +47,12 @@ loop-again : tie.Need-loop-again Inv-loop μ-loop
 loop-again c =
     let l = c .before .before .loop in
     let a = c .before .before .before .before .args in
-    let h : 0 < l .i = omega arith in
-    (search needs, simp length-set (l .inv .1), rw (c .glyph-of .ensures) (down-turn (a .base) (a .at) (l .i) (l .rest) (l .out) h ∙ l .inv .2))
+    let h : 0 < l .i = omega arith in (
+      search needs,
+      simp length-set (l .inv .1),
+      rw (c .glyph-of .ensures)
+          (down-turn (a .base) (a .at) (l .i) (l .rest) (l .out) h ∙ l .inv .2),
+    )
 
 add-result : tie.Need-add-result Inv-loop μ-loop
 add-result c = search needs
@@ -59,8 +64,11 @@ returns : tie.Need-returns Inv-loop μ-loop
 returns c =
     let l = c .before .loop in
     let a = c .before .before .before .args in
-    let h : l .i ≤ 0 = omega arith in
-    (sym (down-end (a .base) (a .at) (l .i) (l .rest) (l .out) h) ∙ l .inv .2 ∙ down-digits (a .base) (a .at) (a .count) (a .number) (a .out .now) (omega arith), refl)
+    let h : l .i ≤ 0 = omega arith in (
+      sym (down-end (a .base) (a .at) (l .i) (l .rest) (l .out) h) ∙ l .inv .2 ∙ down-digits (a .base) (a .at)
+          (a .count) (a .number) (a .out .now) (omega arith),
+      refl,
+    )
 
 pub put-digits-spec : {M : Type 1} → statement M
 put-digits-spec =

@@ -13,7 +13,8 @@ use Rattle.text.proofs.put_hex.Tie as tie
 returns : tie.Need-returns
 returns c =
     let a = c .before .before .before .args in
-    keyed-none (a .at) (a .count) (a .key .now) (digits 16 (a .count) (a .number)) (sym (length-digits 16 (a .count) (a .number))) (omega arith)
+    keyed-none (a .at) (a .count) (a .key .now) (digits 16 (a .count) (a .number))
+    (sym (length-digits 16 (a .count) (a .number))) (omega arith)
 
 add-fits : tie.Need-add-fits
 add-fits c = search needs
@@ -25,14 +26,17 @@ returns-2 : tie.Need-returns-2
 returns-2 c =
     let f = c .before in
     let a = f .before .before .before .before .args in
-    let h = no-room (length (a .out .now)) (a .at) (length (a .key .now) + a .count) (f .fits2 .ensures) (c .if2 .taken) in
-    keyed-none (a .at) (a .count) (a .key .now) (digits 16 (a .count) (a .number)) (sym (length-digits 16 (a .count) (a .number))) h
+    let h = no-room (length (a .out .now)) (a .at) (length (a .key .now) + a .count) (f .fits2 .ensures)
+    (c .if2 .taken) in
+    keyed-none (a .at) (a .count) (a .key .now) (digits 16 (a .count) (a .number))
+    (sym (length-digits 16 (a .count) (a .number))) h
 
 put-word-requires : tie.Need-put-word-requires
 put-word-requires c κs =
     let f = c .before .before in
     let a = f .before .before .before .before .args in
-    let h = has-room (length (a .out .now)) (a .at) (length (a .key .now) + a .count) (f .fits2 .ensures) (c .before .if2 .left) in
+    let h = has-room (length (a .out .now)) (a .at) (length (a .key .now) + a .count) (f .fits2 .ensures)
+    (c .before .if2 .left) in
     omega arith
 
 put-digits-requires : tie.Need-put-digits-requires
@@ -40,7 +44,8 @@ put-digits-requires c κs =
     let p = c .before .before .before in
     let f = p .before .before .before in
     let a = f .before .before .before .before .args in
-    let h = has-room (length (a .out .now)) (a .at) (length (a .key .now) + a .count) (f .fits2 .ensures) (p .before .before .if2 .left) in
+    let h = has-room (length (a .out .now)) (a .at) (length (a .key .now) + a .count) (f .fits2 .ensures)
+    (p .before .before .if2 .left) in
     (omega arith, omega arith, omega arith)
 
 same-length : tie.Need-same-length
@@ -52,7 +57,8 @@ returns-3 c =
     let p = q .before .before .before .before in
     let f = p .before .before .before in
     let a = f .before .before .before .before .args in
-    let h = has-room (length (a .out .now)) (a .at) (length (a .key .now) + a .count) (f .fits2 .ensures) (p .before .before .if2 .left) in
+    let h = has-room (length (a .out .now)) (a .at) (length (a .key .now) + a .count) (f .fits2 .ensures)
+    (p .before .before .if2 .left) in
     let n = sym (length-digits 16 (a .count) (a .number)) in
     keyed-fits (a .at) (a .count) (a .key .now) (digits 16 (a .count) (a .number)) n h
     (p .put-word .ensures .0) (p .put-word .ensures .1) (q .put-digits .ensures .0) (q .put-digits .ensures .1)

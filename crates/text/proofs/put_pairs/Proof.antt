@@ -13,14 +13,17 @@ use Rattle.text.proofs.put_pairs.Statement.{statement}
 use Rattle.text.proofs.put_pairs.Tie as tie
 
 abbrev Inv-loop : tie.InvT-loop
-Inv-loop out₀ at bytes end₀ i₀ out end i = (i ≤ length bytes) × (end ≡ at + 2 * i) × (length out ≡ length out₀) × (out ≡ placed out₀ at (bytePairs (take i bytes)))
+Inv-loop out₀ at bytes end₀ i₀ out end i =
+    (i ≤ length bytes) × (end ≡ at + 2 * i) × (length out ≡ length out₀) × (out ≡ placed out₀ at
+    (bytePairs (take i bytes)))
 
 abbrev μ-loop : tie.MeasureT-loop
 μ-loop out₀ at bytes end₀ i₀ out end i = length bytes - i
 
 loop-holds : tie.Need-loop-holds Inv-loop μ-loop
 unfolding bytePairs
-loop-holds c = (search needs, omega arith, refl, placed-nothing (c .before .before .args .out .now) (c .before .before .args .at))
+loop-holds c =
+    (search needs, omega arith, refl, placed-nothing (c .before .before .args .out .now) (c .before .before .args .at))
 
 shared-slice-read-wide : tie.Need-shared-slice-read-wide Inv-loop μ-loop
 shared-slice-read-wide c = search needs
@@ -45,11 +48,15 @@ loop-again c =
     let p = c .before .before .put-digits in
     let pairs = bytePairs (take (l .i) (a .bytes .now)) in
     let b = getD (a .bytes .now) (l .i) 0 in
-    let n : length pairs ≡ 2 * l .i = length-pairs (take (l .i) (a .bytes .now)) ∙ ap (λ k. 2 * k) (length-take-le (l .i) (a .bytes .now) (omega arith)) in
+    let n : length pairs ≡ 2 * l .i =
+    length-pairs (take (l .i) (a .bytes .now)) ∙ ap (λ k. 2 * k) (length-take-le (l .i) (a .bytes .now) (omega arith))
+    in
     let m : l .end ≡ a .at + length pairs = omega arith in
-    let w : p .last .0 ≡ placed (l .out) (l .end) (digits 16 2 b) = rw (← c .before .before .before .before .wide .ensures) (p .ensures .0) in
+    let w : p .last .0 ≡ placed (l .out) (l .end) (digits 16 2 b) =
+    rw (← c .before .before .before .before .wide .ensures) (p .ensures .0) in
     let e = one-behind (a .out .now) pairs (digits 16 2 b) (a .at) (l .inv .3) m w (omega arith) in
-    let k : length (p .last .0) ≡ length (l .out) = ap length w ∙ length-placed (l .out) (digits 16 2 b) (l .end) (rw (length-digits 16 2 b) (omega arith)) in
+    let k : length (p .last .0) ≡ length (l .out) =
+    ap length w ∙ length-placed (l .out) (digits 16 2 b) (l .end) (rw (length-digits 16 2 b) (omega arith)) in
     (search needs, omega arith, k ∙ l .inv .2, rw (pairs-turn (a .bytes .now) (l .i) h) e)
 
 same-length : tie.Need-same-length Inv-loop μ-loop

@@ -38,8 +38,12 @@ loop-again c =
     let l = c .before .before .loop in
     let a = c .before .before .before .args in
     let h : a .at + l .i < length (a .out .now) = omega arith in
-    let k : l .i < length (a .word .now) = omega arith in
-    (search needs, simp length-set (l .inv .1), put-turn (a .out .now) (l .out) (a .word .now) (a .at) (l .i) h k (l .inv .2))
+    let k : l .i < length (a .word .now) = omega arith in (
+      search needs,
+      simp length-set (l .inv .1),
+      put-turn (a .out .now) (l .out) (a .word .now) (a .at) (l .i) h k
+          (l .inv .2),
+    )
 
 add-result : tie.Need-add-result Inv-loop μ-loop
 add-result c = search needs

@@ -52,10 +52,14 @@ returns c =
     let q₁ = q₂ .before .before .before .before .before .before in
     let start = q₁ .before .before .before .before .before in
     let h = start .pre in
-    let w₁ = wrote-decimal (text "frames=") _ (q₁ .put-decimal .ensures) (omega (arith, start .fits)) (omega (arith, h)) in
-    let w₂ = wrote-decimal (text " refused=") _ (q₂ .put-decimal2 .ensures) (omega arith) (omega (arith, w₁ .1, w₁ .0 .room)) in
-    let w₃ = wrote-decimal (text " messages=") _ (q₃ .put-decimal3 .ensures) (omega (arith, q₃ .before .struct-known3 .given)) (omega (arith, w₁ .1, w₁ .0 .room, w₂ .1, w₂ .0 .room)) in
-    let w₄ = fits-wrote {word = text "\n"} (q₄ .put .ensures) (omega (arith, w₁ .1, w₁ .0 .room, w₂ .1, w₂ .0 .room, w₃ .1, w₃ .0 .room)) in
+    let w₁ = wrote-decimal (text "frames=") _ (q₁ .put-decimal .ensures) (omega (arith, start .fits))
+    (omega (arith, h)) in
+    let w₂ = wrote-decimal (text " refused=") _ (q₂ .put-decimal2 .ensures) (omega arith)
+    (omega (arith, w₁ .1, w₁ .0 .room)) in
+    let w₃ = wrote-decimal (text " messages=") _ (q₃ .put-decimal3 .ensures)
+    (omega (arith, q₃ .before .struct-known3 .given)) (omega (arith, w₁ .1, w₁ .0 .room, w₂ .1, w₂ .0 .room)) in
+    let w₄ = fits-wrote {word = text "\n"} (q₄ .put .ensures)
+    (omega (arith, w₁ .1, w₁ .0 .room, w₂ .1, w₂ .0 .room, w₃ .1, w₃ .0 .room)) in
     behind (behind (behind (w₁ .0) (w₂ .0)) (w₃ .0)) w₄
 
 pub put-closing-spec : {M : Type 1} → statement M

@@ -36,7 +36,8 @@ returns c =
     let q₁ = q₂ .before .before .before .before .before in
     let w₁ = wrote-decimal (text "frame=") _ (q₁ .put-decimal .ensures) (omega arith) (omega arith) in
     let w₂ = wrote-hex (text " sa=") _ 2 (q₂ .put-hex .ensures) (omega (arith, w₁ .1, w₁ .0 .room)) in
-    let w₃ = wrote-hex (text " dgn=") _ 5 (q₃ .put-hex2 .ensures) (omega (arith, w₁ .1, w₁ .0 .room, w₂ .1, w₂ .0 .room)) in
+    let w₃ = wrote-hex (text " dgn=") _ 5 (q₃ .put-hex2 .ensures)
+    (omega (arith, w₁ .1, w₁ .0 .room, w₂ .1, w₂ .0 .room)) in
     (behind (behind (w₁ .0) (w₂ .0)) (w₃ .0), omega (arith, w₁ .1, w₂ .1, w₃ .1))
 
 pub put-head-spec : {M : Type 1} → statement M

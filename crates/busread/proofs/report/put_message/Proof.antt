@@ -39,9 +39,12 @@ returns c =
     let q₂ = q₃ .before .before .before .before .before in
     let q₁ = q₂ .before .before .before .before .before in
     let h = q₁ .put-head .ensures in
-    let w₂ = wrote-decimal (text " length=") _ (q₂ .put-decimal .ensures) (omega arith) (omega (arith, h .1, h .0 .room)) in
-    let w₃ = wrote-bytes (text " bytes=") _ (q₃ .put-bytes .ensures) (omega (arith, h .1, h .0 .room, w₂ .1, w₂ .0 .room)) in
-    let w₄ = fits-wrote {word = text "\n"} (q₄ .put .ensures) (omega (arith, h .1, h .0 .room, w₂ .1, w₂ .0 .room, w₃ .1, w₃ .0 .room)) in
+    let w₂ = wrote-decimal (text " length=") _ (q₂ .put-decimal .ensures) (omega arith)
+    (omega (arith, h .1, h .0 .room)) in
+    let w₃ = wrote-bytes (text " bytes=") _ (q₃ .put-bytes .ensures)
+    (omega (arith, h .1, h .0 .room, w₂ .1, w₂ .0 .room)) in
+    let w₄ = fits-wrote {word = text "\n"} (q₄ .put .ensures)
+    (omega (arith, h .1, h .0 .room, w₂ .1, w₂ .0 .room, w₃ .1, w₃ .0 .room)) in
     (behind (behind (behind (h .0) (w₂ .0)) (w₃ .0)) w₄, omega (arith, h .1, w₂ .1, w₃ .1, w₄ .next))
 
 pub put-message-spec : {M : Type 1} → statement M

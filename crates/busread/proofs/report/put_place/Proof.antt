@@ -34,7 +34,8 @@ returns c =
     let q₂ = c .before .before in
     let q₁ = q₂ .before .before .before .before .before .before in
     let w₁ = wrote-decimal (text " bit=") _ (q₁ .put-decimal .ensures) (omega arith) (omega arith) in
-    let w₂ = wrote-decimal (text " width=") _ (q₂ .put-decimal2 .ensures) (omega arith) (omega (arith, w₁ .1, w₁ .0 .room)) in
+    let w₂ = wrote-decimal (text " width=") _ (q₂ .put-decimal2 .ensures) (omega arith)
+    (omega (arith, w₁ .1, w₁ .0 .room)) in
     (behind (w₁ .0) (w₂ .0), omega (arith, w₁ .1, w₂ .1))
 
 pub put-place-spec : {M : Type 1} → statement M

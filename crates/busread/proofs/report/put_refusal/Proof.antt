@@ -35,7 +35,8 @@ returns c =
     let q₂ = q₃ .before .before .before .before .before in
     let q₁ = q₂ .before .before .before .before .before in
     let w₁ = wrote-decimal (text "frame=") _ (q₁ .put-decimal .ensures) (omega arith) (omega arith) in
-    let w₂ = wrote-decimal (text " refusal=") _ (q₂ .put-decimal2 .ensures) (omega arith) (omega (arith, w₁ .1, w₁ .0 .room)) in
+    let w₂ = wrote-decimal (text " refusal=") _ (q₂ .put-decimal2 .ensures) (omega arith)
+    (omega (arith, w₁ .1, w₁ .0 .room)) in
     let w₃ = fits-wrote {word = text "\n"} (q₃ .put .ensures) (omega (arith, w₁ .1, w₁ .0 .room, w₂ .1, w₂ .0 .room)) in
     (behind (behind (w₁ .0) (w₂ .0)) w₃, omega (arith, w₁ .1, w₂ .1, w₃ .next))
 
