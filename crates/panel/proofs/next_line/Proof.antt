@@ -22,7 +22,7 @@ fits c =
     omega arith
 
 advances : (c : tie.After-next) {piece : Piece} → yieldOf (c .before .before .before .before .before .args .block .now) (c .next .result) ≡ brings piece
-    → c .before .before .before .before .before .args .at < c .next .result .next
+    → c .before .before .before .before .before .args .at < c .next .result .«read_to»
 advances c {piece} y =
     let a = c .before .before .before .before .before .args in
     next-advances (a .block .now) (a .at) (a .listener .cutter) (c .next .result) piece (c .next .ensures) y .0
