@@ -3,14 +3,14 @@
 use mathlib.Core.Path.{_≡_, refl, sym, ap, _∙_}
 use mathlib.Core.Bool.{Bool, true, false, not}
 use mathlib.Core.List.{List, [], _∷_, _++_}
-use Prim.Native.Nat.{ℕ, _-_, _≤_, _<_}
+use Prim.Native.Nat.{ℕ, _-_, _≤_}
 use native.Mathlib.Omega.{arith}
 use borrow.Author.Tests.{ne-eqb, le-leb}
 use lib.ListN.{length, replicate, List·getD-append}
 use lib.Seq.{take-append-seam}
 use Rattle.words.specs.Words.{if_then_else_, _=?_, Told, refused, gives, given_then_, Done, done}
 use Rattle.frame.specs.Bytes.{bytesOf}
-use Rattle.frame.specs.Identifier.{identifierOf, identifiers, priorityOf, reservedOf, dgnOf, sourceOf}
+use Rattle.frame.specs.Identifier.{identifierOf}
 use Rattle.frame.specs.Frame.{frameBytes, sourceAllowed, checkedOf}
 use Rattle.frame.specs.Standard.{claimDgn, noAddress}
 use Rattle.frame.specs.Laws.{toldButPriority}
@@ -21,6 +21,7 @@ use Rattle.frame.specs.declared.BadFrame.the-variants.{SourceNotAllowed}
 use Rattle.words.proofs.Words.{past-refusal, before-refusal, refused-gives, not-flips, by-test, both-true, true-false}
 use Rattle.frame.proofs.Bytes.{length-bytes}
 use Rattle.frame.proofs.Laws as frame-laws
+use Rattle.frame.proofs.Sent.{formed-checked}
 use Rattle.claim.specs.Candidates.{longestList, isWellFormed, padded}
 use Rattle.claim.specs.Claim.{claimPriority, keepsRules, holdsList, address, claimSource, claimId, claimBytes}
 use Rattle.claim.specs.Claim.{Stand, held, claiming, silent, begun, Outcome, nothingToDo, ownName, repeated}
@@ -271,16 +272,8 @@ source-fine source h =
 
 claim-checked : (source size : ℕ) → source ≤ noAddress → size ≡ frameBytes
     → checkedOf (identifierOf claimPriority claimDgn source) size ≡ gives (record { priority = claimPriority; dgn = claimDgn; source = source })
-unfolding identifierOf priorityOf reservedOf dgnOf sourceOf
 claim-checked source size h l =
-    let id = identifierOf claimPriority claimDgn source in
-    let i : id < identifiers = omega arith in
-    let r : reservedOf id ≡ 0 = omega arith in
-    let e₁ : priorityOf id ≡ claimPriority = omega arith in
-    let e₂ : dgnOf id ≡ claimDgn = omega arith in
-    let e₃ : sourceOf id ≡ source = omega arith in
-    let a : sourceAllowed (sourceOf id) (dgnOf id) ≡ true = rw (e₂, e₃) (source-fine source h) in
-    frame-laws.lowest-wins id size .sound i l r a ∙ (λ j. gives (record { priority = e₁ j; dgn = e₂ j; source = e₃ j }))
+    formed-checked claimPriority claimDgn source size (omega arith) (omega arith) (omega arith) (source-fine source h) l
 
 source-silent : (c : Claim) → c .silent ≡ true → claimSource c ≡ noAddress
 unfolding claimSource

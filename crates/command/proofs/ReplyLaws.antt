@@ -11,7 +11,7 @@ use lib.ListN.{length}
 use Rattle.words.specs.Words.{_≤?_, _<?_, _=?_, gives}
 use Rattle.words.specs.Lists.{any}
 use Rattle.frame.specs.Bytes.{bytesOf}
-use Rattle.frame.specs.Identifier.{identifierOf, identifiers, greatestDgn, priorityOf, reservedOf, dgnOf, sourceOf}
+use Rattle.frame.specs.Identifier.{identifierOf, identifiers, greatestDgn, reservedOf, dgnOf, sourceOf}
 use Rattle.frame.specs.Identifier.{partsOf, catalogueForm}
 use Rattle.frame.specs.Frame.{frameBytes, sourceAllowed, checkedOf}
 use Rattle.frame.specs.Standard.{Frame, acknowledgmentDgn, addressClaimed, everyone, greatestAddress, noAddress}
@@ -19,8 +19,9 @@ use Rattle.frame.specs.Standard.{noFrame, requestDgn}
 use Rattle.frame.specs.declared.Parts.{Parts}
 use Rattle.words.proofs.Words.{by-test, both-true, true-false, past-refusal, before-refusal, refused-gives, gives-same}
 use Rattle.words.proofs.Words.{not-flips}
-use Rattle.frame.proofs.Frame.{checked-given, source-low}
+use Rattle.frame.proofs.Frame.{checked-given}
 use Rattle.frame.proofs.Laws as frame-laws
+use Rattle.frame.proofs.Sent.{sent-checked}
 use Rattle.claim.specs.Claim.{heldAfter, keepsRules, holdsList, address, claimSource, claimId, Stand, held, claiming}
 use Rattle.claim.specs.Claim.{silent, standOf, claimFrame}
 use Rattle.claim.specs.Promises.{isSound}
@@ -93,17 +94,9 @@ held-low c a s e =
 pub acknowledgment-checked : (address : ℕ) (reply : Acknowledgment) → address ≤ greatestAddress → reply .requester < 256
     → checkedOf (acknowledgmentId address (reply .requester)) (length (acknowledgmentBytes reply))
     ≡ gives (record { priority = acknowledgmentPriority; dgn = acknowledgmentDgn + reply .requester; source = address })
-unfolding acknowledgmentId acknowledgmentBytes bytesOf identifierOf priorityOf reservedOf dgnOf sourceOf
+unfolding acknowledgmentId acknowledgmentBytes bytesOf
 acknowledgment-checked address reply h q =
-    let requester = reply .requester in
-    let id = acknowledgmentId address requester in
-    let i : id < identifiers = omega arith in
-    let r : reservedOf id ≡ 0 = omega arith in
-    let e₁ : priorityOf id ≡ acknowledgmentPriority = omega arith in
-    let e₂ : dgnOf id ≡ acknowledgmentDgn + requester = omega arith in
-    let e₃ : sourceOf id ≡ address = omega arith in
-    let a : sourceAllowed (sourceOf id) (dgnOf id) ≡ true = rw e₃ (source-low address (dgnOf id) h) in
-    frame-laws.lowest-wins id 8 .sound i refl r a ∙ (λ j. gives (record { priority = e₁ j; dgn = e₂ j; source = e₃ j }))
+    sent-checked acknowledgmentPriority (acknowledgmentDgn + reply .requester) address 8 (omega arith) (omega arith) h refl
 
 claim-source : (c : Claim) → isSound c ≡ true → sourceOf (claimId c) ≡ claimSource c
 unfolding claimId claimSource identifierOf sourceOf

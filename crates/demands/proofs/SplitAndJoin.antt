@@ -1,6 +1,6 @@
 -- The statements of specs/SplitAndJoin.antt, proved: the message's frames mean what they are to mean, and each packet adds its part.
 -- Assumes nothing.
-use mathlib.Core.Path.{_≡_, refl, sym, ap, ap₂, _∙_}
+use mathlib.Core.Path.{_≡_, refl, sym, ap, _∙_}
 use mathlib.Core.Bool.{true}
 use mathlib.Core.List.{List, [], _∷_, _++_, append-assoc}
 use mathlib.Core.Option.{Option, some, none}
@@ -11,12 +11,12 @@ use lib.ListN.{length, take, drop, replicate, length-drop, length-take, length-a
 use lib.Seq.{take-add, take-all, take-append-le, take-take}
 use Rattle.words.specs.Words.{Told, refused, gives}
 use Rattle.frame.specs.Bytes.{bytesOf, byteAt}
-use Rattle.frame.specs.Identifier.{sourceOf, dgnOf, reservedOf, identifierOf, identifiers, greatestDgn, lowestPriority}
-use Rattle.frame.specs.Frame.{frameBytes, sourceAllowed}
+use Rattle.frame.specs.Identifier.{identifierOf, greatestDgn, lowestPriority}
+use Rattle.frame.specs.Frame.{frameBytes}
 use Rattle.frame.specs.Standard.{Frame, announcementDgn, packetDgn, unused, greatestAddress}
 use Rattle.words.proofs.Words.{true-false}
 use Rattle.frame.proofs.Bytes.{number-of-bytes}
-use Rattle.frame.proofs.Laws.{lowest-wins}
+use Rattle.frame.proofs.Sent.{sent-checked}
 use Rattle.places.specs.Format.{Event, frame, pause, step, fixed}
 use Rattle.places.specs.OneKey.{solo, hearAlone, pauseAlone, openAfter}
 use Rattle.message.specs.LongMessage.{shortest, longest, packetBytes, packetsOf, idleLimit, toAll, bytesTo}
@@ -32,36 +32,12 @@ use Rattle.demands.specs.SplitAndJoin.{Sendable, SplitAndJoin, JoinedByR
 use Rattle.demands.proofs.BusyBus.{told-on-bus}
 
 -- a frame as sent passes refusals 3 to 6, and its parts are those that it was formed from
-
-module _ (priority dgn sender : ℕ) (high : priority ≤ lowestPriority) (about : dgn ≤ greatestDgn) (low : sender ≤ greatestAddress) where
-  abbrev id : ℕ
-  id = identifierOf priority dgn sender
-
-  sent-source : sourceOf id ≡ sender
-  unfolding identifierOf sourceOf
-  sent-source = omega arith
-
-  sent-dgn : dgnOf id ≡ dgn
-  unfolding identifierOf dgnOf
-  sent-dgn = omega arith
-
-  sent-reserved : reservedOf id ≡ 0
-  unfolding identifierOf reservedOf
-  sent-reserved = omega arith
-
-  sent-small : id < identifiers
-  unfolding identifierOf
-  sent-small = omega arith
-
-  allowed : sourceAllowed (sourceOf id) (dgnOf id) ≡ true
-  unfolding sourceAllowed
-  allowed = rw (sent-source, ne-eqb sender 255 (λ e. omega arith), ne-eqb sender 254 (λ e. omega arith))
-
-  sent-meaning : (bytes : List ℕ) → length bytes ≡ frameBytes → meaningOf id bytes ≡ meant sender dgn bytes
-  unfolding meaningOf
-  sent-meaning bytes l =
-      let c = lowest-wins id (length bytes) .sound sent-small l sent-reserved allowed in
-      rw c (ap₂ (λ s d. meant s d bytes) sent-source sent-dgn)
+sent-meaning : (priority dgn sender : ℕ) → priority ≤ lowestPriority → dgn ≤ greatestDgn → sender ≤ greatestAddress
+    → (bytes : List ℕ) → length bytes ≡ frameBytes
+    → meaningOf (identifierOf priority dgn sender) bytes ≡ meant sender dgn bytes
+unfolding meaningOf
+sent-meaning priority dgn sender high about low bytes l =
+    rw (sent-checked priority dgn sender (length bytes) high about low l)
 
 -- the splitter's bytes
 

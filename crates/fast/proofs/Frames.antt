@@ -1,7 +1,7 @@
 -- What a frame can mean to the receiver, read off its definition.
 -- Assumes nothing.
 use mathlib.Core.Path.{_≡_, refl, sym, subst, subst⁻¹}
-use mathlib.Core.Bool.{Bool, true, false, not}
+use mathlib.Core.Bool.{true, not}
 use mathlib.Core.List.{List, [], _∷_}
 use Prim.Native.Nat.{ℕ, _≤_, _<_, _/_}
 use native.Mathlib.Nat.{mod-lt}
@@ -9,37 +9,19 @@ use native.Mathlib.Omega.{arith}
 use borrow.Author.Tests.{eqb-true, eqb-false, leb-true}
 use lib.Dec.{lit<}
 use lib.ListN.{length}
-use Rattle.words.specs.Words.{if_then_else_, _≤?_, _=?_, _and_, bits, Told, refused, gives}
+use Rattle.words.specs.Words.{_≤?_, _=?_, _and_, bits, Told, refused, gives}
 use Rattle.words.specs.Lists.{every}
-use Rattle.frame.specs.Identifier.{sourceOf, dgnOf, reservedOf, partsOf, identifiers, greatestDgn}
+use Rattle.frame.specs.Identifier.{sourceOf, dgnOf, greatestDgn}
 use Rattle.frame.specs.Frame.{sourceAllowed, checkedOf, frameBytes}
 use Rattle.frame.specs.Standard.{greatestAddress, announcementDgn, packetDgn}
 use Rattle.frame.specs.declared.Parts.{Parts}
-use Rattle.words.proofs.Words.{both-true, by-test, not-flips, true-false}
+use Rattle.words.proofs.Words.{both-true, by-test, true-false}
+use Rattle.words.proofs.Words.{by-if}
 use Rattle.frame.specs.Bytes.{byteAt}
+use Rattle.frame.proofs.Frame.{checked-sound}
 use Rattle.fast.specs.FastPacket.{sequenceOf, frameNumberOf, greatestSequence, longest, Meaning, other}
 use Rattle.fast.specs.FastPacket.{begins, continues, begun, carried, meant, meaningOf}
 use Rattle.fast.specs.Names.{mayBeNamed, isNamed}
-
-by-if : {A : Type 0} (P : A → Type 0) (b : Bool) (x y : A) → (b ≡ true → P x) → (b ≡ false → P y)
-    → P (if b then x else y)
-by-if P true x y f g = f refl
-by-if P false x y f g = g refl
-
--- a checked frame
-
-abbrev Sound : ℕ → ℕ → Told Parts → Type 0
-Sound id size (refused n) = (2 < n) × (n < 8)
-Sound id size (gives p) = (p ≡ partsOf id) × (size ≡ frameBytes) × (sourceAllowed (sourceOf id) (dgnOf id) ≡ true)
-
-checked-sound : (id size : ℕ) → Sound id size (checkedOf id size)
-unfolding checkedOf
-checked-sound id size =
-    by-if (Sound id size) (identifiers ≤? id) _ _ (λ _. (omega arith, omega arith)) (λ _.
-    by-if (Sound id size) (not (size =? frameBytes)) _ _ (λ _. (omega arith, omega arith)) (λ s.
-    by-if (Sound id size) (reservedOf id =? 1) _ _ (λ _. (omega arith, omega arith)) (λ _.
-    by-if (Sound id size) (sourceAllowed (sourceOf id) (dgnOf id)) _ _
-    (λ a. (refl, eqb-true size frameBytes (not-flips (size =? frameBytes) s), a)) (λ _. (omega arith, omega arith)))))
 
 -- a DGN that is named is one that may be
 pub named-allowed : (names : List ℕ) (dgn : ℕ) → every mayBeNamed names ≡ true → isNamed dgn names ≡ true

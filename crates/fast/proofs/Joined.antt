@@ -1,7 +1,7 @@
 -- The frames that `frame_of` answers, heard by the single-pair rules, hand over the message: each means what it is to
 -- mean, and adds its part.
 -- Assumes nothing.
-use mathlib.Core.Path.{_≡_, refl, sym, ap, ap₂, _∙_}
+use mathlib.Core.Path.{_≡_, refl, sym, ap, _∙_}
 use mathlib.Core.Bool.{true}
 use mathlib.Core.List.{List, [], _∷_, _++_}
 use mathlib.Core.Option.{Option, some, none}
@@ -11,11 +11,11 @@ use borrow.Author.Tests.{eq-eqb, ne-eqb, le-ltb, le-leb, lt-leb, leb-true}
 use lib.ListN.{length, take, drop, replicate, length-drop, length-take, length-append, length-replicate}
 use lib.Seq.{take-add, take-all, take-append-le, take-take}
 use Rattle.words.specs.Words.{_≤?_, Told, refused, gives}
-use Rattle.frame.specs.Identifier.{sourceOf, dgnOf, reservedOf, identifierOf, identifiers, greatestDgn, lowestPriority}
-use Rattle.frame.specs.Frame.{frameBytes, sourceAllowed}
+use Rattle.frame.specs.Identifier.{identifierOf, greatestDgn, lowestPriority}
+use Rattle.frame.specs.Frame.{frameBytes}
 use Rattle.frame.specs.Standard.{Frame, greatestAddress, unused}
 use Rattle.words.proofs.Words.{both-true, true-false}
-use Rattle.frame.proofs.Laws.{lowest-wins}
+use Rattle.frame.proofs.Sent.{sent-checked}
 use Rattle.places.specs.Format.{Event, step, fixed}
 use Rattle.places.specs.OneKey.{solo, hearAlone}
 use Rattle.fast.specs.FastPacket.{greatestSequence, firstBytes, laterBytes, longest, offsetOf, lastFrame, needed}
@@ -32,38 +32,12 @@ use Rattle.fast.proofs.Frames.{named-allowed}
 use Rattle.fast.proofs.Laws.{first-byte-read, splitter-splits}
 
 -- a frame as sent passes refusals 3 to 6, and its parts are those that it was formed from
-
-module _ (priority dgn sender : ℕ) (high : priority ≤ lowestPriority) (about : dgn ≤ greatestDgn)
-    (low : sender ≤ greatestAddress) where
-  abbrev id : ℕ
-  id = identifierOf priority dgn sender
-
-  sent-source : sourceOf id ≡ sender
-  unfolding identifierOf sourceOf
-  sent-source = omega arith
-
-  sent-dgn : dgnOf id ≡ dgn
-  unfolding identifierOf dgnOf
-  sent-dgn = omega arith
-
-  sent-reserved : reservedOf id ≡ 0
-  unfolding identifierOf reservedOf
-  sent-reserved = omega arith
-
-  sent-small : id < identifiers
-  unfolding identifierOf
-  sent-small = omega arith
-
-  allowed : sourceAllowed (sourceOf id) (dgnOf id) ≡ true
-  unfolding sourceAllowed
-  allowed = rw (sent-source, ne-eqb sender 255 (λ e. omega arith), ne-eqb sender 254 (λ e. omega arith))
-
-  sent-meaning : (names bytes : List ℕ) → length bytes ≡ frameBytes
-      → meaningOf names id bytes ≡ meant names sender dgn bytes
-  unfolding meaningOf
-  sent-meaning names bytes l =
-      let c = lowest-wins id (length bytes) .sound sent-small l sent-reserved allowed in
-      rw c (ap₂ (λ s d. meant names s d bytes) sent-source sent-dgn)
+sent-meaning : (priority dgn sender : ℕ) → priority ≤ lowestPriority → dgn ≤ greatestDgn → sender ≤ greatestAddress
+    → (names bytes : List ℕ) → length bytes ≡ frameBytes
+    → meaningOf names (identifierOf priority dgn sender) bytes ≡ meant names sender dgn bytes
+unfolding meaningOf
+sent-meaning priority dgn sender high about low names bytes l =
+    rw (sent-checked priority dgn sender (length bytes) high about low l)
 
 may-be-small : (dgn : ℕ) → mayBeNamed dgn ≡ true → dgn ≤ greatestDgn
 unfolding mayBeNamed

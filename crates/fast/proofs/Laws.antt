@@ -2,15 +2,15 @@
 -- Assumes nothing.
 use mathlib.Core.Path.{_≡_, refl, sym, ap, _∙_, subst, subst⁻¹}
 use mathlib.Core.Bool.{Bool, true, false, not}
-use mathlib.Core.List.{List, [], _∷_, _++_}
+use mathlib.Core.List.{List, [], _∷_}
 use mathlib.Core.Logic.{_≢_, _⊎_, inl, inr}
 use Prim.Native.Nat.{ℕ, zero, suc, _+_, _-_, _*_, _≤_, _<_}
 use native.Mathlib.Nat.{le-of-suc-le-suc, not-suc-le-zero}
 use native.Mathlib.Omega.{arith}
 use borrow.Author.Tests.{eqb-true, eqb-false, leb-true, leb-false, ltb-true, ltb-false, eq-eqb, ne-eqb}
 use borrow.Author.Tests.{le-leb, lt-leb}
-use lib.ListN.{List·getD-append, length, take, drop, getD, length-drop, length-take}
-use lib.Seq.{paste, getD-take, getD-drop, getD-append-add, take-paste, drop-paste, take-append-seam}
+use lib.ListN.{length, drop, getD, length-drop}
+use lib.Seq.{getD-drop, take-append-seam}
 use Rattle.words.specs.Words.{if_then_else_, _=?_, _<?_, _≤?_, _and_, bits, Told, refused, gives, numberIn}
 use Rattle.words.specs.Lists.{every, count, first, Distinct}
 use Rattle.frame.specs.Identifier.{greatestDgn}
@@ -24,6 +24,7 @@ use Rattle.words.proofs.Words.{by-test, both-true, true-false}
 use Rattle.words.proofs.Tests.{tests}
 use Rattle.frame.proofs.Laws.{badBack, bad-back}
 use Rattle.places.specs.Places.{placeCount}
+use Rattle.places.proofs.Stretch.{copy-keeps, copy-writes}
 use Rattle.words.specs.declared.Found.{Found}
 use Rattle.words.specs.declared.Found.the-variants.{At, Nowhere}
 use Rattle.words.proofs.Lists.{every-at, every-replicate, distinct-cons, distinct-head, distinct-tail}
@@ -529,42 +530,6 @@ lowest-wins id bytes state s r exit h =
         h .answer
         ∙ ap (λ (a : After). a .answer)
         (heard-kept id bytes state s enough v ∙ ap (λ (t : Told Meaning). byMeaning t bytes state s) e)
-
--- a byte outside a copy
-
-copy-keeps : (d : List ℕ) (at : ℕ) (b : List ℕ) (n k : ℕ) → at + n ≤ length d → n ≤ length b
-    → (at ≤ k → k < at + n → ⊥) → getD (paste d at b n) k 0 ≡ getD d k 0
-copy-keeps d at b n k l m h =
-    by-test (k <? at)
-    (λ t.
-    let x : k < at = ltb-true k at t in
-    let y : k < length (take at d) = rw length-take (omega arith) in
-    sym (getD-take (at + n) (paste d at b n) k 0 (omega arith))
-    ∙ ap (λ (r : List ℕ). getD r k 0) (take-paste d at b n (omega arith) m)
-    ∙ List·getD-append (take at d) (take n b) 0 k y
-    ∙ getD-take at d k 0 x)
-    (λ t.
-    let x : at ≤ k = ltb-false k at t in
-    by-test (k <? at + n)
-    (λ u. absurd (h x (ltb-true k (at + n) u)))
-    (λ u.
-    let e : k ≡ at + n + (k - (at + n)) = omega (arith, ltb-false k (at + n) u) in
-    rw e
-    (sym (getD-drop (at + n) (paste d at b n) (k - (at + n)) 0)
-    ∙ ap (λ (r : List ℕ). getD r (k - (at + n)) 0) (drop-paste d at b n (omega arith) m)
-    ∙ getD-drop (at + n) d (k - (at + n)) 0)))
-
--- a byte within it
-copy-writes : (d : List ℕ) (at : ℕ) (b : List ℕ) (n k : ℕ) → at + n ≤ length d → n ≤ length b → at ≤ k → k < at + n
-    → getD (paste d at b n) k 0 ≡ getD b (k - at) 0
-copy-writes d at b n k l m x y =
-    let z : length (take at d) ≡ at = rw length-take (omega arith) in
-    let e : k ≡ length (take at d) + (k - at) = rw z (omega arith) in
-    sym (getD-take (at + n) (paste d at b n) k 0 y)
-    ∙ ap (λ (r : List ℕ). getD r k 0) (take-paste d at b n (omega arith) m)
-    ∙ ap (λ (j : ℕ). getD (take at d ++ take n b) j 0) e
-    ∙ getD-append-add (take at d) (take n b) (k - at) 0
-    ∙ getD-take n b (k - at) 0 (omega arith)
 
 -- a frame's own bytes lie within the storage, and it has as many as are needed of it
 

@@ -10,7 +10,7 @@ use lib.ListN.{length}
 use Rattle.words.specs.Words.{if_then_else_, given_then_, _=?_, _<?_, _and_, _or_, Told, refused, gives}
 use Rattle.words.specs.Lists.{first}
 use Rattle.frame.specs.Bytes.{numberOf}
-use Rattle.frame.specs.Identifier.{priorityOf, reservedOf, dgnOf, sourceOf, identifierOf, identifiers, isAddressed}
+use Rattle.frame.specs.Identifier.{priorityOf, reservedOf, dgnOf, sourceOf, identifierOf, isAddressed}
 use Rattle.frame.specs.Identifier.{catalogueForm, destinationOf, greatestDgn}
 use Rattle.frame.specs.Frame.{checkedOf, sourceAllowed}
 use Rattle.frame.specs.Standard.{Frame, everyone, requestDgn, addressClaimed, dgnAt}
@@ -18,7 +18,7 @@ use Rattle.frame.specs.Laws.{toldButPriority}
 use Rattle.frame.specs.declared.Parts.{Parts}
 use Rattle.words.proofs.Words.{by-test, both-true, true-false, refused-gives, gives-same, past-refusal}
 use Rattle.frame.proofs.Laws as frame-laws
-use Rattle.frame.proofs.Frame.{source-low}
+use Rattle.frame.proofs.Sent.{sent-checked}
 use Rattle.words.specs.declared.Found.{Found}
 use Rattle.words.specs.declared.Found.the-variants.{At, Nowhere}
 use Rattle.words.proofs.Lists.{found-at, found-nowhere}
@@ -235,16 +235,8 @@ unfolding dmRvId identifierOf
 dm-rv-example = refl
 
 pub dm-rv-is-sound : the.DmRvIsSound
-unfolding dmRvId identifierOf priorityOf reservedOf dgnOf sourceOf
-dm-rv-is-sound address h =
-    let id = dmRvId address in
-    let i : id < identifiers = omega arith in
-    let r : reservedOf id ≡ 0 = omega arith in
-    let e₁ : priorityOf id ≡ dmRvPriority = omega arith in
-    let e₂ : dgnOf id ≡ dmRv = omega arith in
-    let e₃ : sourceOf id ≡ address = omega arith in
-    let a : sourceAllowed (sourceOf id) (dgnOf id) ≡ true = rw e₃ (source-low address (dgnOf id) h) in
-    frame-laws.lowest-wins id 8 .sound i refl r a ∙ (λ j. gives (record { priority = e₁ j; dgn = e₂ j; source = e₃ j }))
+unfolding dmRvId
+dm-rv-is-sound address h = sent-checked dmRvPriority dmRv address 8 (omega arith) (omega arith) h refl
 
 pub step-example : the.StepExample
 unfolding keepsRules addedOf addedAt isAllowed isZero placeKeepsRules numberOf passed longer longestDue chosen heldStep steppedOf dmRvId identifierOf standing soundOf claimKeepsRules holdsList isWellFormedList padded standOf addressHeld

@@ -3,17 +3,17 @@
 use mathlib.Core.Path.{_≡_, refl, sym}
 use mathlib.Core.Bool.{true, not}
 use mathlib.Core.List.{List, [], _∷_}
-use Prim.Native.Nat.{ℕ, _≤_}
+use Prim.Native.Nat.{ℕ, _≤_, _<_}
 use native.Mathlib.Omega.{arith}
 use borrow.Author.Tests.{eqb-true, ne-eqb}
 use lib.ListN.{getD}
-use Rattle.words.specs.Words.{_≤?_, _=?_, gives}
+use Rattle.words.specs.Words.{_≤?_, _=?_, Told, refused, gives}
 use Rattle.frame.specs.Bytes.{numberOf}
 use Rattle.frame.specs.Identifier.{reservedOf, sourceOf, dgnOf, partsOf, identifiers}
 use Rattle.frame.specs.Frame.{sourceAllowed, checkedOf, frameBytes}
 use Rattle.frame.specs.Standard.{greatestAddress, dgnAt}
 use Rattle.frame.specs.declared.Parts.{Parts}
-use Rattle.words.proofs.Words.{past-refusal, before-refusal, not-flips, gives-same}
+use Rattle.words.proofs.Words.{past-refusal, before-refusal, not-flips, gives-same, by-if}
 
 -- a frame that is given has eight bytes, a source that its DGN allows, and the parts of its identifier
 pub checked-given : (id size : ℕ) (p : Parts) → checkedOf id size ≡ gives p → (size ≡ frameBytes) × (p ≡ partsOf id)
@@ -40,3 +40,17 @@ dgn-read [] = refl
 dgn-read (a ∷ []) = omega arith
 dgn-read (a ∷ b ∷ []) = omega arith
 dgn-read (a ∷ b ∷ d ∷ bytes) = refl
+
+-- what is known of a frame by its check
+abbrev pub Sound : ℕ → ℕ → Told Parts → Type 0
+Sound id size (refused n) = (2 < n) × (n < 8)
+Sound id size (gives p) = (p ≡ partsOf id) × (size ≡ frameBytes) × (sourceAllowed (sourceOf id) (dgnOf id) ≡ true)
+
+pub checked-sound : (id size : ℕ) → Sound id size (checkedOf id size)
+unfolding checkedOf
+checked-sound id size =
+    by-if (Sound id size) (identifiers ≤? id) _ _ (λ _. (omega arith, omega arith)) (λ _.
+    by-if (Sound id size) (not (size =? frameBytes)) _ _ (λ _. (omega arith, omega arith)) (λ s.
+    by-if (Sound id size) (reservedOf id =? 1) _ _ (λ _. (omega arith, omega arith)) (λ _.
+    by-if (Sound id size) (sourceAllowed (sourceOf id) (dgnOf id)) _ _
+    (λ a. (refl, eqb-true size frameBytes (not-flips (size =? frameBytes) s), a)) (λ _. (omega arith, omega arith)))))

@@ -1,3 +1,4 @@
 pub mod Bytes
 pub mod Frame
 pub mod Laws
+pub mod Sent

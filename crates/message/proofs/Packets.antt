@@ -1,18 +1,18 @@
 -- The splitter, case by case, and the bytes of a packet.
 -- Assumes nothing.
-use mathlib.Core.Path.{_≡_, refl, sym, ap, _∙_}
-use mathlib.Core.List.{List, _∷_, _++_, append-nil}
-use Prim.Native.Nat.{ℕ, zero, suc, _+_, _-_, _*_, _≤_, _<_, min}
-use native.Mathlib.Nat.{le-refl, sub-self, le-of-suc-le-suc, not-suc-le-zero}
+use mathlib.Core.Path.{_≡_, sym, ap, _∙_}
+use mathlib.Core.List.{List, _∷_, _++_}
+use Prim.Native.Nat.{ℕ, suc, _+_, _-_, _*_, _≤_, _<_, min}
 use native.Mathlib.Omega.{arith}
-use borrow.Author.Tests.{eq-eqb, ne-eqb, lt-ltb, le-ltb, leb-true, leb-false, ltb-false}
+use borrow.Author.Tests.{eq-eqb, ne-eqb, lt-ltb, le-ltb, ltb-false}
 use lib.ListN.{length, take, drop, replicate, length-drop}
-use lib.Seq.{paste, take-all, take-append-le, take-append-add}
-use Rattle.words.specs.Words.{_<?_, _≤?_, Told, refused, gives}
+use lib.Seq.{paste}
+use Rattle.words.specs.Words.{_<?_, Told, refused, gives}
 use Rattle.frame.specs.Frame.{frameBytes}
 use Rattle.frame.specs.Identifier.{greatestDgn}
 use Rattle.frame.specs.Standard.{unused}
-use Rattle.words.proofs.Words.{by-test, past-refusal, gives-same}
+use Rattle.words.proofs.Words.{past-refusal, gives-same}
+use Rattle.words.proofs.Lists.{filled}
 use Rattle.message.specs.LongMessage.{shortest, longest, packetBytes, packetsOf}
 use Rattle.message.specs.Splitter.{mostPackets, splits, numbered, announcementBytes, packetBytesOf}
 use Rattle.message.specs.Splitter.{announcementOf, packetOf}
@@ -75,33 +75,6 @@ module _ (message : List ℕ) (number count : ℕ) where
   pub numbered-given : (number ≡ 0 → ⊥) → number ≤ count → numbered message number count ≡ gives (packetBytesOf message number)
   unfolding numbered
   numbered-given n h = rw (ne-eqb _ _ n, le-ltb _ _ h)
-
--- parts of a filling
-drop-filling : (n k f : ℕ) → drop n (replicate k f) ≡ replicate (k - n) f
-drop-filling zero k f = let e : k ≡ k - 0 = omega arith in ap (λ (m : ℕ). replicate m f) e
-drop-filling (suc n) zero f = let e : 0 ≡ 0 - suc n = omega arith in ap (λ (m : ℕ). replicate m f) e
-drop-filling (suc n) (suc k) f = let e : k - n ≡ suc k - suc n = omega arith in drop-filling n k f ∙ ap (λ (m : ℕ). replicate m f) e
-
-take-filling : (n k f : ℕ) → n ≤ k → take n (replicate k f) ≡ replicate n f
-take-filling zero k f h = refl
-take-filling (suc n) zero f h = absurd (not-suc-le-zero h)
-take-filling (suc n) (suc k) f h = ap (λ (l : List ℕ). f ∷ l) (take-filling n k f (le-of-suc-le-suc h))
-
--- the first k bytes of a list, filled up
-filled : (k f n : ℕ) (l : List ℕ) → n ≡ min k (length l) → take k (l ++ replicate k f) ≡ take n l ++ drop n (replicate k f)
-filled k f n l e =
-    by-test (k ≤? length l)
-    (λ t.
-    let h : k ≤ length l = leb-true _ _ t in
-    let y : n ≡ k = omega arith in
-    rw (take-append-le k l (replicate k f) h, y, drop-filling k k f, sub-self k) (sym (append-nil (take k l))))
-    (λ t.
-    let h : length l < k = leb-false _ _ t in
-    let y : n ≡ length l = omega arith in
-    let j : k ≡ length l + (k - length l) = omega arith in
-    ap (λ (m : ℕ). take m (l ++ replicate k f)) j
-    ∙ take-append-add l (replicate k f) (k - length l)
-    ∙ rw (y, take-all (length l) l (le-refl _), drop-filling (length l) k f) (ap (λ (r : List ℕ). l ++ r) (take-filling (k - length l) k f (omega arith))))
 
 -- what was copied over the filling is the packet
 pub packet-copied : (message : List ℕ) (number : ℕ)

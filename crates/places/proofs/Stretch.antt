@@ -7,10 +7,15 @@ use native.Mathlib.Nat.{add-assoc, le-refl, mul-le-mul-left}
 use native.Mathlib.Decide.{decLt}
 use native.Mathlib.Numerals.{add-one}
 use native.Mathlib.Omega.{arith}
+use borrow.Author.Tests.{ltb-true, ltb-false}
 use borrow.Rule.Slice.PartMut.{putMid}
-use lib.ListN.{length, take, drop, getD, set, take-append-drop, length-drop, drop-of-length-le}
+use lib.ListN.{length, take, drop, getD, set, take-append-drop, length-take, length-drop, drop-of-length-le}
+use lib.ListN.{List·getD-append}
 use lib.Seq.{paste, paste-suc, getD-drop, drop-append-le, take-append-le, take-take, drop-drop, drop-paste, take-add}
 use lib.Seq.{take-all, length-take-le, drop-at, length-paste-head, take-append-add}
+use lib.Seq.{take-paste, getD-take, getD-append-add}
+use Rattle.words.specs.Words.{_<?_}
+use Rattle.words.proofs.Words.{by-test}
 use Rattle.places.specs.Layout.{stretch, AgreeBut}
 
 -- a copy into the part from a on that was lent, put back, is a copy into the whole
@@ -96,3 +101,38 @@ stretch-other stride j o n s d h l k i ne = go (decLt i j)
     go (no p) =
         let q : suc j ≤ i = omega arith in
         ap (take stride) (part-after s d (stride * j + o) n (stride * i) (omega (arith, mul-le-mul-left stride q)) l₁ k)
+
+-- a byte outside a copy
+pub copy-keeps : (d : List ℕ) (at : ℕ) (b : List ℕ) (n k : ℕ) → at + n ≤ length d → n ≤ length b
+    → (at ≤ k → k < at + n → ⊥) → getD (paste d at b n) k 0 ≡ getD d k 0
+copy-keeps d at b n k l m h =
+    by-test (k <? at)
+    (λ t.
+    let x : k < at = ltb-true k at t in
+    let y : k < length (take at d) = rw length-take (omega arith) in
+    sym (getD-take (at + n) (paste d at b n) k 0 (omega arith))
+    ∙ ap (λ (r : List ℕ). getD r k 0) (take-paste d at b n (omega arith) m)
+    ∙ List·getD-append (take at d) (take n b) 0 k y
+    ∙ getD-take at d k 0 x)
+    (λ t.
+    let x : at ≤ k = ltb-false k at t in
+    by-test (k <? at + n)
+    (λ u. absurd (h x (ltb-true k (at + n) u)))
+    (λ u.
+    let e : k ≡ at + n + (k - (at + n)) = omega (arith, ltb-false k (at + n) u) in
+    rw e
+    (sym (getD-drop (at + n) (paste d at b n) (k - (at + n)) 0)
+    ∙ ap (λ (r : List ℕ). getD r (k - (at + n)) 0) (drop-paste d at b n (omega arith) m)
+    ∙ getD-drop (at + n) d (k - (at + n)) 0)))
+
+-- a byte within it
+pub copy-writes : (d : List ℕ) (at : ℕ) (b : List ℕ) (n k : ℕ) → at + n ≤ length d → n ≤ length b → at ≤ k → k < at + n
+    → getD (paste d at b n) k 0 ≡ getD b (k - at) 0
+copy-writes d at b n k l m x y =
+    let z : length (take at d) ≡ at = rw length-take (omega arith) in
+    let e : k ≡ length (take at d) + (k - at) = rw z (omega arith) in
+    sym (getD-take (at + n) (paste d at b n) k 0 y)
+    ∙ ap (λ (r : List ℕ). getD r k 0) (take-paste d at b n (omega arith) m)
+    ∙ ap (λ (j : ℕ). getD (take at d ++ take n b) j 0) e
+    ∙ getD-append-add (take at d) (take n b) (k - at) 0
+    ∙ getD-take n b (k - at) 0 (omega arith)

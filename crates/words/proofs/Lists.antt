@@ -4,15 +4,15 @@ use mathlib.Core.Path.{_≡_, refl, sym, ap, _∙_}
 use mathlib.Core.Bool.{Bool, true, false, not}
 use mathlib.Core.List.{List, [], _∷_, _++_, map, append-nil, append-assoc}
 use mathlib.Core.Logic.{_≢_}
-use Prim.Native.Nat.{ℕ, zero, suc, _+_, _-_, _≤_, _<_}
-use native.Mathlib.Nat.{le-of-suc-le-suc, not-suc-le-zero}
+use Prim.Native.Nat.{ℕ, zero, suc, _+_, _-_, _≤_, _<_, min}
+use native.Mathlib.Nat.{le-of-suc-le-suc, not-suc-le-zero, le-refl, sub-self}
 use native.Mathlib.Numerals.{add-one}
 use native.Mathlib.Omega.{arith}
-use borrow.Author.Tests.{eq-eqb, ne-eqb, not-true}
+use borrow.Author.Tests.{eq-eqb, ne-eqb, leb-true, leb-false, not-true}
 use lib.Dec.{eqb}
 use lib.ListN.{length, take, drop, getD, set, replicate, drop-of-length-le, length-map, length-set}
-use lib.Seq.{take-all, take-suc, drop-cons, set-at, getD-set-other, length-take-le}
-use Rattle.words.specs.Words.{if_then_else_, _=?_}
+use lib.Seq.{take-all, take-suc, take-append-le, take-append-add, drop-cons, set-at, getD-set-other, length-take-le}
+use Rattle.words.specs.Words.{if_then_else_, _≤?_, _=?_}
 use Rattle.words.specs.Lists.{any, every, count, firstFrom, first}
 use Rattle.words.specs.Lists.{noTwo, Absent, Distinct, filledTo}
 use Rattle.words.specs.declared.Found.{Found}
@@ -246,3 +246,35 @@ distinct-head j js d = not-true _ (both-true (not (any (_=?_ j) js)) _ d .0)
 
 pub distinct-tail : (j : ℕ) (js : List ℕ) → Distinct (j ∷ js) → Distinct js
 distinct-tail j js d = both-true (not (any (_=?_ j) js)) _ d .1
+
+-- parts of a filling
+
+drop-filling : (n k f : ℕ) → drop n (replicate k f) ≡ replicate (k - n) f
+drop-filling zero k f = let e : k ≡ k - 0 = omega arith in ap (λ (m : ℕ). replicate m f) e
+drop-filling (suc n) zero f = let e : 0 ≡ 0 - suc n = omega arith in ap (λ (m : ℕ). replicate m f) e
+drop-filling (suc n) (suc k) f =
+    let e : k - n ≡ suc k - suc n = omega arith in
+    drop-filling n k f ∙ ap (λ (m : ℕ). replicate m f) e
+
+take-filling : (n k f : ℕ) → n ≤ k → take n (replicate k f) ≡ replicate n f
+take-filling zero k f h = refl
+take-filling (suc n) zero f h = absurd (not-suc-le-zero h)
+take-filling (suc n) (suc k) f h = ap (λ (l : List ℕ). f ∷ l) (take-filling n k f (le-of-suc-le-suc h))
+
+-- the first k elements of a list, filled up
+pub filled : (k f n : ℕ) (l : List ℕ) → n ≡ min k (length l)
+    → take k (l ++ replicate k f) ≡ take n l ++ drop n (replicate k f)
+filled k f n l e =
+    by-test (k ≤? length l)
+    (λ t.
+    let h : k ≤ length l = leb-true _ _ t in
+    let y : n ≡ k = omega arith in
+    rw (take-append-le k l (replicate k f) h, y, drop-filling k k f, sub-self k) (sym (append-nil (take k l))))
+    (λ t.
+    let h : length l < k = leb-false _ _ t in
+    let y : n ≡ length l = omega arith in
+    let j : k ≡ length l + (k - length l) = omega arith in
+    ap (λ (m : ℕ). take m (l ++ replicate k f)) j
+    ∙ take-append-add l (replicate k f) (k - length l)
+    ∙ rw (y, take-all (length l) l (le-refl _), drop-filling (length l) k f)
+    (ap (λ (r : List ℕ). l ++ r) (take-filling (k - length l) k f (omega arith))))

@@ -42,3 +42,8 @@ true-false p = let z : _≡_ {A = ℕ} 0 1 = cc in absurd (omega arith)
 pub by-test : {P : Type 0} (b : Bool) → (b ≡ true → P) → (b ≡ false → P) → P
 by-test true f g = f refl
 by-test false f g = g refl
+
+pub by-if : {A : Type 0} (P : A → Type 0) (b : Bool) (x y : A) → (b ≡ true → P x) → (b ≡ false → P y)
+    → P (if b then x else y)
+by-if P true x y f g = f refl
+by-if P false x y f g = g refl
