@@ -10,8 +10,9 @@ use lib.ListN.{length, take, drop, length-take}
 use Rattle.words.specs.Words.{if_then_else_, _<?_, _≤?_, _or_, Told, refused, gives}
 use Rattle.words.proofs.Tests.{tests}
 use Rattle.places.specs.Places.{placeCount}
+use Rattle.places.specs.Telling.{Outcome, nothingToDo, opened, stored, finished}
 use Rattle.message.specs.LongMessage.{longest}
-use Rattle.message.specs.Receiver.{room, Outcome, nothingToDo, opened, stored, finished}
+use Rattle.message.specs.Receiver.{room}
 use Rattle.message.specs.Promises.{toldAnswer, messageIn, Message, Hear, Pause}
 use Rattle.message.specs.declared.Answer.{Answer}
 use Rattle.message.specs.declared.Receiver.{Receiver}

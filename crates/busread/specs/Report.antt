@@ -9,7 +9,8 @@ use Rattle.text.specs.Text.{text, digits, decimal, bytePairs}
 use Rattle.frame.specs.Bytes.{numberOf}
 use Rattle.frame.specs.Identifier.{sourceOf, dgnOf, catalogueForm}
 use Rattle.places.specs.Places.{placeCount}
-use Rattle.message.specs.Receiver.{room, freePlace, Outcome, nothingToDo, opened, stored, finished, After, heard}
+use Rattle.places.specs.Telling.{Outcome, nothingToDo, opened, stored, finished}
+use Rattle.message.specs.Receiver.{room, freePlace, After, heard}
 use Rattle.message.specs.Receiver.{pausedPlaces}
 use Rattle.message.specs.Promises.{messageIn}
 use Rattle.message.specs.declared.Place.{Place}

@@ -20,7 +20,6 @@ use Rattle.frame.specs.declared.Parts.{Parts}
 use Rattle.words.proofs.Words.{by-test, both-true, true-false, past-refusal, before-refusal, refused-gives, gives-same}
 use Rattle.words.proofs.Words.{not-flips}
 use Rattle.frame.proofs.Frame.{checked-given}
-use Rattle.frame.proofs.Laws as frame-laws
 use Rattle.frame.proofs.Sent.{sent-checked}
 use Rattle.claim.specs.Claim.{heldAfter, keepsRules, holdsList, address, claimSource, claimId, Stand, held, claiming}
 use Rattle.claim.specs.Claim.{silent, standOf, claimFrame}

@@ -11,9 +11,9 @@ use Rattle.words.proofs.Words.{by-test}
 use Rattle.places.specs.Format.{opens, goes, ends}
 use Rattle.places.specs.OneKey.{pauseAlone}
 use Rattle.places.proofs.Calls as Calls
+use Rattle.places.specs.Telling.{Tells}
 use Rattle.message.specs.LongMessage.{idleLimit, packetsOf, Meaning, other, announcement, packet, meaningOf}
-use Rattle.message.specs.OneSender.{Open, Part, Tells, longMessages, announcedBy, waits, fedBy, asksBy}
-use Rattle.message.specs.OneSender as OneSender
+use Rattle.message.specs.OneSender.{Open, Part, longMessages, announcedBy, waits, fedBy, asksBy}
 use Rattle.message.specs.Calls.{receiverCalls}
 use Rattle.demands.specs.BusyBus.{BusyBus, OpenOnBus, ToldOnBus, NoPlaceFree, PauseCount, PausesOfMessages}
 use Rattle.demands.specs.BusyBus.{SumsOfPauses, StartKept, RulesKept, EveryRunRuns, NoPlaceFreeAt, PauseCountAt}

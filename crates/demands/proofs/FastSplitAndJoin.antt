@@ -12,9 +12,10 @@ use Rattle.frame.specs.Standard.{Frame}
 use Rattle.words.proofs.Words.{by-test}
 use Rattle.places.specs.Format.{Event, frame, pause}
 use Rattle.places.specs.OneKey.{solo, hearAlone, pauseAlone, openAfter}
+use Rattle.places.specs.Telling.{Tells, finished}
 use Rattle.fast.specs.FastPacket.{pairOf}
 use Rattle.fast.specs.Names.{isWellFormed}
-use Rattle.fast.specs.OnePair.{Open, Tells, finished, fastPackets}
+use Rattle.fast.specs.OnePair.{Open, fastPackets}
 use Rattle.fast.specs.Calls.{Held, Starts}
 use Rattle.fast.proofs.Joined.{joined-by-rules}
 use Rattle.demands.specs.FastSplitAndJoin.{SplitAndJoin}
@@ -45,7 +46,7 @@ split-and-join names message dgn sender sequence h s earlier own w b e o =
     let before = openAfter (fastPackets names) none earlier in
     let r = joined-by-rules names message dgn sender sequence own well w o before in
     let first = solo (fastPackets names) none earlier in
-    let last = gives (finished (record { sender = sender; dgn = dgn; bytes = message })) ∷ [] in (
+    let last : List (Told Tells) = gives (finished (record { sender = sender; dgn = dgn; bytes = message })) ∷ [] in (
       first ++ r .0,
       told-on-bus names h s b (pairOf sender dgn)
           ∙ ap (λ (x : List (Event Frame)). solo (fastPackets names) none x) e

@@ -29,18 +29,19 @@ use Rattle.places.proofs.Stretch.{stretch-same, stretch-other}
 use Rattle.places.proofs.View.{one-each-view, length-view, blank-view, view-pass, view-closes}
 use Rattle.places.proofs.Receiver.{Shows, shows-fixed, shows-opens-held, shows-opens-free, shows-full}
 use Rattle.places.proofs.Receiver.{shows-feeds-nowhere, shows-feeds-goes, shows-feeds-ends, shows-keeps, pass-keeps}
+use Rattle.places.specs.Telling.{Tells, Outcome, nothingToDo, opened, stored, finished, tells}
+use Rattle.places.specs.Telling.{partAt}
 use Rattle.message.specs.LongMessage.{shortest, longest, packetBytes, packetsOf, idleLimit, needed, Meaning, other}
 use Rattle.message.specs.LongMessage.{announcement, packet, meaningOf}
-use Rattle.message.specs.OneSender.{Part, Tells, announcedBy, joined, wholeOf, expectingNext, fedBy}
+use Rattle.message.specs.OneSender.{Part, announcedBy, joined, wholeOf, expectingNext, fedBy}
 use Rattle.message.specs.OneSender.{asksBy, longMessages}
-use Rattle.message.specs.OneSender as OneSender
 use Rattle.message.specs.Receiver.{room, freePlace, isFree, openMessage, layout, isOpenBy}
-use Rattle.message.specs.Receiver.{isZero, placeKeepsRules, keepsRules, Outcome, After, leaves, placeFor}
+use Rattle.message.specs.Receiver.{isZero, placeKeepsRules, keepsRules, After, leaves, placeFor}
 use Rattle.message.specs.Receiver.{hearsAnnouncement, keptAt, expecting, advanced, packetAt, carries, byMeaning, heard}
 use Rattle.message.specs.Receiver.{idled, pausedPlaces, pausedAnswer}
 use Rattle.message.specs.Receiver as Eight
-use Rattle.message.specs.Promises.{toldAnswer, messageIn, partOf}
-use Rattle.message.specs.Calls.{Held, Starts, Keeps, tells, Hears, Pauses, openIn, receiverCalls}
+use Rattle.message.specs.Promises.{toldAnswer, messageIn}
+use Rattle.message.specs.Calls.{Held, Starts, Keeps, Hears, Pauses, openIn, receiverCalls}
 use Rattle.message.specs.declared.Place.{Place}
 use Rattle.message.specs.declared.Answer.{Answer}
 use Rattle.message.specs.declared.Answer.the-variants.{BadFrame, MalformedAnnouncement, NoPlaceFree, NoOpenMessage}
@@ -96,7 +97,7 @@ module _ (s bytes : List ℕ) (j : ℕ) (p : Place) (enough : room ≤ length s)
   length-written : length written ≡ length s
   length-written = length-paste s (longest * j + offset) (drop 1 bytes) keeps inside seven
 
-  whole-message : p .expected ≡ packetsOf (p .length) → partOf written j (p .length) ≡ joined (openMessage p (stretch longest j s)) (drop 1 bytes)
+  whole-message : p .expected ≡ packetsOf (p .length) → partAt longest written j (p .length) ≡ joined (openMessage p (stretch longest j s)) (drop 1 bytes)
   whole-message u =
       let e : p .length ≡ offset + keeps = omega (arith, o .long) in
       rw (lt-leb _ _ below, le-ltb _ _ (o .short))
@@ -154,7 +155,7 @@ module _ (f : Frame) (ps : List Place) (s : List ℕ) (eight : length ps ≡ pla
 
   -- an announcement
   module _ (sender size dgn : ℕ) (by : sourceOf (f .id) ≡ sender) (named : sender ≤ greatestAddress) (long : shortest ≤ size) (short : size ≤ longest) (about : dgn ≤ greatestDgn)
-      (asks : longMessages .asks f ≡ opens (announcedBy sender size dgn) (gives OneSender.opened)) where
+      (asks : longMessages .asks f ≡ opens (announcedBy sender size dgn) (gives opened)) where
     abbrev new : Place
     new = record { sender = sender; length = size; dgn = dgn; expected = 1; idle = 0 }
 
@@ -180,7 +181,7 @@ module _ (f : Frame) (ps : List Place) (s : List ℕ) (eight : length ps ≡ pla
         free (At j) n e =
             rw (n, e)
             (record {
-              shows = shows-opens-free longMessages layout f ps s (announcedBy sender size dgn) (gives OneSender.opened) j new s asks (found Nowhere n) e new-open refl (λ i x. refl);
+              shows = shows-opens-free longMessages layout f ps s (announcedBy sender size dgn) (gives opened) j new s asks (found Nowhere n) e new-open refl (λ i x. refl);
               rules = new-set j;
               long = refl;
               answers = (Opened, refl);
@@ -192,7 +193,7 @@ module _ (f : Frame) (ps : List Place) (s : List ℕ) (eight : length ps ≡ pla
         held (At j) e =
             rw e
             (record {
-              shows = shows-opens-held longMessages layout f ps s (announcedBy sender size dgn) (gives OneSender.opened) j new s asks (found (At j) e) new-open refl (λ i x. refl);
+              shows = shows-opens-held longMessages layout f ps s (announcedBy sender size dgn) (gives opened) j new s asks (found (At j) e) new-open refl (λ i x. refl);
               rules = new-set j;
               long = refl;
               answers = (Opened, refl);
@@ -226,13 +227,13 @@ module _ (f : Frame) (ps : List Place) (s : List ℕ) (eight : length ps ≡ pla
 
       last : number ≡ p .expected → p .expected ≡ packetsOf (p .length)
           → fedBy (openMessage p (stretch longest j s)) part
-          ≡ ends (gives (OneSender.finished (wholeOf (openMessage p (stretch longest j s))
+          ≡ ends (gives (finished (wholeOf (openMessage p (stretch longest j s))
           (joined (openMessage p (stretch longest j s)) (drop 1 (f .bytes))))))
       last n u = rw (eq-eqb _ _ n, eq-eqb _ _ u)
 
       next : number ≡ p .expected → p .expected ≢ packetsOf (p .length)
           → fedBy (openMessage p (stretch longest j s)) part
-          ≡ goes (expectingNext (openMessage p (stretch longest j s)) (joined (openMessage p (stretch longest j s)) (drop 1 (f .bytes)))) (gives OneSender.stored)
+          ≡ goes (expectingNext (openMessage p (stretch longest j s)) (joined (openMessage p (stretch longest j s)) (drop 1 (f .bytes)))) (gives stored)
       next n u = rw (eq-eqb _ _ n, ne-eqb _ _ u)
 
       wrong : number ≢ p .expected → fedBy (openMessage p (stretch longest j s)) part ≡ ends (refused 10)
@@ -248,10 +249,10 @@ module _ (f : Frame) (ps : List Place) (s : List ℕ) (eight : length ps ≡ pla
             shows =
                 subst⁻¹
                 (λ (m : List ℕ). Shows longMessages layout f ps s (set ps j freePlace) (keptAt j p (f .bytes) s)
-                (said (gives (OneSender.finished (record { sender = p .sender; dgn = p .dgn; bytes = m })))))
+                (said (gives (finished (record { sender = p .sender; dgn = p .dgn; bytes = m })))))
                 (whole-message s (f .bytes) j p enough below rules-here size u)
                 (shows-feeds-ends longMessages layout f ps s part (refused 9)
-                (gives (OneSender.finished (wholeOf (openMessage p (stretch longest j s))
+                (gives (finished (wholeOf (openMessage p (stretch longest j s))
                 (joined (openMessage p (stretch longest j s)) (drop 1 (f .bytes))))))
                 j freePlace freePlace (keptAt j p (f .bytes) s) asks (sought (At j) e) (last n u) refl (others s (f .bytes) j p enough below rules-here size));
             rules = freed;
@@ -264,7 +265,7 @@ module _ (f : Frame) (ps : List Place) (s : List ℕ) (eight : length ps ≡ pla
           subst⁻¹ Agrees (advanced-next j p ps (keptAt j p (f .bytes) s) u)
           (record {
             shows =
-                shows-feeds-goes longMessages layout f ps s part (refused 9) (gives OneSender.stored)
+                shows-feeds-goes longMessages layout f ps s part (refused 9) (gives stored)
                 (expectingNext (openMessage p (stretch longest j s)) (joined (openMessage p (stretch longest j s)) (drop 1 (f .bytes))))
                 j freePlace (expecting (p .expected + 1) p) (keptAt j p (f .bytes) s) asks (sought (At j) e) (next n u) next-open
                 (next-message s (f .bytes) j p enough below rules-here size u) (others s (f .bytes) j p enough below rules-here size);
@@ -321,7 +322,7 @@ module _ (f : Frame) (ps : List Place) (s : List ℕ) (eight : length ps ≡ pla
       go (refused n) e k =
           let h : (2 < n) × (n < 8) = rw e at k in
           rw e (kept (refused n) (refused n) (asked (refused n) e) (rw (ne-eqb n 8 (λ x. omega (arith, h .1)))) (refusal-named n (h .0) (h .1)))
-      go (gives other) e k = rw e (kept (gives Eight.nothingToDo) (gives OneSender.nothingToDo) (asked (gives other) e) refl (NothingToDo, refl))
+      go (gives other) e k = rw e (kept (gives nothingToDo) (gives nothingToDo) (asked (gives other) e) refl (NothingToDo, refl))
       go (gives (announcement m)) e k =
           let h = rw e at k in
           let asks = asked (gives (announcement m)) e in

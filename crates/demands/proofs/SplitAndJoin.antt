@@ -19,9 +19,10 @@ use Rattle.frame.proofs.Bytes.{number-of-bytes}
 use Rattle.frame.proofs.Sent.{sent-checked}
 use Rattle.places.specs.Format.{Event, frame, pause, step, fixed}
 use Rattle.places.specs.OneKey.{solo, hearAlone, pauseAlone, openAfter}
+use Rattle.places.specs.Telling.{Tells, nothingToDo, opened, stored, finished}
 use Rattle.message.specs.LongMessage.{shortest, longest, packetBytes, packetsOf, idleLimit, toAll, bytesTo}
 use Rattle.message.specs.LongMessage.{needed, Meaning, other, announcement, packet, announced, meant, meaningOf}
-use Rattle.message.specs.OneSender.{Open, Tells, joined, asksBy, longMessages, nothingToDo, finished, opened, stored}
+use Rattle.message.specs.OneSender.{Open, joined, asksBy, longMessages}
 use Rattle.message.specs.Splitter.{announcementBytes, packetBytesOf}
 use Rattle.message.specs.Promises.{Announcement, Packet}
 use Rattle.message.specs.declared.Announced.{Announced}
@@ -200,7 +201,7 @@ pub split-and-join : SplitAndJoin
 split-and-join message dgn sender h s earlier own w b e o =
     let r = joined-by-rules message dgn sender own w o (openAfter longMessages none earlier) in
     let first = solo longMessages none earlier in
-    let last = gives (finished (record { sender = sender; dgn = dgn; bytes = message })) ∷ [] in (
+    let last : List (Told Tells) = gives (finished (record { sender = sender; dgn = dgn; bytes = message })) ∷ [] in (
       first ++ r .0,
       told-on-bus h s b sender
           ∙ ap (λ (x : List (Event Frame)). solo longMessages none x) e

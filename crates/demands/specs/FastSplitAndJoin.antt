@@ -8,8 +8,9 @@ use Rattle.frame.specs.Standard.{Frame}
 use Rattle.places.specs.Format.{Event}
 use Rattle.places.specs.Places.{History, toldTo, admitted, answered}
 use Rattle.places.specs.Calls.{FromStart}
+use Rattle.places.specs.Telling.{Tells, finished}
 use Rattle.fast.specs.FastPacket.{pairOf}
-use Rattle.fast.specs.OnePair.{Tells, finished, fastPackets}
+use Rattle.fast.specs.OnePair.{fastPackets}
 use Rattle.fast.specs.Calls.{Held, fastCalls}
 use Rattle.fast.specs.Sending.{Sendable, Sent}
 

@@ -15,9 +15,10 @@ use Rattle.places.specs.Format.{Event, frame, pause}
 use Rattle.places.specs.OneKey.{solo}
 use Rattle.places.specs.Places.{History, toldTo, admitted, answered}
 use Rattle.places.specs.Calls.{FromStart}
+use Rattle.places.specs.Telling.{Tells, finished}
 use Rattle.message.specs.LongMessage.{shortest, longest, packetsOf, idleLimit, Meaning, other, announcement, packet}
 use Rattle.message.specs.LongMessage.{meaningOf}
-use Rattle.message.specs.OneSender.{Open, Tells, finished, longMessages}
+use Rattle.message.specs.OneSender.{Open, longMessages}
 use Rattle.message.specs.Promises.{Announcement, Packet}
 use Rattle.message.specs.Calls.{Held, receiverCalls}
 use Rattle.message.specs.declared.Announced.{Announced}

@@ -16,8 +16,9 @@ use Rattle.places.specs.Format.{Event, frame, pause}
 use Rattle.places.specs.Places.{Place as Seat, Out, hear, run, toldTo, placeCount}
 use Rattle.places.specs.Statements.{onBusyBus}
 use Rattle.places.proofs.View.{blank-view, view-pass}
+use Rattle.places.specs.Telling.{Tells}
 use Rattle.message.specs.LongMessage.{bytesTo, announced, meant, meaningOf}
-use Rattle.message.specs.OneSender.{Open, Tells, longMessages}
+use Rattle.message.specs.OneSender.{Open, longMessages}
 use Rattle.message.specs.Receiver.{room, freePlace, layout, idled, isZero, placeKeepsRules, keepsRules, closes}
 use Rattle.message.specs.Receiver.{pausedAnswer}
 use Rattle.message.specs.Splitter.{splits, announcementBytes, announcementOf}

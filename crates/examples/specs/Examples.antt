@@ -13,11 +13,10 @@ use Rattle.frame.specs.Frame.{formedOf}
 use Rattle.frame.specs.Standard.{Frame}
 use Rattle.places.specs.Format.{Event, frame, pause}
 use Rattle.places.specs.Places.{Out, full, said, placeCount}
+use Rattle.places.specs.Telling.{Tells, nothingToDo, opened, stored, finished, tells}
 use Rattle.message.specs.LongMessage.{Meaning, other, announcement, packet, meaningOf}
-use Rattle.message.specs.OneSender.{Tells, nothingToDo, opened, stored, finished}
 use Rattle.message.specs.Receiver.{room, freePlace, heard, pausedPlaces, pausedAnswer}
 use Rattle.message.specs.Promises.{messageIn}
-use Rattle.message.specs.Calls.{tells}
 use Rattle.message.specs.declared.Place.{Place}
 use Rattle.message.specs.Splitter.{announcementOf}
 use Rattle.catalogue.specs.Classes.{classAt, belowGreatest}

@@ -18,10 +18,11 @@ use Rattle.words.proofs.Words.{both-true, true-false}
 use Rattle.frame.proofs.Sent.{sent-checked}
 use Rattle.places.specs.Format.{Event, step, fixed}
 use Rattle.places.specs.OneKey.{solo, hearAlone}
+use Rattle.places.specs.Telling.{Tells, nothingToDo, opened, stored, finished}
 use Rattle.fast.specs.FastPacket.{greatestSequence, firstBytes, laterBytes, longest, offsetOf, lastFrame, needed}
 use Rattle.fast.specs.FastPacket.{idleLimit, Meaning, other, begins, continues, begun, carried, meant, meaningOf}
 use Rattle.fast.specs.Names.{mayBeNamed, isWellFormed}
-use Rattle.fast.specs.OnePair.{Open, Tells, joined, asksBy, fastPackets, nothingToDo, opened, stored, finished}
+use Rattle.fast.specs.OnePair.{Open, joined, asksBy, fastPackets}
 use Rattle.fast.specs.Splitter.{firstBytesOf, laterBytesOf, frameBytesOf}
 use Rattle.fast.specs.Promises.{FrameOf}
 use Rattle.fast.specs.Sending.{sent, isApart, Sendable, Sending, pauses, sends, next, last, Sent, at-once}

@@ -33,19 +33,20 @@ use Rattle.places.proofs.View.{one-each-view, length-view, blank-view, view-pas
 use Rattle.places.proofs.Receiver.{Shows, shows-fixed, shows-opens-held, shows-opens-free, shows-finishes-held}
 use Rattle.places.proofs.Receiver.{shows-finishes-free, shows-full, shows-feeds-nowhere, shows-feeds-goes}
 use Rattle.places.proofs.Receiver.{shows-feeds-ends, shows-keeps, pass-keeps}
+use Rattle.places.specs.Telling.{Tells, Outcome, nothingToDo, opened, stored, finished, tells}
+use Rattle.places.specs.Telling.{partAt}
 use Rattle.fast.specs.FastPacket.{greatestSequence, firstBytes, longest, offsetOf, lastFrame, neededFirst, needed}
 use Rattle.fast.specs.FastPacket.{idleLimit, pairOf, Meaning, other, begins, continues, meaningOf}
 use Rattle.fast.specs.Names.{isNamed, isWellFormed}
-use Rattle.fast.specs.OnePair as OnePair
-use Rattle.fast.specs.OnePair.{Open, Part, Tells, begunBy, joined, expectingNext, fedBy, waits, asksBy}
+use Rattle.fast.specs.OnePair.{Open, Part, begunBy, joined, expectingNext, fedBy, waits, asksBy}
 use Rattle.fast.specs.OnePair.{fastPackets}
 use Rattle.fast.specs.Receiver as Eight
 use Rattle.fast.specs.Receiver.{room, freePlace, isFree, openMessage, layout, isOpenBy, namesOf, isZero}
-use Rattle.fast.specs.Receiver.{placeKeepsRules, keepsRules, Outcome, After, leaves, holding, placing, placeFor}
+use Rattle.fast.specs.Receiver.{placeKeepsRules, keepsRules, After, leaves, holding, placing, placeFor}
 use Rattle.fast.specs.Receiver.{newPlace, firstKept, entersAt, keptAt, expecting, advanced, frameAt, byMeaning}
 use Rattle.fast.specs.Receiver.{heard, idled, pausedState, pausedAnswer}
-use Rattle.fast.specs.Promises.{toldAnswer, naming, partOf, messageIn}
-use Rattle.fast.specs.Calls.{Held, Starts, Keeps, tells, Hears, Pauses, openIn, EveryListStarts, FastKeepsPlaces}
+use Rattle.fast.specs.Promises.{toldAnswer, naming, messageIn}
+use Rattle.fast.specs.Calls.{Held, Starts, Keeps, Hears, Pauses, openIn, EveryListStarts, FastKeepsPlaces}
 use Rattle.fast.specs.Calls.{FastPausesAdd}
 use Rattle.fast.specs.declared.Place.{Place}
 use Rattle.fast.specs.declared.Receiver.{Receiver}
@@ -121,7 +122,7 @@ module _ (s bytes : List ℕ) (j from count : ℕ) (enough : room ≤ length s) 
 
   -- where they are the last ones, the message is read as they left it
   written-read : (size : ℕ) → size ≡ from + count
-      → partOf written j size ≡ take from (stretch longest j s) ++ take count bytes
+      → partAt longest written j size ≡ take from (stretch longest j s) ++ take count bytes
   written-read size e =
       let h : size ≤ longest = omega (arith, fits) in
       rw (lt-leb _ _ below, le-ltb _ _ h)
@@ -213,12 +214,12 @@ module _ (f : Frame) (r : Receiver) (s : List ℕ) (eight : length (r .places) �
     -- of six bytes or fewer: it finishes at once, in the pair's place or the lowest free one
     module _ (few : size ≤ firstBytes) where
       abbrev told : Told Tells
-      told = gives (OnePair.finished (record { sender = sender; dgn = dgn; bytes = take size six }))
+      told = gives (finished (record { sender = sender; dgn = dgn; bytes = take size six }))
 
       asks-finishes : format .asks f ≡ finishes told
       asks-finishes = asked ∙ rw (le-leb _ _ few)
 
-      whole : (j : ℕ) → j < placeCount → partOf (firstKept j new (f .bytes) s) j size ≡ take size six
+      whole : (j : ℕ) → j < placeCount → partAt longest (firstKept j new (f .bytes) s) j size ≡ take size six
       whole j b =
           let e : neededFirst size ≡ size = omega arith in
           written-read s six j 0 (neededFirst size) enough b room-first six-there size (omega arith)
@@ -260,7 +261,7 @@ module _ (f : Frame) (r : Receiver) (s : List ℕ) (eight : length (r .places) �
       abbrev session : Open
       session = begunBy sender dgn sequence size (take firstBytes six)
 
-      asks-opens : format .asks f ≡ opens session (gives OnePair.opened)
+      asks-opens : format .asks f ≡ opens session (gives opened)
       asks-opens = asked ∙ rw (lt-leb _ _ many)
 
       new-rules : placeKeepsRules names new ≡ true
@@ -301,7 +302,7 @@ module _ (f : Frame) (r : Receiver) (s : List ℕ) (eight : length (r .places) �
           (record {
             same = refl;
             shows =
-                shows-opens-held format layout f ps s session (gives OnePair.opened) j new
+                shows-opens-held format layout f ps s session (gives opened) j new
                 (firstKept j new (f .bytes) s) asks-opens (found (At j) e) new-open (new-session j b)
                 (written-others s six j 0 (neededFirst size) enough b room-first six-there);
             rules = new-set j;
@@ -317,7 +318,7 @@ module _ (f : Frame) (r : Receiver) (s : List ℕ) (eight : length (r .places) �
           (record {
             same = refl;
             shows =
-                shows-opens-free format layout f ps s session (gives OnePair.opened) j new
+                shows-opens-free format layout f ps s session (gives opened) j new
                 (firstKept j new (f .bytes) s) asks-opens (found Nowhere n) e new-open (new-session j b)
                 (written-others s six j 0 (neededFirst size) enough b room-first six-there);
             rules = new-set j;
@@ -410,7 +411,7 @@ module _ (f : Frame) (r : Receiver) (s : List ℕ) (eight : length (r .places) �
           written-long s seven j (offsetOf (p .expected)) (needed (p .length) (p .expected)) enough below fits
           seven-there
 
-      whole-message : p .expected ≡ lastFrame (p .length) → partOf t j (p .length) ≡ joined m seven
+      whole-message : p .expected ≡ lastFrame (p .length) → partAt longest t j (p .length) ≡ joined m seven
       whole-message u =
           let z : p .length ≡ offsetOf (p .expected) + needed (p .length) (p .expected) = omega (arith, here .begun) in
           written-read s seven j (offsetOf (p .expected)) (needed (p .length) (p .expected)) enough below fits
@@ -448,11 +449,11 @@ module _ (f : Frame) (r : Receiver) (s : List ℕ) (eight : length (r .places) �
 
       last : sequence ≡ p .sequence → number ≡ p .expected → p .expected ≡ lastFrame (p .length)
           → fedBy m part
-          ≡ ends (gives (OnePair.finished (record { sender = p .sender; dgn = p .dgn; bytes = joined m seven })))
+          ≡ ends (gives (finished (record { sender = p .sender; dgn = p .dgn; bytes = joined m seven })))
       last q n u = rw (eq-eqb _ _ q, eq-eqb _ _ n, eq-eqb _ _ u)
 
       next : sequence ≡ p .sequence → number ≡ p .expected → p .expected ≢ lastFrame (p .length)
-          → fedBy m part ≡ goes (expectingNext m (joined m seven)) (gives OnePair.stored)
+          → fedBy m part ≡ goes (expectingNext m (joined m seven)) (gives stored)
       next q n u = rw (eq-eqb _ _ q, eq-eqb _ _ n, ne-eqb _ _ u)
 
       expected-last : sequence ≡ p .sequence → number ≡ p .expected → p .expected ≡ lastFrame (p .length)
@@ -465,10 +466,10 @@ module _ (f : Frame) (r : Receiver) (s : List ℕ) (eight : length (r .places) �
                 subst⁻¹
                 (λ (l : List ℕ).
                 Shows format layout f ps s (set ps j freePlace) t
-                (said (gives (OnePair.finished (record { sender = p .sender; dgn = p .dgn; bytes = l })))))
+                (said (gives (finished (record { sender = p .sender; dgn = p .dgn; bytes = l })))))
                 (whole-message u)
                 (shows-feeds-ends format layout f ps s part (refused 9)
-                (gives (OnePair.finished (record { sender = p .sender; dgn = p .dgn; bytes = joined m seven })))
+                (gives (finished (record { sender = p .sender; dgn = p .dgn; bytes = joined m seven })))
                 j freePlace freePlace t asks (sought (At j) e) (last q n u) refl others);
             rules = freed j;
             long = length-kept;
@@ -482,7 +483,7 @@ module _ (f : Frame) (r : Receiver) (s : List ℕ) (eight : length (r .places) �
           (record {
             same = refl;
             shows =
-                shows-feeds-goes format layout f ps s part (refused 9) (gives OnePair.stored)
+                shows-feeds-goes format layout f ps s part (refused 9) (gives stored)
                 (expectingNext m (joined m seven)) j freePlace (expecting (p .expected + 1) p) t asks (sought (At j) e)
                 (next q n u) next-open (next-message u) others;
             rules = every-set (placeKeepsRules names) ps j (expecting (p .expected + 1) p) each-rules (next-rules u);
@@ -566,7 +567,7 @@ module _ (f : Frame) (r : Receiver) (s : List ℕ) (eight : length (r .places) �
           (refusal-named n (h .0) (h .1)))
       go (gives other) e k =
           rw e
-          (kept (gives Eight.nothingToDo) (gives OnePair.nothingToDo) (asked (gives other) e) refl (NothingToDo, refl))
+          (kept (gives nothingToDo) (gives nothingToDo) (asked (gives other) e) refl (NothingToDo, refl))
       go (gives (begins m)) e k =
           let h = rw e at k in
           rw e

@@ -25,6 +25,7 @@ use Rattle.words.proofs.Tests.{tests}
 use Rattle.frame.proofs.Laws.{badBack, bad-back}
 use Rattle.places.specs.Places.{placeCount}
 use Rattle.places.proofs.Stretch.{copy-keeps, copy-writes}
+use Rattle.places.specs.Telling.{Outcome, nothingToDo, opened, stored, finished}
 use Rattle.words.specs.declared.Found.{Found}
 use Rattle.words.specs.declared.Found.the-variants.{At, Nowhere}
 use Rattle.words.proofs.Lists.{every-at, every-replicate, distinct-cons, distinct-head, distinct-tail}
@@ -33,8 +34,8 @@ use Rattle.fast.specs.FastPacket.{greatestSequence, firstBytes, longest,
 use Rattle.fast.specs.FastPacket.{pairOf, frameNumberOf, Meaning, other, NewMessage, LaterFrame, begins}
 use Rattle.fast.specs.FastPacket.{continues, begun, carried, meaningOf}
 use Rattle.fast.specs.Names.{mostNamed, mayBeNamed, isNamed, isWellFormed}
-use Rattle.fast.specs.Receiver.{room, freePlace, isOpenBy, namesOf, isZero, placeKeepsRules, keepsRules, Outcome}
-use Rattle.fast.specs.Receiver.{nothingToDo, opened, stored, finished, After, leaves, placing, placeFor, newPlace}
+use Rattle.fast.specs.Receiver.{room, freePlace, isOpenBy, namesOf, isZero, placeKeepsRules, keepsRules}
+use Rattle.fast.specs.Receiver.{After, leaves, placing, placeFor, newPlace}
 use Rattle.fast.specs.Receiver.{firstKept, keptAt, frameAt, byMeaning, heard, pausedState, pausedAnswer}
 use Rattle.fast.specs.Receiver as Receiver
 use Rattle.fast.specs.Splitter.{refusalIn, frameBytesOf, frameOf}

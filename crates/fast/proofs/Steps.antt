@@ -16,6 +16,7 @@ use Rattle.frame.specs.Standard.{greatestAddress}
 use Rattle.frame.specs.declared.Parts.{Parts}
 use Rattle.words.proofs.Words.{both-true, by-test}
 use Rattle.places.specs.Layout.{oneEach}
+use Rattle.places.specs.Telling.{Outcome, opened, stored, finished}
 use Rattle.words.proofs.Lists.{found-at, every-at}
 use Rattle.words.specs.declared.Found.{Found}
 use Rattle.words.specs.declared.Found.the-variants.{At, Nowhere}
@@ -23,7 +24,7 @@ use Rattle.fast.specs.FastPacket.{greatestSequence, firstBytes, longest,
 use Rattle.fast.specs.FastPacket.{carried, meant, meaningOf}
 use Rattle.fast.specs.Names.{mostNamed, mayBeNamed, isNamed, isWellFormed}
 use Rattle.fast.specs.Receiver.{room, freePlace, isFree, isOpenBy, layout, namesOf, holdsNames, keepsLimits}
-use Rattle.fast.specs.Receiver.{placeKeepsRules, keepsRules, Outcome, opened, stored, finished, wholeAt, After}
+use Rattle.fast.specs.Receiver.{placeKeepsRules, keepsRules, wholeAt, After}
 use Rattle.fast.specs.Receiver.{leaves, placing, placeFor, entered, entersAt, hearsFirst, keptAt, expecting}
 use Rattle.fast.specs.Receiver.{advanced, frameAt, hearsLater, byMeaning, heard}
 use Rattle.fast.specs.Promises.{toldAnswer, LeftBy}

@@ -6,16 +6,16 @@ use mathlib.Core.Bool.{true}
 use mathlib.Core.List.{List}
 use Prim.Native.Nat.{ℕ, _≤_}
 use lib.ListN.{length}
-use Rattle.words.specs.Words.{if_then_else_, _=?_, Told, refused, gives}
+use Rattle.words.specs.Words.{Told}
 use Rattle.frame.specs.Standard.{Frame}
-use Rattle.places.specs.Places.{Place as Seat, Out, full, said, placeCount}
+use Rattle.places.specs.Places.{Place as Seat, Out, placeCount}
 use Rattle.places.specs.Layout.{view}
 use Rattle.places.specs.Calls.{Calls, KeepsPlaces}
 use Rattle.places.specs.Statements.{Pausing as Adding}
+use Rattle.places.specs.Telling.{Tells, tells}
 use Rattle.fast.specs.Names.{isWellFormed}
-use Rattle.fast.specs.OnePair.{Open, Tells, nothingToDo, opened, stored, finished, fastPackets}
-use Rattle.fast.specs.Receiver as Receiver
-use Rattle.fast.specs.Receiver.{Outcome, room, layout, namesOf, keepsRules}
+use Rattle.fast.specs.OnePair.{Open, fastPackets}
+use Rattle.fast.specs.Receiver.{room, layout, namesOf, keepsRules}
 use Rattle.fast.specs.Promises.{toldAnswer, toldPausing, Start, Hear, Message, Pause}
 use Rattle.fast.specs.declared.Receiver as Receivers
 use Rattle.fast.specs.declared.Starting.the-variants as Starting
@@ -38,16 +38,6 @@ pub record Keeps (names : List ℕ) (s : Held) : Type 0 where
   pub eight : length (s .receiver .places) ≡ placeCount
   pub rules : keepsRules (s .receiver) ≡ true
   pub enough : room ≤ length (s .storage)
-
--- What is told of a frame: refusal 8 is `full`, any other refusal its number; of a finished message the sender, the
--- DGN, and the message that is read then.
-abbrev pub tells : List ℕ → Told Outcome → Out (Told Tells)
-tells message (refused n) = if n =? 8 then full else said (refused n)
-tells message (gives Receiver.nothingToDo) = said (gives nothingToDo)
-tells message (gives Receiver.opened) = said (gives opened)
-tells message (gives Receiver.stored) = said (gives stored)
-tells message (gives (Receiver.finished m)) =
-    said (gives (finished (record { sender = m .sender; dgn = m .dgn; bytes = message })))
 
 -- `hear`, and `message` directly after it
 pub record Hears (s : Held) (f : Frame) (told : Out (Told Tells)) (t : Held) : Type 0 where

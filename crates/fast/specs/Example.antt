@@ -8,7 +8,8 @@ use Rattle.words.specs.Words.{refused, gives}
 use Rattle.frame.specs.Standard.{Frame}
 use Rattle.places.specs.Format.{Event, frame}
 use Rattle.places.specs.OneKey.{solo}
-use Rattle.fast.specs.OnePair.{opened, stored, finished, fastPackets}
+use Rattle.places.specs.Telling.{opened, stored, finished}
+use Rattle.fast.specs.OnePair.{fastPackets}
 use Rattle.fast.specs.Splitter.{frameOf}
 
 abbrev pub statisticsFrames : List (List ℕ)

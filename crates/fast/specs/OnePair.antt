@@ -8,6 +8,7 @@ use Rattle.words.specs.Words.{if_then_else_, _<?_, _≤?_, _=?_, _and_, Told, r
 use Rattle.frame.specs.Identifier.{sourceOf, dgnOf}
 use Rattle.frame.specs.Standard.{Frame}
 use Rattle.places.specs.Format.{Asks, fixed, opens, finishes, feeds, Fed, goes, ends, Format}
+use Rattle.places.specs.Telling.{Whole, Tells, nothingToDo, opened, stored, finished}
 use Rattle.fast.specs.FastPacket.{firstBytes, lastFrame, needed, idleLimit, pairOf, Meaning, other, begins}
 use Rattle.fast.specs.FastPacket.{continues, meaningOf}
 
@@ -25,19 +26,6 @@ pub record Part : Type 0 where
   pub sequence : ℕ
   pub number : ℕ
   pub seven : List ℕ
-
--- A whole message.
-pub record Whole : Type 0 where
-  pub sender : ℕ
-  pub dgn : ℕ
-  pub bytes : List ℕ
-
--- What the caller is told of a frame that is not refused.
-pub data Tells : Type 0 where
-  nothingToDo : Tells
-  opened : Tells
-  stored : Tells
-  finished : Whole → Tells
 
 -- Frame 0 opens the message with its six bytes: frame 1 is expected.
 abbrev pub begunBy : ℕ → ℕ → ℕ → ℕ → List ℕ → Open

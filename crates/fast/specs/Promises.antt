@@ -2,16 +2,17 @@
 -- byte. The answers are read as numbers and values (RULES 2.10).
 use mathlib.Core.Path.{_≡_}
 use mathlib.Core.List.{List, []}
-use Prim.Native.Nat.{ℕ, _*_}
-use lib.ListN.{length, take, drop, replicate}
-use Rattle.words.specs.Words.{if_then_else_, _<?_, _≤?_, _or_, Told, refused, gives, numberIn}
+use Prim.Native.Nat.{ℕ}
+use lib.ListN.{length, replicate}
+use Rattle.words.specs.Words.{if_then_else_, _<?_, Told, refused, gives, numberIn}
 use Rattle.words.specs.Lists.{filledTo}
 use Rattle.frame.specs.Promises.{refusalOf}
 use Rattle.frame.specs.Standard.{bytesIn}
 use Rattle.places.specs.Places.{placeCount}
+use Rattle.places.specs.Telling.{messageAt, Outcome, nothingToDo, opened, stored, finished}
 use Rattle.fast.specs.FastPacket.{longest}
 use Rattle.fast.specs.Names.{mostNamed, isWellFormed}
-use Rattle.fast.specs.Receiver.{room, freePlace, Outcome, nothingToDo, opened, stored, finished, After, heard}
+use Rattle.fast.specs.Receiver.{room, freePlace, After, heard}
 use Rattle.fast.specs.Receiver.{pausedState, pausedAnswer}
 use Rattle.fast.specs.Splitter.{frameOf}
 use Rattle.fast.specs.declared.Receiver.{Receiver}
@@ -97,16 +98,8 @@ pub record PausingRefusal (answer : Pausing) (r : ℕ) : Type 0 where
 -- message: the finished message is that part of the storage, and empty where no message was finished, or no such answer
 -- is ever given
 
-abbrev pub partOf : List ℕ → ℕ → ℕ → List ℕ
-partOf storage place size =
-    if (placeCount ≤? place) or (longest <? size) then [] else take size (drop (longest * place) storage)
-
 abbrev pub messageIn : List ℕ → Told Outcome → List ℕ
-messageIn storage (refused n) = []
-messageIn storage (gives nothingToDo) = []
-messageIn storage (gives opened) = []
-messageIn storage (gives stored) = []
-messageIn storage (gives (finished m)) = partOf storage (m .place) (m .size)
+messageIn storage told = messageAt longest storage told
 
 pub record Message (storage : List ℕ) (answer : Answer) (r : List ℕ) : Type 0 where
   pub bytes : r ≡ (if length storage <? room then [] else messageIn storage (toldAnswer answer))

@@ -12,6 +12,7 @@ use Rattle.words.specs.declared.Found.{Found}
 use Rattle.words.specs.declared.Found.the-variants.{At, Nowhere}
 use Rattle.places.specs.Places.{placeCount}
 use Rattle.places.specs.Layout.{Layout, openBy, oneEach}
+use Rattle.places.specs.Telling.{WholeAt, Outcome, nothingToDo, opened, stored, finished}
 use Rattle.fast.specs.FastPacket.{greatestSequence, firstBytes, longest, offsetOf, lastFrame, neededFirst, needed}
 use Rattle.fast.specs.FastPacket.{idleLimit, pairOf, Meaning, other, begins, continues, meaningOf}
 use Rattle.fast.specs.Names.{mostNamed, isNamed, isWellFormed}
@@ -87,19 +88,7 @@ keepsRules r = holdsNames r and every (placeKeepsRules (namesOf r)) (r .places) 
 
 -- What a frame leaves: the state, the storage, and the answer.
 
--- a finished message: the place in whose stretch it stands, and what it is
-pub record WholeAt : Type 0 where
-  pub place : ℕ
-  pub sender : ℕ
-  pub dgn : ℕ
-  pub size : ℕ
-
-pub data Outcome : Type 0 where
-  nothingToDo : Outcome
-  opened : Outcome
-  stored : Outcome
-  finished : WholeAt → Outcome
-
+-- a finished message in its place
 abbrev pub wholeAt : ℕ → Place → WholeAt
 wholeAt i p = record { place = i; sender = p .sender; dgn = p .dgn; size = p .length }
 

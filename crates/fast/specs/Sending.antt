@@ -12,10 +12,11 @@ use Rattle.frame.specs.Identifier.{identifierOf, lowestPriority}
 use Rattle.frame.specs.Standard.{Frame, greatestAddress}
 use Rattle.places.specs.Format.{Event, frame, pause}
 use Rattle.places.specs.OneKey.{solo}
+use Rattle.places.specs.Telling.{Tells, finished}
 use Rattle.fast.specs.FastPacket.{greatestSequence, firstBytes, longest, lastFrame, idleLimit, Meaning, other}
 use Rattle.fast.specs.FastPacket.{begins, continues, meaningOf}
 use Rattle.fast.specs.Names.{isNamed, isWellFormed}
-use Rattle.fast.specs.OnePair.{Open, Tells, finished, fastPackets}
+use Rattle.fast.specs.OnePair.{Open, fastPackets}
 use Rattle.fast.specs.Promises.{FrameOf}
 use Rattle.fast.specs.declared.Split.{Split}
 

@@ -5,7 +5,7 @@ ghost use lib.ListN.{length, drop};
 ghost use lib.Seq.{paste};
 ghost use Rattle.fast.specs.FastPacket.{longest};
 ghost use Rattle.fast.specs.Receiver.{room};
-ghost use Rattle.fast.specs.Promises.{partOf};
+ghost use Rattle.places.specs.Telling.{partAt};
 use crate::limits::LONGEST;
 use crate::limits::PLACES;
 use crate::limits::STRETCH;
@@ -43,7 +43,7 @@ pub fn keep(storage: &mut [u8], at: usize, offset: usize, bytes: [u8; 8], from: 
 // The first `size` bytes of the stretch of place `at`.
 pub fn part(storage: &[u8], at: usize, size: u8) -> &[u8]
     requires { ⌜ room ≤ length (now storage) ⌝ }
-    ensures { λ r. ⌜ now r ≡ partOf (now (storage .entry)) at size ⌝ }
+    ensures { λ r. ⌜ now r ≡ partAt longest (now (storage .entry)) at size ⌝ }
 {
     if PLACES <= at {
         return &storage[0..0];

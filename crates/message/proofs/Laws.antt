@@ -25,10 +25,11 @@ use Rattle.words.specs.declared.Found.the-variants.{At, Nowhere}
 use Rattle.frame.specs.Standard.{bytesIn}
 use Rattle.places.specs.Places.{placeCount}
 use Rattle.places.proofs.Stretch.{copy-keeps, copy-writes}
+use Rattle.places.specs.Telling.{Outcome, nothingToDo, opened, stored, finished}
 use Rattle.message.specs.LongMessage.{shortest, longest, packetBytes, packetsOf, needed, Meaning, other}
 use Rattle.message.specs.LongMessage.{announcement, PacketFrom, packet, meaningOf}
-use Rattle.message.specs.Receiver.{room, freePlace, isOpenBy, keepsRules, Outcome, nothingToDo}
-use Rattle.message.specs.Receiver.{opened, stored, finished, After, leaves, placeFor, openedAt, hearsAnnouncement}
+use Rattle.message.specs.Receiver.{room, freePlace, isOpenBy, keepsRules}
+use Rattle.message.specs.Receiver.{After, leaves, placeFor, openedAt, hearsAnnouncement}
 use Rattle.message.specs.Receiver.{keptAt, packetAt, carries, byMeaning, heard, pausedPlaces, pausedAnswer}
 use Rattle.message.specs.Receiver as Receiver
 use Rattle.message.specs.Splitter.{mostPackets, splits, numbered}

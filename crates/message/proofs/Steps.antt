@@ -18,9 +18,10 @@ use Rattle.words.proofs.Lists.{found-at, every-at}
 use Rattle.words.specs.declared.Found.{Found}
 use Rattle.words.specs.declared.Found.the-variants.{At, Nowhere}
 use Rattle.frame.specs.Standard.{greatestAddress}
+use Rattle.places.specs.Telling.{Outcome, stored, finished}
 use Rattle.message.specs.LongMessage.{shortest, longest, packetsOf, idleLimit, meant, meaningOf}
 use Rattle.message.specs.Receiver.{room, freePlace, isFree, isOpenBy, placeKeepsRules}
-use Rattle.message.specs.Receiver.{keepsRules, Outcome, stored, finished, wholeAt, After, leaves}
+use Rattle.message.specs.Receiver.{keepsRules, wholeAt, After, leaves}
 use Rattle.message.specs.Receiver.{placeFor, openedAt, hearsAnnouncement, keptAt, expecting, advanced, packetAt}
 use Rattle.message.specs.Receiver.{carries, byMeaning, heard}
 use Rattle.message.specs.Promises.{toldAnswer, LeftBy}

@@ -6,14 +6,14 @@ use mathlib.Core.Bool.{true}
 use mathlib.Core.List.{List}
 use Prim.Native.Nat.{ℕ, _≤_}
 use lib.ListN.{length}
-use Rattle.words.specs.Words.{if_then_else_, _=?_, Told, refused, gives}
+use Rattle.words.specs.Words.{Told}
 use Rattle.frame.specs.Standard.{Frame}
-use Rattle.places.specs.Places.{Place as Seat, Out, full, said, placeCount}
+use Rattle.places.specs.Places.{Place as Seat, Out, placeCount}
 use Rattle.places.specs.Layout.{view}
 use Rattle.places.specs.Calls.{Calls}
-use Rattle.message.specs.OneSender.{Open, Tells, nothingToDo, opened, stored, finished, longMessages}
-use Rattle.message.specs.Receiver as Receiver
-use Rattle.message.specs.Receiver.{Outcome, room, layout, keepsRules}
+use Rattle.places.specs.Telling.{Tells, tells}
+use Rattle.message.specs.OneSender.{Open, longMessages}
+use Rattle.message.specs.Receiver.{room, layout, keepsRules}
 use Rattle.message.specs.Promises.{toldAnswer, toldPausing, New, Hear, Message, Pause}
 use Rattle.message.specs.declared.Receiver as Receivers
 use Rattle.message.specs.declared.Answer.{Answer}
@@ -34,16 +34,6 @@ pub record Keeps (s : Held) : Type 0 where
   pub eight : length (s .receiver .places) ≡ placeCount
   pub rules : keepsRules (s .receiver .places) ≡ true
   pub enough : room ≤ length (s .storage)
-
--- What is told of a frame: refusal 8 is `full`, any other refusal its number; of a finished message the sender, the
--- DGN, and the message that is read then.
-abbrev pub tells : List ℕ → Told Outcome → Out (Told Tells)
-tells message (refused n) = if n =? 8 then full else said (refused n)
-tells message (gives Receiver.nothingToDo) = said (gives nothingToDo)
-tells message (gives Receiver.opened) = said (gives opened)
-tells message (gives Receiver.stored) = said (gives stored)
-tells message (gives (Receiver.finished m)) =
-    said (gives (finished (record { sender = m .sender; dgn = m .dgn; bytes = message })))
 
 -- `hear`, and `message` directly after it
 pub record Hears (s : Held) (f : Frame) (told : Out (Told Tells)) (t : Held) : Type 0 where

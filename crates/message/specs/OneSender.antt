@@ -8,6 +8,7 @@ use Rattle.words.specs.Words.{if_then_else_, _<?_, _=?_, Told, refused, gives}
 use Rattle.frame.specs.Identifier.{sourceOf}
 use Rattle.frame.specs.Standard.{Frame}
 use Rattle.places.specs.Format.{Asks, fixed, opens, feeds, Fed, goes, ends, Format}
+use Rattle.places.specs.Telling.{Whole, Tells, nothingToDo, opened, stored, finished}
 use Rattle.message.specs.LongMessage.{packetsOf, idleLimit, needed, Meaning, other, announcement, packet}
 use Rattle.message.specs.LongMessage.{meaningOf}
 
@@ -23,19 +24,6 @@ pub record Open : Type 0 where
 pub record Part : Type 0 where
   pub number : ℕ
   pub seven : List ℕ
-
--- A whole message.
-pub record Whole : Type 0 where
-  pub sender : ℕ
-  pub dgn : ℕ
-  pub bytes : List ℕ
-
--- What the caller is told of a frame that is not refused.
-pub data Tells : Type 0 where
-  nothingToDo : Tells
-  opened : Tells
-  stored : Tells
-  finished : Whole → Tells
 
 -- A valid announcement opens the message: packet 1 is expected, nothing is collected.
 abbrev pub announcedBy : ℕ → ℕ → ℕ → Open

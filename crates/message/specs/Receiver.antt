@@ -13,6 +13,7 @@ use Rattle.words.specs.declared.Found.the-variants.{At, Nowhere}
 use Rattle.frame.specs.Standard.{greatestAddress}
 use Rattle.places.specs.Layout.{Layout, openBy, oneEach}
 use Rattle.places.specs.Places.{placeCount}
+use Rattle.places.specs.Telling.{WholeAt, Outcome, nothingToDo, opened, stored, finished}
 use Rattle.message.specs.OneSender.{Open}
 use Rattle.message.specs.LongMessage.{shortest, longest, packetBytes, packetsOf, idleLimit, needed, Meaning}
 use Rattle.message.specs.LongMessage.{other, announcement, packet, meaningOf}
@@ -75,19 +76,7 @@ keepsRules places = every placeKeepsRules places and oneEach layout places
 
 -- What a frame leaves: the places, the storage, and the answer.
 
--- a finished message: the place in whose stretch it stands, and what it is
-pub record WholeAt : Type 0 where
-  pub place : ℕ
-  pub sender : ℕ
-  pub dgn : ℕ
-  pub size : ℕ
-
-pub data Outcome : Type 0 where
-  nothingToDo : Outcome
-  opened : Outcome
-  stored : Outcome
-  finished : WholeAt → Outcome
-
+-- a finished message in its place
 abbrev pub wholeAt : ℕ → Place → WholeAt
 wholeAt i p = record { place = i; sender = p .sender; dgn = p .dgn; size = p .length }
 

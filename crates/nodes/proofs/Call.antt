@@ -3,7 +3,7 @@
 -- Assumes nothing.
 use mathlib.Core.Path.{_≡_, refl, sym, ap, _∙_}
 use mathlib.Core.List.{List}
-use mathlib.Core.Bool.{true, false, not}
+use mathlib.Core.Bool.{Bool, true, false, not}
 use Prim.Native.Nat.{ℕ, _≤_, _<_}
 use borrow.Author.Tests.{lt-ltb, le-ltb, ltb-false}
 use lib.ListN.{length, getD, take}
@@ -73,6 +73,10 @@ module _ {A : Type 0} (size : ℕ) (records : List Node) (told : Told A) where
 
   pub sized-broken : addresses ≤ size → keepsRules records ≡ false → sizedOr size records told ≡ refused 2
   sized-broken h k = rw (le-ltb _ _ h, k)
+
+  -- as the code finds it
+  pub told-broken : (b : Bool) → addresses ≤ size → b ≡ keepsRules records → b ≡ false → refused 2 ≡ sizedOr size records told
+  told-broken b h e f = sym (sized-broken h (sym e ∙ f))
 
   pub sized-sound : addresses ≤ size → keepsRules records ≡ true → sizedOr size records told ≡ told
   sized-sound h k = rw (le-ltb _ _ h, k)

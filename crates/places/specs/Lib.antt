@@ -3,6 +3,7 @@ pub mod Format
 pub mod OneKey
 pub mod Places
 pub mod Statements
+pub mod Telling
 pub mod Layout
 pub mod Calls
 pub mod Tiny

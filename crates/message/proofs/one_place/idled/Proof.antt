@@ -4,7 +4,6 @@ use Rattle.message.specs.Receiver.{idled}
 use Rattle.words.proofs.Tests.{tests}
 use Rattle.message.proofs.one_place.idled.Statement.{statement}
 use Rattle.message.proofs.one_place.idled.Tie as tie
-use Rattle.message.proofs.one_place.free.Reads as free-reads
 
 returns : tie.Need-returns
 unfolding idled

@@ -2,7 +2,7 @@
 use mathlib.Core.Path.{sym, _∙_}
 use borrow.Author.Tests.{not-true, not-false}
 use borrow.Author.Needs.{needs}
-use Rattle.nodes.proofs.Call.{sized-short, sized-broken, sized-sound}
+use Rattle.nodes.proofs.Call.{sized-short, told-broken, sized-sound}
 use Rattle.nodes.proofs.flat.found_address.Statement.{statement}
 use Rattle.nodes.proofs.flat.found_address.Tie as tie
 
@@ -14,9 +14,7 @@ keeps-rules-requires c κs = search needs
 
 returns-2 : tie.Need-returns-2
 returns-2 c =
-    let k = c .before in
-    let e = sym (k .keeps-rules .ensures) ∙ not-true (k .keeps-rules .result) (c .if2 .taken) in
-    sym (sized-broken _ _ _ (k .before .if1 .left) e)
+    told-broken _ _ _ _ (c .before .before .if1 .left) (c .before .keeps-rules .ensures) (not-true _ (c .if2 .taken))
 
 address-in-requires : tie.Need-address-in-requires
 address-in-requires c κs = search needs

@@ -4,7 +4,7 @@ use borrow.Author.Tests.{not-true, not-false}
 use borrow.Author.Needs.{needs}
 use Rattle.words.specs.Words.{gives}
 use Rattle.nodes.specs.Call.{rivalOf}
-use Rattle.nodes.proofs.Call.{sized-short, sized-broken, sized-sound, rival-past, rival-at}
+use Rattle.nodes.proofs.Call.{sized-short, told-broken, sized-sound, rival-past, rival-at}
 use Rattle.nodes.proofs.flat.found_challenger.Statement.{statement}
 use Rattle.nodes.proofs.flat.found_challenger.Tie as tie
 
@@ -16,9 +16,7 @@ keeps-rules-requires c κs = search needs
 
 returns-2 : tie.Need-returns-2
 returns-2 c =
-    let k = c .before in
-    let e = sym (k .keeps-rules .ensures) ∙ not-true (k .keeps-rules .result) (c .if2 .taken) in
-    sym (sized-broken _ _ _ (k .before .if1 .left) e)
+    told-broken _ _ _ _ (c .before .before .if1 .left) (c .before .keeps-rules .ensures) (not-true _ (c .if2 .taken))
 
 returns-3 : tie.Need-returns-3
 returns-3 c =
