@@ -38,4 +38,6 @@ pub data Prints : Cutter → Kept → Place → List (List ℕ) → List ℕ →
 
 -- However a capture came in blocks, and wherever the output was full, what is printed is the report of the capture.
 abbrev pub ReportPrinted : Type 0
-ReportPrinted = (blocks : List (List ℕ)) (words : List ℕ) → Prints fresh atStart between blocks words → text "format=1\n" ++ words ≡ report (joined blocks)
+ReportPrinted =
+    (blocks : List (List ℕ)) (words : List ℕ) → Prints fresh atStart between blocks words
+    → text "format=1\n" ++ words ≡ report (joined blocks)

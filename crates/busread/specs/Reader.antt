@@ -79,8 +79,8 @@ pub record OneMore (c : Counts) : Type 0 where
   pub counting : Counting c
 
 -- a line taken, and the run that it leaves
-pub record Went (reader : Reader) (cutter : Cutter) (readTo : ℕ) (line : Told Frame) (storage out : List ℕ) (writtenTo : ℕ)
-    (r : Run) (storage′ out′ : List ℕ) : Type 0 where
+pub record Went (reader : Reader) (cutter : Cutter) (readTo : ℕ) (line : Told Frame) (storage out : List ℕ)
+    (writtenTo : ℕ) (r : Run) (storage′ out′ : List ℕ) : Type 0 where
   pub step : Step
   pub took : Took (keptBy reader storage) line out writtenTo step storage′ out′
   pub left : r ≡ after cutter readTo step

@@ -44,7 +44,9 @@ abbrev pub keyed : String → List ℕ → List ℕ
 keyed key value = text key ++ value
 
 unfoldable pub headText : ℕ → ℕ → ℕ → List ℕ
-headText n source dgn = keyed "frame=" (decimal n) ++ keyed " sa=" (digits 16 sourceDigits source) ++ keyed " dgn=" (digits 16 dgnDigits dgn)
+headText n source dgn =
+    keyed "frame=" (decimal n) ++ keyed " sa=" (digits 16 sourceDigits source)
+    ++ keyed " dgn=" (digits 16 dgnDigits dgn)
 
 unfoldable pub refusalText : ℕ → ℕ → List ℕ
 refusalText n refusal = keyed "frame=" (decimal n) ++ keyed " refusal=" (decimal refusal) ++ newline
@@ -95,7 +97,8 @@ rowsOf dgn = take (spanOf (catalogueForm dgn) .count) (drop (spanOf (catalogueFo
 abbrev pub printed : ℕ → Frame → List ℕ → Print → List ℕ
 printed n f message (Refused refusal) = refusalText n refusal
 printed n f message (Message sender dgn) = messageText n sender dgn message
-printed n f message Fields = fieldsText (headText n (sourceOf (f .id)) (dgnOf (f .id))) (numberOf (f .bytes)) (rowsOf (dgnOf (f .id)))
+printed n f message Fields =
+    fieldsText (headText n (sourceOf (f .id)) (dgnOf (f .id))) (numberOf (f .bytes)) (rowsOf (dgnOf (f .id)))
 printed n f message Nothing = []
 
 -- a finished message is that part of the storage
@@ -140,7 +143,11 @@ linesText k (piece ∷ pieces) = lineText k (pieceRead piece) ++ linesText (kept
 
 abbrev pub atStart : Kept
 atStart =
-    record { places = replicate placeCount freePlace; storage = replicate room 0; counts = record { frames = 0; refused = 0; messages = 0 } }
+    record {
+      places = replicate placeCount freePlace;
+      storage = replicate room 0;
+      counts = record { frames = 0; refused = 0; messages = 0 };
+    }
 
 -- the report of a capture
 unfoldable pub report : List ℕ → List ℕ

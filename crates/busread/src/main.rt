@@ -56,7 +56,8 @@ fn read_all(
     out: &mut [u8],
     table: &[u64],
 ) -> Reader
-    requires { ⌜ (outRoom ≤ length (now out)) × (room ≤ length (now storage)) × Ready reader × (now table ≡ packedRows) ⌝ }
+    requires { ⌜
+        (outRoom ≤ length (now out)) × (room ≤ length (now storage)) × Ready reader × (now table ≡ packedRows) ⌝ }
     ensures { λ r. ⌜ Ready r ⌝ }
 {
     let mut reader = reader;
@@ -80,7 +81,8 @@ fn read_block(
     out: &mut [u8],
     table: &[u64],
 ) -> Fed
-    requires { ⌜ (outRoom ≤ length (now out)) × (room ≤ length (now storage)) × Ready reader × (now table ≡ packedRows) ⌝ }
+    requires { ⌜
+        (outRoom ≤ length (now out)) × (room ≤ length (now storage)) × Ready reader × (now table ≡ packedRows) ⌝ }
     ensures { λ r. ⌜ Ready (r .reader) ⌝ }
 {
     let got = libc::read(STDIN_FILENO, block);
@@ -96,7 +98,8 @@ fn read_block(
 
 // Takes the lines of a block, and writes what they print.
 fn feed(reader: Reader, block: &[u8], storage: &mut [u8], out: &mut [u8], table: &[u64]) -> Fed
-    requires { ⌜ (outRoom ≤ length (now out)) × (room ≤ length (now storage)) × Ready reader × (now table ≡ packedRows) ⌝ }
+    requires { ⌜
+        (outRoom ≤ length (now out)) × (room ≤ length (now storage)) × Ready reader × (now table ≡ packedRows) ⌝ }
     ensures { λ r. ⌜ Ready (r .reader) ⌝ }
 {
     let mut reader = reader;

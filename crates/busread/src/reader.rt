@@ -64,8 +64,10 @@ pub fn lines(
     out: &mut [u8],
     table: &[u64],
 ) -> Run
-    requires { ⌜ (outRoom ≤ length (now out)) × (room ≤ length (now storage)) × Ready reader × (now table ≡ packedRows) ⌝ }
-    ensures { λ r. ⌜ Runs (now (block .entry)) from reader (now (storage .entry)) r (now (storage .exit)) (now (out .exit)) ⌝ }
+    requires { ⌜
+        (outRoom ≤ length (now out)) × (room ≤ length (now storage)) × Ready reader × (now table ≡ packedRows) ⌝ }
+    ensures { λ r. ⌜
+        Runs (now (block .entry)) from reader (now (storage .entry)) r (now (storage .exit)) (now (out .exit)) ⌝ }
 {
     let mut reader = reader;
     let mut read_to = from;
@@ -101,8 +103,12 @@ fn turn(
     written_to: usize,
     table: &[u64],
 ) -> Run
-    requires { ⌜ (outRoom ≤ length (now out)) × («written_to» ≤ half) × (room ≤ length (now storage)) × Ready reader × (now table ≡ packedRows) ⌝ }
-    ensures { λ r. ⌜ Turned (now (block .entry)) «read_to» reader (now (storage .entry)) (now (out .entry)) «written_to» r (now (storage .exit)) (now (out .exit)) ⌝ }
+    requires { ⌜
+        (outRoom ≤ length (now out)) × («written_to» ≤ half) × (room ≤ length (now storage)) × Ready reader
+        × (now table ≡ packedRows) ⌝ }
+    ensures { λ r. ⌜
+        Turned (now (block .entry)) «read_to» reader (now (storage .entry)) (now (out .entry)) «written_to» r
+        (now (storage .exit)) (now (out .exit)) ⌝ }
 {
     let old = reader.cutter;
     let cut = old.next(block, read_to);
@@ -149,8 +155,12 @@ fn line(
     written_to: usize,
     table: &[u64],
 ) -> Run
-    requires { ⌜ (outRoom ≤ length (now out)) × («written_to» ≤ half) × (room ≤ length (now storage)) × OneMore (reader .counts) × (now table ≡ packedRows) ⌝ }
-    ensures { λ r. ⌜ Went reader cutter «read_to» (lineRead (now (text .entry))) (now (storage .entry)) (now (out .entry)) «written_to» r (now (storage .exit)) (now (out .exit)) ⌝ }
+    requires { ⌜
+        (outRoom ≤ length (now out)) × («written_to» ≤ half) × (room ≤ length (now storage)) × OneMore (reader .counts)
+        × (now table ≡ packedRows) ⌝ }
+    ensures { λ r. ⌜
+        Went reader cutter «read_to» (lineRead (now (text .entry))) (now (storage .entry)) (now (out .entry))
+        «written_to» r (now (storage .exit)) (now (out .exit)) ⌝ }
 {
     let receiver = reader.receiver;
     let counts = reader.counts;
@@ -213,8 +223,11 @@ fn stays(reader: Reader, cutter: Cutter, read_to: usize, written_to: usize, goin
 
 // The end of the capture: a line that has no newline, then the closing line.
 pub fn finish(reader: Reader, storage: &mut [u8], out: &mut [u8], table: &[u64]) -> usize
-    requires { ⌜ (outRoom ≤ length (now out)) × (room ≤ length (now storage)) × Ready reader × (now table ≡ packedRows) ⌝ }
-    ensures { λ r. ⌜ Wrote (now (out .entry)) 0 (endText (reader .cutter) (keptBy reader (now (storage .entry)))) (now (out .exit)) r ⌝ }
+    requires { ⌜
+        (outRoom ≤ length (now out)) × (room ≤ length (now storage)) × Ready reader × (now table ≡ packedRows) ⌝ }
+    ensures { λ r. ⌜
+        Wrote (now (out .entry)) 0 (endText (reader .cutter) (keptBy reader (now (storage .entry)))) (now (out .exit)) r
+        ⌝ }
 {
     let cutter = reader.cutter;
     let receiver = reader.receiver;

@@ -45,7 +45,9 @@ pub fn put_message(
     bytes: &[u8],
 ) -> usize
     requires { ⌜ (at + 4096 ≤ length (now out)) × (length (now bytes) ≤ 1785) ⌝ }
-    ensures { λ r. ⌜ Wrote (now (out .entry)) at (messageText number source dgn (now (bytes .entry))) (now (out .exit)) r × (r ≤ at + 4096) ⌝ }
+    ensures { λ r. ⌜
+        Wrote (now (out .entry)) at (messageText number source dgn (now (bytes .entry))) (now (out .exit)) r
+        × (r ≤ at + 4096) ⌝ }
 {
     let head_end = put_head(out, at, number, source, dgn);
     let length_end = text::put_decimal(out, head_end, b" length=", bytes.len() as u64);
@@ -69,7 +71,8 @@ fn put_value(out: &mut [u8], at: usize, class: Class, code: u64) -> usize
 // A field of a catalogued frame, behind the head of its frame.
 pub fn put_field(out: &mut [u8], at: usize, head: &[u8], row: Row, field: Field) -> usize
     requires { ⌜ (at + 160 ≤ length (now out)) × (length (now head) ≤ 48) ⌝ }
-    ensures { λ r. ⌜ Wrote (now (out .entry)) at (fieldText (now (head .entry)) row field) (now (out .exit)) r × (r ≤ at + 160) ⌝ }
+    ensures { λ r. ⌜
+        Wrote (now (out .entry)) at (fieldText (now (head .entry)) row field) (now (out .exit)) r × (r ≤ at + 160) ⌝ }
 {
     let head_end = text::put(out, at, head);
     let place_end = put_place(out, head_end, row);

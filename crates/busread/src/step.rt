@@ -106,7 +106,10 @@ fn put_fields(
     table: &[u64],
 ) -> usize
     requires { ⌜ (at + lineRoom ≤ length (now out)) × (now table ≡ packedRows) ⌝ }
-    ensures { λ r. ⌜ Wrote (now (out .entry)) at (fieldsText (headText number (sourceOf id) (dgnOf id)) (numberOf bytes) (rowsOf (dgnOf id))) (now (out .exit)) r × (r ≤ at + lineRoom) ⌝ }
+    ensures { λ r. ⌜
+        Wrote (now (out .entry)) at
+        (fieldsText (headText number (sourceOf id) (dgnOf id)) (numberOf bytes) (rowsOf (dgnOf id))) (now (out .exit)) r
+        × (r ≤ at + lineRoom) ⌝ }
 {
     let source = (id % 256) as u8;
     let dgn = id / 256 % 131072;
@@ -139,7 +142,9 @@ fn put_answer(
     table: &[u64],
 ) -> usize
     requires { ⌜ (at + lineRoom ≤ length (now out)) × (room ≤ length (now storage)) × (now table ≡ packedRows) ⌝ }
-    ensures { λ r. ⌜ Wrote (now (out .entry)) at (answerText number (frameIn line) (now (storage .entry)) (toldAnswer answer)) (now (out .exit)) r × (r ≤ at + lineRoom) ⌝ }
+    ensures { λ r. ⌜
+        Wrote (now (out .entry)) at (answerText number (frameIn line) (now (storage .entry)) (toldAnswer answer))
+        (now (out .exit)) r × (r ≤ at + lineRoom) ⌝ }
 {
     let print = print_of(answer);
     match print {
@@ -166,8 +171,12 @@ fn hear(
     written_to: usize,
     table: &[u64],
 ) -> Step
-    requires { ⌜ («written_to» + lineRoom ≤ length (now out)) × (room ≤ length (now storage)) × (counts .frames < mostLines) × Counting counts × (now table ≡ packedRows) ⌝ }
-    ensures { λ r. ⌜ Took (kept receiver (now (storage .entry)) counts) (gives (frameIn line)) (now (out .entry)) «written_to» r (now (storage .exit)) (now (out .exit)) ⌝ }
+    requires { ⌜
+        («written_to» + lineRoom ≤ length (now out)) × (room ≤ length (now storage)) × (counts .frames < mostLines)
+        × Counting counts × (now table ≡ packedRows) ⌝ }
+    ensures { λ r. ⌜
+        Took (kept receiver (now (storage .entry)) counts) (gives (frameIn line)) (now (out .entry)) «written_to» r
+        (now (storage .exit)) (now (out .exit)) ⌝ }
 {
     let paused = receiver.pause(line.gap);
     let quiet = paused.receiver;
@@ -214,8 +223,12 @@ pub fn take(
     written_to: usize,
     table: &[u64],
 ) -> Step
-    requires { ⌜ («written_to» + lineRoom ≤ length (now out)) × (room ≤ length (now storage)) × (counts .frames < mostLines) × Counting counts × (now table ≡ packedRows) ⌝ }
-    ensures { λ r. ⌜ Took (kept receiver (now (storage .entry)) counts) (lineRead (now (text .entry))) (now (out .entry)) «written_to» r (now (storage .exit)) (now (out .exit)) ⌝ }
+    requires { ⌜
+        («written_to» + lineRoom ≤ length (now out)) × (room ≤ length (now storage)) × (counts .frames < mostLines)
+        × Counting counts × (now table ≡ packedRows) ⌝ }
+    ensures { λ r. ⌜
+        Took (kept receiver (now (storage .entry)) counts) (lineRead (now (text .entry))) (now (out .entry))
+        «written_to» r (now (storage .exit)) (now (out .exit)) ⌝ }
 {
     let line = capture::take_apart(text);
     let answer = line.answer;

@@ -25,7 +25,8 @@ isTooLong size more = longestLine <? size + more
 -- too long nothing more is kept
 unfoldable pub carriedOn : Cutter → List ℕ → Cutter
 carriedOn c part =
-    if isTooLong (c .length) (length part) then record { carry = c .carry; length = longestLine + 1; lines = c .lines } else
+    if isTooLong (c .length) (length part)
+    then record { carry = c .carry; length = longestLine + 1; lines = c .lines } else
     record { carry = placed (c .carry) (c .length) part; length = c .length + length part; lines = c .lines }
 
 -- the cutter after the last part of a line; a line that lies in one block is not kept

@@ -47,7 +47,8 @@ pub data Place : Type 0 where
 
 -- from a cutter, a place and the blocks to come, the pieces that the calls bring
 pub data Fed : Cutter → Place → List (List ℕ) → List Piece → Type 0 where
-  a-piece : (c : Cutter) (block : List ℕ) (at : ℕ) (blocks : List (List ℕ)) (r : Cut) (piece : Piece) (pieces : List Piece)
+  a-piece : (c : Cutter) (block : List ℕ) (at : ℕ) (blocks : List (List ℕ)) (r : Cut) (piece : Piece)
+      (pieces : List Piece)
       → Next block at c r → yieldOf block r ≡ brings piece → Fed (r .cutter) (inside block (r .«read_to»)) blocks pieces
       → Fed c (inside block at) blocks (piece ∷ pieces)
   a-block-used : (c : Cutter) (block : List ℕ) (at : ℕ) (blocks : List (List ℕ)) (r : Cut) (pieces : List Piece)

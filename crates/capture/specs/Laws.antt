@@ -139,8 +139,8 @@ BlocksDoNotMatter =
 -- A call that brings a line goes on in the block, and not past its end; so feeding ends.
 abbrev pub NextAdvances : Type 0
 NextAdvances =
-    (block : List ℕ) (at : ℕ) (c : Cutter) (r : Cut) (piece : Piece) → Next block at c r → yieldOf block r ≡ brings piece
-    → (at < r .«read_to») × (r .«read_to» ≤ length block)
+    (block : List ℕ) (at : ℕ) (c : Cutter) (r : Cut) (piece : Piece) → Next block at c r
+    → yieldOf block r ≡ brings piece → (at < r .«read_to») × (r .«read_to» ≤ length block)
 
 -- Where an answer says that a line lies, it lies.
 

@@ -78,8 +78,8 @@ beginsWith (k ∷ key) (c ∷ line) = (c =? k) and beginsWith key line
 -- the length, and the three keys where they must stand
 unfoldable pub hasShape : List ℕ → Bool
 hasShape line =
-    (shortestLine ≤? length line) and (length line ≤? longestSound) and
-    beginsWith gapKey line and beginsWith idKey (drop (widthIn line + 4) line) and beginsWith dataKey (drop (widthIn line + 16) line)
+    (shortestLine ≤? length line) and (length line ≤? longestSound) and beginsWith gapKey line
+    and beginsWith idKey (drop (widthIn line + 4) line) and beginsWith dataKey (drop (widthIn line + 16) line)
 
 -- a gap has the digits that it needs, and no more
 unfoldable pub gapRead : List ℕ → Told ℕ

@@ -58,7 +58,15 @@ pub fn waited(claim: Claim, ms: u16) -> Claim
 
 // The same NAME and list, elsewhere.
 fn placed(claim: Claim, position: usize, wait: u16, silent: bool) -> Claim
-    ensures { λ r. ⌜ r ≡ record { name = claim .name; list = claim .list; candidates = claim .candidates; position = position; wait = wait; silent = silent } ⌝ }
+    ensures { λ r. ⌜
+        r ≡ record {
+          name = claim .name;
+          list = claim .list;
+          candidates = claim .candidates;
+          position = position;
+          wait = wait;
+          silent = silent;
+        } ⌝ }
 {
     let list = claim.list;
     Claim {

@@ -231,16 +231,16 @@ module _ (M : Type 1) where
         Answers message-announcement.ended message-announcement.Symbol.routine message-announcement.spec
         Message.AnnouncementOnly
     pub message-announcing-refusal :
-        Answers message-announcing-refusal.ended message-announcing-refusal.Symbol.routine message-announcing-refusal.spec
-        Message.AnnouncingRefusalOnly
+        Answers message-announcing-refusal.ended message-announcing-refusal.Symbol.routine
+        message-announcing-refusal.spec Message.AnnouncingRefusalOnly
     pub message-packet :
         Answers message-packet.ended message-packet.Symbol.routine message-packet.spec Message.PacketOnly
     pub message-splitting-refusal :
         Answers message-splitting-refusal.ended message-splitting-refusal.Symbol.routine message-splitting-refusal.spec
         Message.SplittingRefusalOnly
     pub message-unsplittable-refusal :
-        Answers message-unsplittable-refusal.ended message-unsplittable-refusal.Symbol.routine message-unsplittable-refusal.spec
-        Message.UnsplittableRefusalOnly
+        Answers message-unsplittable-refusal.ended message-unsplittable-refusal.Symbol.routine
+        message-unsplittable-refusal.spec Message.UnsplittableRefusalOnly
     -- Fast packets
     pub fast-start : Answers fast-start.ended fast-start.Symbol.routine fast-start.spec Fast.StartOnly
     pub fast-starting-refusal :
