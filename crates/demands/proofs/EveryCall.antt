@@ -857,8 +857,8 @@ every-call M =
         Promise = λ κs a r e. faults-promises.ReadField (a .0) (a .1 .0) (now (a .1 .1 .0)) r;
         promises = λ 𝓤 H A mem run κs a ghost r. refl;
         one-answer = λ κs a r s w v h k.
-            (FaultsFields.read-field-only (a .0) (a .1 .0) (now (a .1 .1 .0)) r s h k, refl);
-        only = FaultsFields.read-field-only;
+            (FaultsFields.read-only (a .0) (a .1 .0) (now (a .1 .1 .0)) r s h k, refl);
+        only = FaultsFields.read-only;
       };
       faults-write = record {
         meets = faults-write.met;
@@ -868,9 +868,9 @@ every-call M =
         promises = λ 𝓤 H A mem run κs a ghost r. refl;
         one-answer = λ κs a r s w v h k.
             lent (λ x. (tt, (tt, (x, (tt, tt)))))
-            (FaultsFields.write-field-only
+            (FaultsFields.write-only
             (a .0) (a .1 .0) (now (a .1 .1 .0)) (a .1 .1 .1 .0) r s (w .1 .1 .0) (v .1 .1 .0) h k);
-        only = FaultsFields.write-field-only;
+        only = FaultsFields.write-only;
       };
       faults-read-service-point = record {
         meets = faults-read-service-point.met;

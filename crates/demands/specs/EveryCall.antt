@@ -390,9 +390,9 @@ module _ (M : Type 1) where
     pub faults-row-at :
         Answers faults-row-at.ended faults-row-at.Symbol.routine faults-row-at.spec Faults.RowAtOnly
     pub faults-read :
-        Answers faults-read.ended faults-read.Symbol.routine faults-read.spec Faults.ReadFieldOnly
+        Answers faults-read.ended faults-read.Symbol.routine faults-read.spec Faults.ReadOnly
     pub faults-write :
-        Answers faults-write.ended faults-write.Symbol.routine faults-write.spec Faults.WriteFieldOnly
+        Answers faults-write.ended faults-write.Symbol.routine faults-write.spec Faults.WriteOnly
     pub faults-read-service-point :
         Answers faults-read-service-point.ended faults-read-service-point.Symbol.routine faults-read-service-point.spec
         Faults.ReadServicePointOnly

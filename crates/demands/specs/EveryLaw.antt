@@ -420,8 +420,8 @@ pub record FaultsLaws : Type 0 where
   pub told-service-point-same : Faults.ToldServicePointSame
   pub packed-rows-only : Faults.PackedRowsOnly
   pub row-at-only : Faults.RowAtOnly
-  pub read-field-only : Faults.ReadFieldOnly
-  pub write-field-only : Faults.WriteFieldOnly
+  pub read-only : Faults.ReadOnly
+  pub write-only : Faults.WriteOnly
   pub read-service-point-only : Faults.ReadServicePointOnly
   pub write-service-point-only : Faults.WriteServicePointOnly
   pub service-point-refusal-only : Faults.ServicePointRefusalOnly

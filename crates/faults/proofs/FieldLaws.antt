@@ -71,11 +71,11 @@ packed-rows-only r s p q = p .answer ∙ sym (q .answer)
 pub row-at-only : the.RowAtOnly
 row-at-only n r s p q = told-looked-same r s (p .answer ∙ sym (q .answer))
 
-pub read-field-only : the.ReadFieldOnly
-read-field-only n id bytes r s p q = told-reading-same r s (p .answer ∙ sym (q .answer))
+pub read-only : the.ReadOnly
+read-only n id bytes r s p q = told-reading-same r s (p .answer ∙ sym (q .answer))
 
-pub write-field-only : the.WriteFieldOnly
-write-field-only n id bytes value r s after after′ p q =
+pub write-only : the.WriteOnly
+write-only n id bytes value r s after after′ p q =
     (told-writing-same r s (p .answer ∙ sym (q .answer)), p .data-bytes ∙ sym (q .data-bytes))
 
 pub read-service-point-only : the.ReadServicePointOnly

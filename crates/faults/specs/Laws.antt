@@ -80,11 +80,11 @@ PackedRowsOnly = (r s : List ℕ) → PackedRows r → PackedRows s → r ≡ s
 abbrev pub RowAtOnly : Type 0
 RowAtOnly = (n : ℕ) (r s : Looked) → RowAt n r → RowAt n s → r ≡ s
 
-abbrev pub ReadFieldOnly : Type 0
-ReadFieldOnly = (n id : ℕ) (bytes : List ℕ) (r s : Reading) → ReadField n id bytes r → ReadField n id bytes s → r ≡ s
+abbrev pub ReadOnly : Type 0
+ReadOnly = (n id : ℕ) (bytes : List ℕ) (r s : Reading) → ReadField n id bytes r → ReadField n id bytes s → r ≡ s
 
-abbrev pub WriteFieldOnly : Type 0
-WriteFieldOnly =
+abbrev pub WriteOnly : Type 0
+WriteOnly =
     (n id : ℕ) (bytes : List ℕ) (value : Value) (r s : Writing) (after after′ : List ℕ)
     → WriteField n id bytes value r after → WriteField n id bytes value s after′ → (r ≡ s) × (after ≡ after′)
 
