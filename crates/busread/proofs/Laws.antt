@@ -1,15 +1,12 @@
 -- The laws of this program.
 -- Assumes nothing.
 use mathlib.Core.Path.{_≡_, refl, ap, _∙_}
-use mathlib.Core.Bool.{true}
 use mathlib.Core.List.{List, [], _∷_, _++_, append-assoc}
-use Prim.Native.Nat.{ℕ, _≤_}
+use Prim.Native.Nat.{ℕ}
 use native.Mathlib.Omega.{arith}
-use Rattle.words.specs.Words.{_≤?_}
-use Rattle.words.proofs.Tests.{tests}
 use Rattle.text.specs.Text.{text, decimalWidth, decimal}
 use Rattle.text.proofs.Laws.{no-leading-zeros}
-use Rattle.capture.specs.Stream.{Piece, pieceRead, mostLines, linesOf}
+use Rattle.capture.specs.Stream.{Piece, pieceRead, linesOf}
 use Rattle.capture.specs.Cutter.{endingOf}
 use Rattle.capture.specs.Promises.{Next}
 use Rattle.capture.specs.Feeding.{joined, Place, between, inside, lastPieces, Fed, yieldOf, brings}
@@ -20,11 +17,11 @@ use Rattle.capture.specs.declared.Ending.{Ending}
 use Rattle.capture.specs.declared.Ending.the-variants as Ending
 use Rattle.capture.proofs.Laws.{number-back}
 use Rattle.capture.proofs.Feeding.{blocks-do-not-matter}
+use Rattle.capture.proofs.Runs.{over-same, ended}
 use Rattle.busread.specs.Report.{Kept, lineText, keptAfter, linesText, atStart, report}
 use Rattle.busread.specs.Reader.{Ran, begun, a-line, all-used, all-read, endText}
 use Rattle.busread.specs.Laws as Laws
 use Rattle.busread.specs.declared.reader.Going.the-variants.{On, Used, Over}
-use Rattle.busread.proofs.Reading.{over-same}
 
 -- Reading what was printed: pieces that are fed, whose text it is.
 record Told (c : Cutter) (k : Kept) (place : Place) (blocks : List (List ℕ)) (words : List ℕ) : Type 0 where
@@ -55,10 +52,6 @@ used-up : {c c′ : Cutter} {k k′ : Kept} {block words rest : List ℕ} {readT
     → Ran block readTo c k words readTo′ c′ k′ Used → Told c′ k′ between blocks rest → Told c k (inside block readTo) blocks (words ++ rest)
 used-up {block = block} {blocks = blocks} (all-used {readTo′ = readTo₁} {c′ = c₁} r ran n y) t =
     in-front ran (record { pieces = t .pieces; fed = Feeding.a-block-used c₁ block readTo₁ blocks r (t .pieces) n y (t .fed); said = t .said })
-
-ended : (c : Cutter) → mostLines ≤ c .lines → endingOf c ≡ Ending.Nothing
-unfolding endingOf
-ended c h = let t : mostLines ≤? c .lines ≡ true = search tests in rw t
 
 read-up : {c c′ : Cutter} {k k′ : Kept} {block words : List ℕ} {readTo readTo′ : ℕ} {blocks : List (List ℕ)}
     → Ran block readTo c k words readTo′ c′ k′ Over → Told c k (inside block readTo) blocks (words ++ endText c′ k′)

@@ -4,14 +4,10 @@ use mathlib.Core.Path.{_≡_, sym, ap, _∙_}
 use mathlib.Core.List.{List, [], _∷_}
 use Prim.Native.Nat.{ℕ, _+_, _-_, _≤_, _<_}
 use native.Mathlib.Omega.{arith}
-use lib.ListN.{length, take, drop}
-use borrow.Author.Tests.{leb-true, leb-false}
-use Rattle.words.specs.Words.{_≤?_, _=?_}
-use Rattle.words.proofs.Words.{by-test}
-use Rattle.capture.specs.Stream.{mostLines, lineIn, Piece, whole, tooLong, pieceRead}
-use Rattle.capture.specs.Cutter.{hasNewline, isTooLong, cuttingOf, cutterAfter, carriedOn, closed, lineAt, endingOf}
+use lib.ListN.{length, take}
+use Rattle.capture.specs.Stream.{mostLines, Piece, pieceRead}
 use Rattle.capture.specs.Promises.{Next, Last}
-use Rattle.capture.specs.Feeding.{brings, used, over, yieldIn, yieldOf}
+use Rattle.capture.specs.Feeding.{brings, used, over, yieldOf}
 use Rattle.capture.specs.declared.Cutter.{Cutter}
 use Rattle.capture.specs.declared.Cut.{Cut}
 use Rattle.capture.specs.declared.Cutting.{Cutting}
@@ -19,6 +15,7 @@ use Rattle.capture.specs.declared.Cutting.the-variants as Cutting
 use Rattle.capture.specs.declared.Ending.{Ending}
 use Rattle.capture.specs.declared.Ending.the-variants as Ending
 use Rattle.capture.proofs.Feeding.{next-advances, within-block, carried-fits}
+use Rattle.capture.proofs.Runs.{brought, used-lines, over-same, not-ended}
 use Rattle.text.specs.Pieces.{Wrote}
 use Rattle.busread.specs.Report.{Kept, closingText, linesText}
 use Rattle.busread.specs.Step.{kept, Took}
@@ -30,70 +27,6 @@ use Rattle.busread.specs.declared.reader.Run.{Run}
 use Rattle.busread.specs.declared.reader.Going.{Going}
 use Rattle.busread.specs.declared.reader.Going.the-variants.{On, Used, Over}
 use Rattle.text.proofs.Pieces.{behind}
-
--- What a call of `next` cuts: nothing, for all the lines that are read are cut; one line more; or nothing, for no newline is left.
-
-pub data Cuts (block : List ℕ) (readTo : ℕ) (c : Cutter) (r : Cut) : Type 0 where
-  all : yieldOf block r ≡ over → r .cutter ≡ c → mostLines ≤ c .lines → Cuts block readTo c r
-  one : (piece : Piece) → yieldOf block r ≡ brings piece → c .lines < mostLines → r .cutter .lines ≡ c .lines + 1 → Cuts block readTo c r
-  none : yieldOf block r ≡ used → r .cutter .lines ≡ c .lines → Cuts block readTo c r
-
-carried-lines : (c : Cutter) (part : List ℕ) → carriedOn c part .lines ≡ c .lines
-unfolding carriedOn
-carried-lines c part = by-test (isTooLong (c .length) (length part)) (λ e. rw e) (λ e. rw e)
-
-line-brings : (block : List ℕ) (c : Cutter) (size from to : ℕ) → (piece : Piece) × (yieldIn block c (lineAt size from to) ≡ brings piece)
-unfolding lineAt
-line-brings block c size from to =
-    by-test (isTooLong size (to - from)) (λ e. (tooLong, rw e)) (λ e.
-    by-test (size =? 0) (λ f. (whole (take (to - from) (drop from block)), rw (e, f))) (λ f. (whole (take (size + (to - from)) (c .carry)), rw (e, f))))
-
-yields : {block : List ℕ} {readTo : ℕ} {c : Cutter} {r : Cut} {answer : Cutting} → Next block readTo c r → cuttingOf c readTo (drop readTo block) ≡ answer
-    → yieldOf block r ≡ yieldIn block (r .cutter) answer
-yields {block} {r = r} n e = ap (yieldIn block (r .cutter)) (n .answer ∙ e)
-
-pub cuts : {block : List ℕ} {readTo : ℕ} {c : Cutter} {r : Cut} → Next block readTo c r → Cuts block readTo c r
-unfolding cuttingOf cutterAfter closed
-cuts {block} {readTo} {c} {r} n =
-    let rest = drop readTo block in
-    by-test (mostLines ≤? c .lines) (λ e. all (yields {answer = Cutting.AllRead} n (rw e)) (n .cutter ∙ rw e) (omega (arith, leb-true))) (λ e.
-    let h : c .lines < mostLines = omega (arith, leb-false) in
-    by-test (hasNewline rest)
-    (λ f.
-    let p = line-brings block (r .cutter) (c .length) readTo (readTo + length (lineIn rest)) in
-    one (p .0) (yields {answer = lineAt (c .length) readTo (readTo + length (lineIn rest))} n (rw (e, f)) ∙ p .1) h (ap (λ (x : Cutter). x .lines) (n .cutter) ∙ rw (e, f)))
-    (λ f. none (yields {answer = Cutting.BlockUsed} n (rw (e, f))) (ap (λ (x : Cutter). x .lines) (n .cutter) ∙
-    by-test (length rest =? 0) (λ g. rw (e, f, g)) (λ g. rw (e, f, g) (carried-lines c rest)))))
-
-pub brought : {block : List ℕ} {readTo : ℕ} {c : Cutter} {r : Cut} {piece : Piece} → Next block readTo c r → yieldOf block r ≡ brings piece
-    → (c .lines < mostLines) × (r .cutter .lines ≡ c .lines + 1)
-brought n y = go (cuts n) y
-  where
-    go : {block : List ℕ} {readTo : ℕ} {c : Cutter} {r : Cut} {piece : Piece} → Cuts block readTo c r → yieldOf block r ≡ brings piece → (c .lines < mostLines) × (r .cutter .lines ≡ c .lines + 1)
-    go (all e f g) y = let z : _≡_ {A = ℕ} 0 1 = cc in absurd (omega arith)
-    go (one piece e h l) y = (h, l)
-    go (none e f) y = let z : _≡_ {A = ℕ} 0 1 = cc in absurd (omega arith)
-
-pub used-lines : {block : List ℕ} {readTo : ℕ} {c : Cutter} {r : Cut} → Next block readTo c r → yieldOf block r ≡ used → r .cutter .lines ≡ c .lines
-used-lines n y = go (cuts n) y
-  where
-    go : {block : List ℕ} {readTo : ℕ} {c : Cutter} {r : Cut} → Cuts block readTo c r → yieldOf block r ≡ used → r .cutter .lines ≡ c .lines
-    go (all e f g) y = let z : _≡_ {A = ℕ} 0 1 = cc in absurd (omega arith)
-    go (one piece e h l) y = let z : _≡_ {A = ℕ} 0 1 = cc in absurd (omega arith)
-    go (none e f) y = f
-
-pub over-same : {block : List ℕ} {readTo : ℕ} {c : Cutter} {r : Cut} → Next block readTo c r → yieldOf block r ≡ over → (r .cutter ≡ c) × (mostLines ≤ c .lines)
-over-same n y = go (cuts n) y
-  where
-    go : {block : List ℕ} {readTo : ℕ} {c : Cutter} {r : Cut} → Cuts block readTo c r → yieldOf block r ≡ over → (r .cutter ≡ c) × (mostLines ≤ c .lines)
-    go (all e f g) y = (f, g)
-    go (one piece e h l) y = let z : _≡_ {A = ℕ} 0 1 = cc in absurd (omega arith)
-    go (none e f) y = let z : _≡_ {A = ℕ} 0 1 = cc in absurd (omega arith)
-
--- A line that the end of the capture ends is not one too many.
-pub not-ended : (c : Cutter) → (endingOf c ≡ Ending.Nothing → ⊥) → c .lines < mostLines
-unfolding endingOf
-not-ended c f = by-test (mostLines ≤? c .lines) (λ e. absurd (f (rw e))) (λ e. omega (arith, leb-false))
 
 -- A turn that takes a line, and one that takes none.
 

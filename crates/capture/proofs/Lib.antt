@@ -4,5 +4,6 @@ pub mod Writing
 pub mod Stream
 pub mod Cuts
 pub mod Feeding
+pub mod Runs
 pub mod OneSpelling
 pub mod Laws

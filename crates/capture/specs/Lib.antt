@@ -6,4 +6,5 @@ pub mod Cutter
 pub mod Promises
 pub mod Private
 pub mod Feeding
+pub mod Runs
 pub mod Laws

@@ -39,6 +39,7 @@ use Rattle.faults.proofs.Longest as FaultsLongest
 use Rattle.faults.proofs.Played as FaultsPlayed
 use Rattle.capture.proofs.Feeding as CaptureFeeding
 use Rattle.capture.proofs.Laws as Capture
+use Rattle.capture.proofs.Runs as CaptureRuns
 use Rattle.text.proofs.Laws as Text
 use Rattle.demands.specs.EveryLaw.{EveryLaw, FrameLaws, FormatLaws, CallLaws, PlacesLaws, MessageLaws, FastLaws}
 use Rattle.demands.specs.EveryLaw.{CatalogueLaws, ClaimLaws, NodesLaws, CommandLaws, FaultsLaws, CaptureLaws}
@@ -559,6 +560,7 @@ capture-laws =
       carried-fits = CaptureFeeding.carried-fits;
       last-fits = CaptureFeeding.last-fits;
       every-stream-is-fed = CaptureFeeding.every-stream-is-fed;
+      runs-do-not-matter = CaptureRuns.runs-do-not-matter;
     }
 
 text-laws : TextLaws

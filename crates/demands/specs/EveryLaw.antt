@@ -24,6 +24,7 @@ use Rattle.faults.specs.FieldLaws as FaultsFields
 use Rattle.faults.specs.Laws as Faults
 use Rattle.faults.specs.Runs as FaultsRuns
 use Rattle.capture.specs.Laws as Capture
+use Rattle.capture.specs.Runs as CaptureRuns
 use Rattle.text.specs.Laws as Text
 use Rattle.message.specs.declared.Place.{Place}
 use Rattle.catalogue.specs.declared.Row.{Row}
@@ -519,6 +520,7 @@ pub record CaptureLaws : Type 0 where
   pub carried-fits : Capture.CarriedFits
   pub last-fits : Capture.LastFits
   pub every-stream-is-fed : Capture.EveryStreamIsFed
+  pub runs-do-not-matter : CaptureRuns.RunsDoNotMatter
 
 pub record TextLaws : Type 0 where
   pub put-only : Text.PutOnly
