@@ -1,5 +1,5 @@
 -- The lines of a block taken one after the other, and the end of the capture: what the reader promises (RULES 15.10 to
--- 15.15).
+-- 15.17).
 use mathlib.Core.Path.{_≡_}
 use mathlib.Core.List.{List, [], _∷_, _++_, map}
 use Prim.Native.Nat.{ℕ, _+_, _≤_, _<_}

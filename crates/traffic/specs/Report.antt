@@ -1,4 +1,4 @@
--- The report that the program prints of a capture (RULES 15.10 to 15.15): a first line, the refused lines, the figures
+-- The report that the program prints of a capture (RULES 15.10 to 15.14): a first line, the refused lines, the figures
 -- of each pair, those of the others, and a closing line. Everything is text, as the list of its bytes.
 use mathlib.Core.List.{List, [], _∷_, _++_}
 use Prim.Native.Nat.{ℕ, _+_}
