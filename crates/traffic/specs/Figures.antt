@@ -28,10 +28,10 @@ seenIn (gives f) =
       says = given checkedOf (f .id) (length (f .bytes)) then λ parts. gives (pairOf (f .id));
     }
 
--- the lines that are read of a stream
 unfoldable pub seenOf : Piece → Seen
 seenOf piece = seenIn (pieceRead piece)
 
+-- the lines that are read of a stream
 abbrev pub linesIn : List ℕ → List Seen
 linesIn stream = map seenOf (linesOf stream)
 
@@ -70,18 +70,20 @@ abbrev pub isPair : ℕ → Told ℕ → Bool
 isPair pair (refused n) = false
 isPair pair (gives p) = pair =? p
 
--- for each frame of the pair, the pauses since the one before it, its own line's with them; `since` have passed before
+-- for each frame of the pair, the pauses since the one before it, with that of its own line; `since` is what had passed
+-- before these lines
 unfoldable pub waitsFrom : ℕ → ℕ → List Seen → List ℕ
 waitsFrom pair since [] = []
 waitsFrom pair since (l ∷ lines) =
     if isPair pair (l .says) then (since + l .pause) ∷ waitsFrom pair 0 lines else
     waitsFrom pair (since + l .pause) lines
 
--- the first frame has nothing before it: what passed until then is no gap
+-- the gaps of a pair: its first frame has none before it, so what passed until then is no gap
 abbrev pub gapsOf : ℕ → List Seen → List ℕ
 gapsOf pair lines = drop 1 (waitsFrom pair 0 lines)
 
--- of none it is 0, which nothing prints
+-- the least of some numbers, and the greatest; of none they are 0, which nothing prints
+
 abbrev pub least : List ℕ → ℕ
 least [] = 0
 least (n ∷ []) = n
@@ -110,6 +112,7 @@ abbrev pub named : List Seen → List ℕ
 named lines = take mostPairs (onceEach (pairsIn lines))
 
 -- the frames of all pairs that came later
+
 abbrev pub isOther : List ℕ → ℕ → Bool
 isOther pairs p = not (any (_=?_ p) pairs)
 
