@@ -7,10 +7,10 @@ use mathlib.Core.List.{List, map}
 use mathlib.Core.Logic.{_≢_}
 use Prim.Native.Nat.{ℕ, _+_, _-_, _*_, _≤_, _<_}
 use native.Mathlib.Omega.{arith}
-use borrow.Author.Tests.{eq-eqb, ne-eqb, eqb-true, eqb-false, le-ltb, le-leb, lt-leb, ltb-false}
+use borrow.Author.Tests.{eq-eqb, ne-eqb, eqb-true, eqb-false, le-ltb, lt-leb}
 use lib.ListN.{length, take, drop, getD, set, length-take, length-drop, length-map}
 use lib.Seq.{length-paste, take-paste, take-take}
-use Rattle.words.specs.Words.{_<?_, _=?_, Told, refused, gives}
+use Rattle.words.specs.Words.{_=?_, Told, refused, gives}
 use Rattle.words.specs.Lists.{every, count, first}
 use Rattle.frame.specs.Identifier.{sourceOf, greatestDgn}
 use Rattle.frame.specs.Frame.{frameBytes}
@@ -19,26 +19,26 @@ use Rattle.frame.specs.declared.BadFrame.the-variants.{IdentifierTooLarge, NotE
 use Rattle.frame.specs.declared.BadFrame.the-variants.{SourceNotAllowed}
 use Rattle.words.proofs.Words.{by-test, both-true}
 use Rattle.places.specs.Format.{fixed, opens, feeds, goes, ends}
-use Rattle.places.specs.Places.{Out, said, rest, closes, placeCount}
-use Rattle.places.specs.Layout.{stretch, AgreeBut, openBy, seat, view, oneEach}
+use Rattle.places.specs.Places.{Out, said, placeCount}
+use Rattle.places.specs.Layout.{stretch, AgreeBut, openBy, view}
 use Rattle.places.specs.Calls.{KeepsPlaces}
 use Rattle.words.specs.declared.Found.{Found}
 use Rattle.words.specs.declared.Found.the-variants.{At, Nowhere}
-use Rattle.words.proofs.Lists.{found-at, every-set, every-map}
+use Rattle.words.proofs.Lists.{found-at, every-set}
 use Rattle.places.proofs.Stretch.{stretch-same, stretch-other}
 use Rattle.places.proofs.View.{one-each-view, length-view, blank-view, view-pass, view-closes}
 use Rattle.places.proofs.Receiver.{Shows, shows-fixed, shows-opens-held, shows-opens-free, shows-full}
-use Rattle.places.proofs.Receiver.{shows-feeds-nowhere, shows-feeds-goes, shows-feeds-ends, shows-keeps, pass-keeps}
+use Rattle.places.proofs.Receiver.{shows-feeds-nowhere, shows-feeds-goes, shows-feeds-ends, shows-keeps}
 use Rattle.places.specs.Telling.{Tells, Outcome, nothingToDo, opened, stored, finished, tells}
 use Rattle.places.specs.Telling.{partAt}
-use Rattle.message.specs.LongMessage.{shortest, longest, packetBytes, packetsOf, idleLimit, needed, Meaning, other}
+use Rattle.message.specs.LongMessage.{shortest, longest, packetBytes, packetsOf, needed, Meaning, other}
 use Rattle.message.specs.LongMessage.{announcement, packet, meaningOf}
 use Rattle.message.specs.OneSender.{Part, announcedBy, joined, wholeOf, expectingNext, fedBy}
 use Rattle.message.specs.OneSender.{asksBy, longMessages}
 use Rattle.message.specs.Receiver.{room, freePlace, isFree, openMessage, layout, isOpenBy}
 use Rattle.message.specs.Receiver.{isZero, placeKeepsRules, keepsRules, After, leaves, placeFor}
 use Rattle.message.specs.Receiver.{hearsAnnouncement, keptAt, expecting, advanced, packetAt, carries, byMeaning, heard}
-use Rattle.message.specs.Receiver.{idled, pausedPlaces, pausedAnswer}
+use Rattle.message.specs.Receiver.{idled}
 use Rattle.message.specs.Receiver as Eight
 use Rattle.message.specs.Promises.{toldAnswer, messageIn}
 use Rattle.message.specs.Calls.{Held, Starts, Keeps, Hears, Pauses, openIn, receiverCalls}
@@ -47,20 +47,12 @@ use Rattle.message.specs.declared.Answer.{Answer}
 use Rattle.message.specs.declared.Answer.the-variants.{BadFrame, MalformedAnnouncement, NoPlaceFree, NoOpenMessage}
 use Rattle.message.specs.declared.Answer.the-variants.{UnexpectedPacket, NothingToDo, Opened, Stored, Finished}
 use Rattle.message.specs.declared.Pausing.the-variants as Pausing
-use Rattle.message.proofs.Steps.{found-below, OpenRules, open-rules, rules-at}
+use Rattle.message.proofs.Steps.{found-below, OpenRules, rules-at}
 use Rattle.message.proofs.Steps.{advanced-last, advanced-next, packet-expected, packet-other, carries-at}
 use Rattle.message.proofs.Steps.{carries-nowhere, heard-kept}
 use Rattle.message.proofs.Frames.{Known, meaning-known}
-
--- an open place that keeps its rules
-rules-open : (p : Place) → isFree p ≡ false → OpenRules p → placeKeepsRules p ≡ true
-unfolding placeKeepsRules
-rules-open p f o =
-    rw (f, le-leb _ _ (o .named), le-leb _ _ (o .long), le-leb _ _ (o .short), le-leb _ _ (o .about), le-leb _ _ (o .fresh), le-leb _ _ (o .begun), le-leb _ _ (o .within))
-
-free-rules : placeKeepsRules freePlace ≡ true
-unfolding placeKeepsRules isZero
-free-rules = refl
+use Rattle.message.proofs.Pauses.{rules-open, free-rules, seat-idled, seat-closes, both-rules, each-alone, paused-places}
+use Rattle.message.proofs.Pauses.{paused-count, idled-keeps}
 
 not-free : (p : Place) → shortest ≤ p .length → isFree p ≡ false
 not-free p h = ne-eqb (p .length) 0 (λ e. omega arith)
@@ -331,57 +323,6 @@ module _ (f : Frame) (ps : List Place) (s : List ℕ) (eight : length ps ≡ pla
           let h = rw e at k in
           rw e (carried (p .sender) (p .number) (sym (h .0)) (h .1) (asked (gives (packet p)) e))
 
--- a pause at one place
-
-pub seat-idled : (ms : ℕ) (p : Place) (bytes : List ℕ) → seat layout (idled ms p) bytes ≡ rest longMessages ms (seat layout p bytes)
-unfolding idled
-seat-idled ms p bytes =
-    by-test (isFree p)
-    (λ f. rw f (rw f))
-    (λ f. by-test (idleLimit <? p .idle + ms) (λ g. rw (f, g)) (λ g. rw (f, g) (rw f)))
-
-pub seat-closes : (ms : ℕ) (p : Place) (bytes : List ℕ) → Eight.closes ms p ≡ closes longMessages ms (seat layout p bytes)
-unfolding Eight.closes
-seat-closes ms p bytes =
-    by-test (isFree p)
-    (λ f. rw f)
-    (λ f. by-test (idleLimit <? p .idle + ms) (λ g. rw (f, g)) (λ g. rw (f, g)))
-
-idled-rules : (ms : ℕ) (p : Place) → placeKeepsRules p ≡ true → placeKeepsRules (idled ms p) ≡ true
-unfolding idled
-idled-rules ms p k =
-    by-test (isFree p)
-    (λ f. rw f k)
-    (λ f. by-test (idleLimit <? p .idle + ms)
-    (λ g. rw (f, g) free-rules)
-    (λ g.
-    let o = open-rules p f k in
-    rw (f, g)
-    (rules-open (record { sender = p .sender; length = p .length; dgn = p .dgn; expected = p .expected; idle = p .idle + ms }) f
-    (record { named = o .named; long = o .long; short = o .short; about = o .about; fresh = ltb-false _ _ g; begun = o .begun; within = o .within }))))
-
--- the rules, put together and taken apart
-
-both-rules : (ps : List Place) → every placeKeepsRules ps ≡ true → oneEach layout ps ≡ true → keepsRules ps ≡ true
-unfolding keepsRules
-both-rules ps e o = rw (e, o)
-
-pub each-alone : (ps : List Place) → keepsRules ps ≡ true → oneEach layout ps ≡ true
-unfolding keepsRules
-each-alone ps v = both-true (every placeKeepsRules ps) _ v .1
-
-all-rules : (ps : List Place) → keepsRules ps ≡ true → every placeKeepsRules ps ≡ true
-unfolding keepsRules
-all-rules ps v = both-true (every placeKeepsRules ps) _ v .0
-
-pub paused-places : (ms : ℕ) (ps : List Place) → keepsRules ps ≡ true → pausedPlaces ms ps ≡ map (idled ms) ps
-unfolding pausedPlaces
-paused-places ms ps v = rw v
-
-pub paused-count : (ms : ℕ) (ps : List Place) → keepsRules ps ≡ true → pausedAnswer ms ps ≡ gives (count (Eight.closes ms) ps)
-unfolding pausedAnswer
-paused-count ms ps v = rw v
-
 -- the calls, from a state that keeps its rules: there is one answer and one state after each
 
 module _ (s : Held) (k : Keeps s) where
@@ -450,9 +391,7 @@ module _ (s : Held) (k : Keeps s) where
     rested-kept-rules =
         record {
           eight = length-map ps (idled ms) ∙ k .eight;
-          rules =
-              both-rules (map (idled ms) ps) (every-map placeKeepsRules (idled ms) (idled-rules ms) ps (all-rules ps (k .rules)))
-              (pass-keeps longMessages layout ms (idled ms) (seat-idled ms) ps (each-alone ps (k .rules)));
+          rules = idled-keeps ms ps (k .rules);
           enough = k .enough;
         }
 

@@ -26,8 +26,9 @@ use Rattle.message.specs.Calls.{Held, Starts, Keeps, openIn}
 use Rattle.message.specs.declared.Place.{Place}
 use Rattle.catalogue.specs.Classes.{classAt}
 use Rattle.catalogue.specs.Scale.{scaledOf}
-use Rattle.demands.proofs.LongReceiver.{paused-places, seat-idled, frame-agrees, heardBy, heard-kept-rules, restedBy}
-use Rattle.demands.proofs.LongReceiver.{rested-kept-rules, starts-keep}
+use Rattle.message.proofs.Pauses.{paused-places, seat-idled}
+use Rattle.demands.proofs.LongReceiver.{frame-agrees, heardBy, heard-kept-rules, restedBy, rested-kept-rules}
+use Rattle.demands.proofs.LongReceiver.{starts-keep}
 use Rattle.claim.specs.Candidates.{isWellFormed}
 use Rattle.claim.specs.Claim.{keepsRules as keepsClaimRules, holdsList, held, standOf}
 use Rattle.claim.specs.Promises.{isSound}

@@ -645,6 +645,16 @@ held-rules r places v e o =
     let k = rules-of r v in
     keeps-rules (holding r places) (record { few = k .few; well-formed = k .well-formed; each = e; alone = o })
 
+-- a pause leads from a state that keeps its rules to one that does
+pub idled-keeps : (ms : ℕ) (r : Receiver) → keepsRules r ≡ true
+    → keepsRules (holding r (map (idled ms) (r .places))) ≡ true
+idled-keeps ms r v =
+    let k = rules-of r v in
+    let names = namesOf r in
+    held-rules r (map (idled ms) (r .places)) v
+    (every-map (placeKeepsRules names) (idled ms) (idled-rules names ms) (r .places) (k .each))
+    (pass-keeps (fastPackets names) layout ms (idled ms) (seat-idled names ms) (r .places) (k .alone))
+
 -- the calls, from a state that keeps its rules: there is one answer and one state after each
 
 module _ (names : List ℕ) (s : Held) (k : Keeps names s) where
@@ -733,15 +743,10 @@ module _ (names : List ℕ) (s : Held) (k : Keeps names s) where
 
     rested-kept-rules : Keeps names restedBy
     rested-kept-rules =
-        let each =
-        every-map (placeKeepsRules (namesOf state)) (idled ms) (idled-rules (namesOf state) ms) (state .places)
-        (rules-of state (k .rules) .each) in
         record {
           named = k .named;
           eight = length-map (state .places) (idled ms) ∙ k .eight;
-          rules =
-              held-rules state (map (idled ms) (state .places)) (k .rules) each
-              (pass-keeps (fastPackets names) layout ms (idled ms) (seat-idled names ms) (state .places) alone);
+          rules = idled-keeps ms state (k .rules);
           enough = k .enough;
         }
 

@@ -1,5 +1,6 @@
 pub mod Bytes
 pub mod Steps
+pub mod Pauses
 pub mod Frames
 pub mod Packets
 pub mod Laws
