@@ -4,3 +4,4 @@ pub mod Outcomes
 pub mod Calls
 pub mod Machine
 pub mod Laws
+pub mod Pauses

@@ -6,3 +6,4 @@ pub mod Promises
 pub mod Private
 pub mod Calls
 pub mod Laws
+pub mod Pauses

@@ -5,6 +5,10 @@ use Rattle.message.proofs.Laws as Message
 use Rattle.fast.proofs.Laws as Fast
 use Rattle.fast.proofs.KeepsPlaces as FastKeepsPlaces
 use Rattle.fast.proofs.Joined as FastJoined
+use Rattle.message.proofs.Pauses as MessagePauses
+use Rattle.fast.proofs.Pauses as FastPauses
+use Rattle.claim.proofs.Pauses as ClaimPauses
+use Rattle.nodes.proofs.Pauses as NodesPauses
 use Rattle.catalogue.proofs.Laws as Catalogue
 use Rattle.claim.proofs.Laws as Claim
 use Rattle.nodes.proofs.Challenge as NodesChallenge
@@ -170,4 +174,11 @@ demand-three =
       fast-every-run-runs = FastBus.every-run-runs;
       fast-no-place-free-at = FastBus.no-place-free-at;
       fast-pause-count-at = FastBus.pause-count-at;
+      pauses-add-up =
+          record {
+            long-messages = MessagePauses.pauses-add-up;
+            fast-packets = FastPauses.pauses-add-up;
+            claim = ClaimPauses.pauses-add-up;
+            node-table = NodesPauses.pauses-add-up;
+          };
     }

@@ -1,5 +1,6 @@
 -- Every law of the parts, by its name.
 -- Assumes nothing.
+use Rattle.words.proofs.WrongPauses as WrongPauses
 use Rattle.frame.proofs.Laws as Frame
 use Rattle.places.specs.Format.{Format}
 use Rattle.places.specs.Calls.{Calls, KeepsPlaces}
@@ -10,19 +11,23 @@ use Rattle.places.proofs.NineKeys as PlacesNineKeys
 use Rattle.places.proofs.Tiny as PlacesTiny
 use Rattle.places.proofs.TinyReceiver as PlacesTinyReceiver
 use Rattle.message.proofs.Laws as Message
+use Rattle.message.proofs.Pauses as MessagePauses
 use Rattle.fast.proofs.Laws as Fast
 use Rattle.fast.proofs.Example as FastExample
 use Rattle.fast.proofs.KeepsPlaces as FastKeepsPlaces
 use Rattle.fast.proofs.Joined as FastJoined
+use Rattle.fast.proofs.Pauses as FastPauses
 use Rattle.catalogue.proofs.Laws as Catalogue
 use Rattle.claim.proofs.Laws as Claim
 use Rattle.claim.proofs.Machine as ClaimMachine
+use Rattle.claim.proofs.Pauses as ClaimPauses
 use Rattle.nodes.proofs.Blank as NodesBlank
 use Rattle.nodes.proofs.Challenge as NodesChallenge
 use Rattle.nodes.proofs.Find as NodesFind
 use Rattle.nodes.proofs.Kept as NodesKept
 use Rattle.nodes.proofs.Laws as Nodes
 use Rattle.nodes.proofs.Pass as NodesPass
+use Rattle.nodes.proofs.Pauses as NodesPauses
 use Rattle.nodes.proofs.Runs as NodesRuns
 use Rattle.nodes.proofs.Sentences as NodesSentences
 use Rattle.nodes.proofs.Shown as NodesShown
@@ -41,9 +46,19 @@ use Rattle.capture.proofs.Feeding as CaptureFeeding
 use Rattle.capture.proofs.Laws as Capture
 use Rattle.capture.proofs.Runs as CaptureRuns
 use Rattle.text.proofs.Laws as Text
-use Rattle.demands.specs.EveryLaw.{EveryLaw, FrameLaws, FormatLaws, CallLaws, PlacesLaws, MessageLaws, FastLaws}
-use Rattle.demands.specs.EveryLaw.{CatalogueLaws, ClaimLaws, NodesLaws, CommandLaws, FaultsLaws, CaptureLaws}
-use Rattle.demands.specs.EveryLaw.{TextLaws}
+use Rattle.demands.specs.EveryLaw.{EveryLaw, WordsLaws, FrameLaws, FormatLaws, CallLaws, PlacesLaws, MessageLaws}
+use Rattle.demands.specs.EveryLaw.{FastLaws, CatalogueLaws, ClaimLaws, NodesLaws, CommandLaws, FaultsLaws}
+use Rattle.demands.specs.EveryLaw.{CaptureLaws, TextLaws}
+
+words-laws : WordsLaws
+words-laws =
+    record {
+      idle-adds-up = WrongPauses.idle-adds-up;
+      restarts-do-not = WrongPauses.restarts-do-not;
+      capped-do-not = WrongPauses.capped-do-not;
+      wraps-do-not = WrongPauses.wraps-do-not;
+      places-do-not = WrongPauses.places-do-not;
+    }
 
 frame-laws : FrameLaws
 frame-laws =
@@ -154,6 +169,7 @@ message-laws =
       splitter-announces = Message.splitter-announces;
       splitter-splits = Message.splitter-splits;
       lowest-wins = Message.lowest-wins;
+      pauses-add-up = MessagePauses.pauses-add-up;
     }
 
 fast-laws : FastLaws
@@ -192,6 +208,7 @@ fast-laws =
       every-list-starts = FastKeepsPlaces.every-list-starts;
       fast-keeps-places = FastKeepsPlaces.fast-keeps-places;
       fast-pauses-add = FastKeepsPlaces.fast-pauses-add;
+      pauses-add-up = FastPauses.pauses-add-up;
       joined-by-rules = FastJoined.joined-by-rules;
     }
 
@@ -322,6 +339,7 @@ claim-laws =
       frame-is-heard = Claim.frame-is-heard;
       calls-are-events = Claim.calls-are-events;
       lowest-wins = Claim.lowest-wins;
+      pauses-add-up = ClaimPauses.pauses-add-up;
     }
 
 nodes-laws : NodesLaws
@@ -381,6 +399,7 @@ nodes-laws =
       takes-only-so = NodesChallenge.takes-only-so;
       challenge-entered = NodesChallenge.challenge-entered;
       holder-stays = NodesChallenge.holder-stays;
+      pauses-add-up = NodesPauses.pauses-add-up;
     }
 
 command-laws : CommandLaws
@@ -580,6 +599,7 @@ text-laws =
 pub every-law : EveryLaw
 every-law =
     record {
+      words = words-laws;
       frame = frame-laws;
       places = places-laws;
       message = message-laws;

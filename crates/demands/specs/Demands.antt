@@ -21,6 +21,7 @@ use Rattle.demands.specs.SplitAndJoin.{SplitAndJoin, JoinedByRules}
 use Rattle.demands.specs.FastBus as FastBus
 use Rattle.demands.specs.FastSplitAndJoin as FastSplitAndJoin
 use Rattle.demands.specs.ClaimsHeard.{ClaimIsHeard}
+use Rattle.demands.specs.Pauses.{PausesAddUp}
 
 -- 1. Every public call ends with an answer for every input. No call relies on an earlier check. Each refusal carries
 -- its number (RULES 2.1) and changes nothing lent or held, but 10 closes that sender's message.
@@ -190,3 +191,6 @@ pub record DemandThree : Type 0 where
   pub fast-every-run-runs : FastBus.EveryRunRuns
   pub fast-no-place-free-at : FastBus.NoPlaceFreeAt
   pub fast-pause-count-at : FastBus.PauseCountAt
+  -- time: however a caller cuts it into pauses, both receivers, the claim and the node table end the same, and the
+  -- numbers that the pauses answer come to the same
+  pub pauses-add-up : PausesAddUp

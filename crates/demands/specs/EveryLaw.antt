@@ -1,6 +1,7 @@
 -- Every law of the parts (RULES 3 to 12), by its name, a record for each crate: one that is lost is missed here.
 use mathlib.Core.List.{List}
 use Prim.Native.Nat.{ℕ}
+use Rattle.words.specs.WrongPauses as WrongPauses
 use Rattle.frame.specs.Laws as Frame
 use Rattle.places.specs.Format.{Format}
 use Rattle.places.specs.Statements.{Pausing}
@@ -10,14 +11,18 @@ use Rattle.places.specs.Calls as PlacesCalls
 use Rattle.places.specs.Tiny as PlacesTiny
 use Rattle.places.specs.TinyReceiver as PlacesTinyReceiver
 use Rattle.message.specs.Laws as Message
+use Rattle.message.specs.Pauses as MessagePauses
 use Rattle.fast.specs.Laws as Fast
 use Rattle.fast.specs.Example as FastExample
 use Rattle.fast.specs.Calls as FastCalls
 use Rattle.fast.specs.Sending as FastSending
+use Rattle.fast.specs.Pauses as FastPauses
 use Rattle.catalogue.specs.Laws as Catalogue
 use Rattle.claim.specs.Laws as Claims
+use Rattle.claim.specs.Pauses as ClaimPauses
 use Rattle.nodes.specs.Laws as Nodes
 use Rattle.nodes.specs.Runs as NodesRuns
+use Rattle.nodes.specs.Pauses as NodesPauses
 use Rattle.command.specs.Laws as Command
 use Rattle.command.specs.Editions as CommandEditions
 use Rattle.faults.specs.FieldLaws as FaultsFields
@@ -33,6 +38,13 @@ use Rattle.claim.specs.declared.Claim.{Claim}
 use Rattle.nodes.specs.declared.Node.{Node}
 use Rattle.command.specs.declared.Host.{Host}
 use Rattle.command.specs.declared.Acknowledgment.{Acknowledgment}
+
+pub record WordsLaws : Type 0 where
+  pub idle-adds-up : WrongPauses.IdleAddsUp
+  pub restarts-do-not : WrongPauses.RestartsDoNot
+  pub capped-do-not : WrongPauses.CappedDoNot
+  pub wraps-do-not : WrongPauses.WrapsDoNot
+  pub places-do-not : WrongPauses.PlacesDoNot
 
 pub record FrameLaws : Type 0 where
   pub told-apart-same : Frame.ToldApartSame
@@ -132,6 +144,7 @@ pub record MessageLaws : Type 0 where
   pub splitter-splits : Message.SplitterSplits
   pub lowest-wins :
       (id : ℕ) (bytes : List ℕ) (places : List Place) (storage : List ℕ) → Message.LowestWins id bytes places storage
+  pub pauses-add-up : MessagePauses.PausesAddUp
 
 pub record FastLaws : Type 1 where
   pub starting-number-same : Fast.StartingNumberSame
@@ -167,6 +180,7 @@ pub record FastLaws : Type 1 where
   pub every-list-starts : FastCalls.EveryListStarts
   pub fast-keeps-places : FastCalls.FastKeepsPlaces
   pub fast-pauses-add : FastCalls.FastPausesAdd
+  pub pauses-add-up : FastPauses.PausesAddUp
   pub joined-by-rules : FastSending.JoinedByRules
 
 pub record CatalogueLaws : Type 0 where
@@ -292,6 +306,7 @@ pub record ClaimLaws : Type 0 where
   pub frame-is-heard : Claims.FrameIsHeard
   pub calls-are-events : Claims.CallsAreEvents
   pub lowest-wins : (id : ℕ) (bytes : List ℕ) (c : Claim) → Claims.LowestWins id bytes c
+  pub pauses-add-up : ClaimPauses.PausesAddUp
 
 pub record NodesLaws : Type 0 where
   pub told-hearing-same : Nodes.ToldHearingSame
@@ -348,6 +363,7 @@ pub record NodesLaws : Type 0 where
   pub takes-only-so : NodesRuns.TakesOnlySo
   pub challenge-entered : NodesRuns.ChallengeEntered
   pub holder-stays : NodesRuns.HolderStays
+  pub pauses-add-up : NodesPauses.PausesAddUp
 
 pub record CommandLaws : Type 0 where
   pub told-starting-same : Command.ToldStartingSame
@@ -534,6 +550,7 @@ pub record TextLaws : Type 0 where
   pub width-at-most : Text.WidthAtMost
 
 pub record EveryLaw : Type 1 where
+  pub words : WordsLaws
   pub frame : FrameLaws
   pub places : PlacesLaws
   pub message : MessageLaws

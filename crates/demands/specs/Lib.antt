@@ -4,6 +4,7 @@ pub mod SplitAndJoin
 pub mod FastBus
 pub mod FastSplitAndJoin
 pub mod ClaimsHeard
+pub mod Pauses
 pub mod EveryCall
 pub mod EveryLaw
 pub mod Demands

@@ -6,3 +6,4 @@ pub mod Laws
 pub mod Example
 pub mod KeepsPlaces
 pub mod Joined
+pub mod Pauses

@@ -10,3 +10,4 @@ pub mod Private
 pub mod Calls
 pub mod Sending
 pub mod Laws
+pub mod Pauses

@@ -1,10 +1,15 @@
 -- The ledger: each entry is the field or the line itself.
 -- Assumes nothing.
 use mathlib.Core.Path.{refl}
+use Rattle.words.specs.Pauses.{PauseCall, AddUp}
+use Rattle.message.specs.Pauses as MessagePauses
+use Rattle.fast.specs.Pauses as FastPauses
+use Rattle.claim.specs.Pauses as ClaimPauses
+use Rattle.nodes.specs.Pauses as NodesPauses
 use Rattle.demands.proofs.Demands.{demand-one, demand-two, demand-three}
 use Rattle.demands.proofs.EveryLaw.{every-law}
 use Rattle.examples.proofs.Examples.{all-as-printed}
-use Rattle.ledger.specs.Ledger.{FieldsOfOne, FieldsOfTwo, FieldsOfThree, Ledger}
+use Rattle.ledger.specs.Ledger.{FieldsOfOne, FieldsOfTwo, FieldsOfThree, FieldsOfAddUp, FieldsOfPauses, Ledger}
 
 fields-of-one : FieldsOfOne
 fields-of-one =
@@ -147,6 +152,30 @@ fields-of-three =
       fast-every-run-runs = demand-three .fast-every-run-runs;
       fast-no-place-free-at = demand-three .fast-no-place-free-at;
       fast-pause-count-at = demand-three .fast-pause-count-at;
+      pauses-add-up = demand-three .pauses-add-up;
+    }
+
+fields-of-add-up : (𝓟 : PauseCall) → AddUp 𝓟 → FieldsOfAddUp 𝓟
+fields-of-add-up 𝓟 law =
+    record {
+      two-as-one = law .two-as-one;
+      zero-keeps = law .zero-keeps;
+      refused-stays = law .refused-stays;
+      rules-last = law .rules-last;
+      others-refused = law .others-refused;
+      shops-agree = law .shops-agree;
+      every-pause-answers = law .every-pause-answers;
+      every-shop-ends = law .every-shop-ends;
+    }
+
+fields-of-pauses : FieldsOfPauses
+fields-of-pauses =
+    let laws = demand-three .pauses-add-up in
+    record {
+      long-messages = fields-of-add-up MessagePauses.pauseCall (laws .long-messages);
+      fast-packets = fields-of-add-up FastPauses.pauseCall (laws .fast-packets);
+      claim = fields-of-add-up ClaimPauses.pauseCall (laws .claim);
+      node-table = fields-of-add-up NodesPauses.pauseCall (laws .node-table);
     }
 
 pub ledger : Ledger
@@ -155,6 +184,7 @@ ledger =
       one = fields-of-one;
       two = fields-of-two;
       three = fields-of-three;
+      pauses = fields-of-pauses;
       every-law = every-law;
       lines = refl;
       as-printed = all-as-printed;

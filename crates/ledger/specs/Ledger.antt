@@ -3,11 +3,17 @@
 -- table that loses a line, no longer fits it.
 use mathlib.Core.Path.{_≡_}
 use mathlib.Core.List.{[], _∷_}
+use Rattle.words.specs.Pauses.{PauseCall}
+use Rattle.words.specs.Pauses as Pauses
 use Rattle.frame.specs.Laws as Frame
 use Rattle.message.specs.Laws as Message
 use Rattle.fast.specs.Laws as Fast
 use Rattle.fast.specs.Calls as FastCalls
 use Rattle.fast.specs.Sending as FastSending
+use Rattle.message.specs.Pauses as MessagePauses
+use Rattle.fast.specs.Pauses as FastPauses
+use Rattle.claim.specs.Pauses as ClaimPauses
+use Rattle.nodes.specs.Pauses as NodesPauses
 use Rattle.catalogue.specs.Laws as Catalogue
 use Rattle.claim.specs.Laws as Claim
 use Rattle.nodes.specs.Laws as Nodes
@@ -26,6 +32,7 @@ use Rattle.demands.specs.SplitAndJoin.{SplitAndJoin, JoinedByRules}
 use Rattle.demands.specs.FastBus as FastBus
 use Rattle.demands.specs.FastSplitAndJoin as FastSplitAndJoin
 use Rattle.demands.specs.ClaimsHeard.{ClaimIsHeard}
+use Rattle.demands.specs.Pauses.{PausesAddUp}
 use Rattle.examples.specs.Examples.{dmRv, eightAnnounced, nineAnnounced, eightSplit, nineSplit, longestAnnounced}
 use Rattle.examples.specs.Examples.{longerAnnounced, longestSplit, longerSplit, wrongCount, idleKept, idleClosed}
 use Rattle.examples.specs.Examples.{ninthSender, longMessage, lastNumber, firstReserved, zeroAmperes, lowestCelsius}
@@ -164,6 +171,25 @@ pub record FieldsOfThree : Type 0 where
   pub fast-every-run-runs : FastBus.EveryRunRuns
   pub fast-no-place-free-at : FastBus.NoPlaceFreeAt
   pub fast-pause-count-at : FastBus.PauseCountAt
+  pub pauses-add-up : PausesAddUp
+
+-- Of the pauses of one part, and of the parts that have them.
+
+pub record FieldsOfAddUp (𝓟 : PauseCall) : Type 0 where
+  pub two-as-one : Pauses.TwoAsOne 𝓟
+  pub zero-keeps : Pauses.ZeroKeeps 𝓟
+  pub refused-stays : Pauses.RefusedStays 𝓟
+  pub rules-last : Pauses.RulesLast 𝓟
+  pub others-refused : Pauses.OthersRefused 𝓟
+  pub shops-agree : Pauses.ShopsAgree 𝓟
+  pub every-pause-answers : Pauses.EveryPauseAnswers 𝓟
+  pub every-shop-ends : Pauses.EveryShopEnds 𝓟
+
+pub record FieldsOfPauses : Type 0 where
+  pub long-messages : FieldsOfAddUp MessagePauses.pauseCall
+  pub fast-packets : FieldsOfAddUp FastPauses.pauseCall
+  pub claim : FieldsOfAddUp ClaimPauses.pauseCall
+  pub node-table : FieldsOfAddUp NodesPauses.pauseCall
 
 abbrev pub LinesOfTable : Type 0
 LinesOfTable =
@@ -176,6 +202,7 @@ pub record Ledger : Type 2 where
   pub one : FieldsOfOne
   pub two : FieldsOfTwo
   pub three : FieldsOfThree
+  pub pauses : FieldsOfPauses
   pub every-law : EveryLaw
   pub lines : LinesOfTable
   pub as-printed : AllAsPrinted

@@ -7,3 +7,4 @@ pub mod Promises
 pub mod Private
 pub mod Calls
 pub mod Laws
+pub mod Pauses

@@ -16,3 +16,4 @@ pub mod Shown
 pub mod Runs
 pub mod Challenge
 pub mod Laws
+pub mod Pauses

@@ -125,15 +125,15 @@ every-sentence claim a n s =
 -- ---- a pause
 
 module _ (ms : ℕ) (n : Node) where
-  counts-none : isChallenged n ≡ false → isReplaced ms n ≡ false
+  pub counts-none : isChallenged n ≡ false → isReplaced ms n ≡ false
   unfolding isReplaced
   counts-none e = rw e
 
-  counts-waiting : isChallenged n ≡ true → n .wait + ms < takesAfter → isReplaced ms n ≡ false
+  pub counts-waiting : isChallenged n ≡ true → n .wait + ms < takesAfter → isReplaced ms n ≡ false
   unfolding isReplaced
   counts-waiting e l = rw (e, lt-leb _ _ l)
 
-  counts-one : isChallenged n ≡ true → takesAfter ≤ n .wait + ms → isReplaced ms n ≡ true
+  pub counts-one : isChallenged n ≡ true → takesAfter ≤ n .wait + ms → isReplaced ms n ≡ true
   unfolding isReplaced
   counts-one e l = rw (e, le-leb _ _ l)
 

@@ -606,7 +606,7 @@ module _ (ms : ℕ) (n : Node) where
   unfolding pausedAt
   paused-takes e l = rw (e, le-ltb _ _ l)
 
-  still-challenged : isChallenged n ≡ true → (w : ℕ) → isChallenged (challenged (n .challenger) w n) ≡ true
+  pub still-challenged : isChallenged n ≡ true → (w : ℕ) → isChallenged (challenged (n .challenger) w n) ≡ true
   unfolding isChallenged
   still-challenged e w = e
 

@@ -5,3 +5,4 @@ pub mod Promises
 pub mod Private
 pub mod Laws
 pub mod Runs
+pub mod Pauses
