@@ -24,6 +24,7 @@ use Rattle.faults.proofs.Waiting as FaultsWaiting
 use Rattle.faults.proofs.Longest as FaultsLongest
 use Rattle.faults.proofs.Played as FaultsPlayed
 use Rattle.capture.proofs.Laws as Capture
+use Rattle.network.proofs.Laws as Network
 use Rattle.capture.proofs.Feeding as Feeding
 use Rattle.demands.specs.Demands.{DemandOne, DemandTwo, DemandThree}
 use Rattle.demands.proofs.EveryCall.{every-call}
@@ -93,6 +94,14 @@ demand-two =
       fast-split-and-join = FastSplitAndJoin.split-and-join;
       fast-joined-by-rules = FastJoined.joined-by-rules;
       claim-is-heard = ClaimsHeard.claim-is-heard;
+      no-two = Network.no-two;
+      last-word = Network.last-word;
+      few-claims = Network.few-claims;
+      few-deliveries = Network.few-deliveries;
+      delivers-on = Network.delivers-on;
+      comes-to-rest = Network.comes-to-rest;
+      held-at-last = Network.held-at-last;
+      table-agrees = Network.table-agrees;
       nodes-run = NodesRuns.run-by-record;
       nodes-every-run-runs = NodesRuns.every-run-runs;
       challenge-waits = NodesChallenge.challenge-waits;

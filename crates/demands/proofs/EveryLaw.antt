@@ -46,9 +46,10 @@ use Rattle.capture.proofs.Feeding as CaptureFeeding
 use Rattle.capture.proofs.Laws as Capture
 use Rattle.capture.proofs.Runs as CaptureRuns
 use Rattle.text.proofs.Laws as Text
+use Rattle.network.proofs.Laws as Network
 use Rattle.demands.specs.EveryLaw.{EveryLaw, WordsLaws, FrameLaws, FormatLaws, CallLaws, PlacesLaws, MessageLaws}
 use Rattle.demands.specs.EveryLaw.{FastLaws, CatalogueLaws, ClaimLaws, NodesLaws, CommandLaws, FaultsLaws}
-use Rattle.demands.specs.EveryLaw.{CaptureLaws, TextLaws}
+use Rattle.demands.specs.EveryLaw.{CaptureLaws, TextLaws, NetworkLaws}
 
 words-laws : WordsLaws
 words-laws =
@@ -596,6 +597,26 @@ text-laws =
       width-at-most = Text.width-at-most;
     }
 
+network-laws : NetworkLaws
+network-laws =
+    record {
+      no-two = Network.no-two;
+      last-word = Network.last-word;
+      few-claims = Network.few-claims;
+      few-deliveries = Network.few-deliveries;
+      delivers-on = Network.delivers-on;
+      comes-to-rest = Network.comes-to-rest;
+      every-act-can = Network.every-act-can;
+      held-at-last = Network.held-at-last;
+      no-two-in-any-order = Network.no-two-in-any-order;
+      table-agrees = Network.table-agrees;
+      names-differ = Network.names-differ;
+      none-lost = Network.none-lost;
+      start-first = Network.start-first;
+      one-order = Network.one-order;
+      own-order = Network.own-order;
+    }
+
 pub every-law : EveryLaw
 every-law =
     record {
@@ -611,4 +632,5 @@ every-law =
       faults = faults-laws;
       capture = capture-laws;
       text = text-laws;
+      network = network-laws;
     }

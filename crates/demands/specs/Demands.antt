@@ -14,6 +14,8 @@ use Rattle.faults.specs.FieldLaws as FaultsFields
 use Rattle.faults.specs.Laws as Faults
 use Rattle.faults.specs.Runs as FaultsRuns
 use Rattle.capture.specs.Laws as Capture
+use Rattle.network.specs.Laws as Network
+use Rattle.network.specs.Listener as NetworkListener
 use Rattle.demands.specs.EveryCall.{EveryCall}
 use Rattle.demands.specs.BusyBus.{BusyBus, OpenOnBus, ToldOnBus, NoPlaceFree, PauseCount, SumsOfPauses, StartKept}
 use Rattle.demands.specs.BusyBus.{RulesKept, EveryRunRuns, NoPlaceFreeAt, PauseCountAt}
@@ -93,6 +95,16 @@ pub record DemandTwo : Type 0 where
   pub fast-joined-by-rules : FastSending.JoinedByRules
   -- claims: what one node sends, another's table takes for that claim
   pub claim-is-heard : ClaimIsHeard
+  -- a network of nodes on one bus: at rest no two have one address, whoever has one having the last word on it; it comes
+  -- to rest, and each node then holds an address or is silent; and a listener's table shows just those that have one
+  pub no-two : Network.NoTwo
+  pub last-word : Network.LastWord
+  pub few-claims : Network.FewClaims
+  pub few-deliveries : Network.FewDeliveries
+  pub delivers-on : Network.DeliversOn
+  pub comes-to-rest : Network.ComesToRest
+  pub held-at-last : Network.HeldAtLast
+  pub table-agrees : NetworkListener.TableAgrees
   -- the node table: a run of calls makes of each record what the claims and pauses make of it, and a challenger takes
   -- its record just when the rules say so
   pub nodes-run : NodesRuns.RunByRecord

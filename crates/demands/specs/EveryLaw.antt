@@ -31,6 +31,10 @@ use Rattle.faults.specs.Runs as FaultsRuns
 use Rattle.capture.specs.Laws as Capture
 use Rattle.capture.specs.Runs as CaptureRuns
 use Rattle.text.specs.Laws as Text
+use Rattle.network.specs.Laws as Network
+use Rattle.network.specs.AnyOrder as NetworkAnyOrder
+use Rattle.network.specs.Listener as NetworkListener
+use Rattle.network.specs.Needed as NetworkNeeded
 use Rattle.message.specs.declared.Place.{Place}
 use Rattle.catalogue.specs.declared.Row.{Row}
 use Rattle.catalogue.specs.declared.Value.{Value}
@@ -549,6 +553,23 @@ pub record TextLaws : Type 0 where
   pub no-leading-zeros : Text.NoLeadingZeros
   pub width-at-most : Text.WidthAtMost
 
+pub record NetworkLaws : Type 0 where
+  pub no-two : Network.NoTwo
+  pub last-word : Network.LastWord
+  pub few-claims : Network.FewClaims
+  pub few-deliveries : Network.FewDeliveries
+  pub delivers-on : Network.DeliversOn
+  pub comes-to-rest : Network.ComesToRest
+  pub every-act-can : Network.EveryActCan
+  pub held-at-last : Network.HeldAtLast
+  pub no-two-in-any-order : NetworkAnyOrder.NoTwoInAnyOrder
+  pub table-agrees : NetworkListener.TableAgrees
+  pub names-differ : NetworkNeeded.NamesDiffer
+  pub none-lost : NetworkNeeded.NoneLost
+  pub start-first : NetworkNeeded.StartFirst
+  pub one-order : NetworkNeeded.OneOrder
+  pub own-order : NetworkNeeded.OwnOrder
+
 pub record EveryLaw : Type 1 where
   pub words : WordsLaws
   pub frame : FrameLaws
@@ -562,3 +583,4 @@ pub record EveryLaw : Type 1 where
   pub faults : FaultsLaws
   pub capture : CaptureLaws
   pub text : TextLaws
+  pub network : NetworkLaws

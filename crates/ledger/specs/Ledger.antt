@@ -24,6 +24,8 @@ use Rattle.faults.specs.FieldLaws as FaultsFields
 use Rattle.faults.specs.Laws as Faults
 use Rattle.faults.specs.Runs as FaultsRuns
 use Rattle.capture.specs.Laws as Capture
+use Rattle.network.specs.Laws as Network
+use Rattle.network.specs.Listener as NetworkListener
 use Rattle.demands.specs.EveryCall.{EveryCall}
 use Rattle.demands.specs.EveryLaw.{EveryLaw}
 use Rattle.demands.specs.BusyBus.{BusyBus, OpenOnBus, ToldOnBus, NoPlaceFree, PauseCount, SumsOfPauses, StartKept}
@@ -93,6 +95,14 @@ pub record FieldsOfTwo : Type 0 where
   pub fast-split-and-join : FastSplitAndJoin.SplitAndJoin
   pub fast-joined-by-rules : FastSending.JoinedByRules
   pub claim-is-heard : ClaimIsHeard
+  pub no-two : Network.NoTwo
+  pub last-word : Network.LastWord
+  pub few-claims : Network.FewClaims
+  pub few-deliveries : Network.FewDeliveries
+  pub delivers-on : Network.DeliversOn
+  pub comes-to-rest : Network.ComesToRest
+  pub held-at-last : Network.HeldAtLast
+  pub table-agrees : NetworkListener.TableAgrees
   pub nodes-run : NodesRuns.RunByRecord
   pub nodes-every-run-runs : NodesRuns.EveryRunRuns
   pub challenge-waits : NodesRuns.ChallengeWaits

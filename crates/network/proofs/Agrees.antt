@@ -11,23 +11,19 @@ use borrow.Author.Tests.{eq-eqb, ne-eqb, ltb-true, ltb-false}
 use lib.ListN.{length, getD, take}
 use Rattle.words.specs.Words.{if_then_else_, _=?_, _<?_, gives}
 use Rattle.words.proofs.Words.{by-test, true-false}
-use Rattle.frame.specs.Bytes.{numberOf, bytesOf}
+use Rattle.frame.specs.Bytes.{bytesOf}
 use Rattle.frame.specs.Frame.{frameBytes, checkedOf, sourceAllowed}
 use Rattle.frame.specs.Identifier.{identifierOf, sourceOf}
 use Rattle.frame.specs.Standard.{claimDgn, noAddress, greatestAddress}
-use Rattle.frame.specs.declared.Parts.{Parts}
 use Rattle.frame.proofs.Sent.{formed-checked}
 use Rattle.frame.proofs.Laws.{number-back}
 use Rattle.frame.proofs.Bytes.{length-bytes}
 use Rattle.claim.specs.Claim.{claimPriority, address, claimSource}
-use Rattle.claim.specs.declared.Claim.{Claim}
-use Rattle.nodes.specs.Table.{addresses, absent, held, isChallenged, stands, keepsRules}
-use Rattle.nodes.specs.Call.{holder, nobody, holderOf, noRival, rivalOf, lookedUpOf, challengerOf}
-use Rattle.nodes.specs.Promises.{Empty, LookUp, FindChallenger}
-use Rattle.nodes.specs.Runs.{Said, claims, saidOf, saidIn, saidBy, hearing, recordAfterAll, Sound, RunLeft}
-use Rattle.nodes.specs.Runs as Table
+use Rattle.nodes.specs.Table.{addresses, absent, held, isChallenged, stands}
+use Rattle.nodes.specs.Call.{holder, nobody, holderOf, lookedUpOf}
+use Rattle.nodes.specs.Promises.{FindChallenger}
+use Rattle.nodes.specs.Runs.{Said, claims, saidOf, saidBy, hearing, recordAfterAll, Sound, RunLeft}
 use Rattle.nodes.specs.declared.Node as Record
-use Rattle.nodes.specs.declared.LookedUp.the-variants.{Present, Absent}
 use Rattle.nodes.specs.declared.FoundChallenger.the-variants.{NoChallenger}
 use Rattle.nodes.proofs.Sound.{stands-holder, has-name-of, of-zero}
 use Rattle.nodes.proofs.Blank.{empty-keeps-rules, absent-at}
@@ -39,11 +35,11 @@ use Rattle.network.specs.Network.{Sent, Node, off, on, Network, nodeAt, 
 use Rattle.network.specs.Laws.{At, AtRest, lastBy}
 use Rattle.network.specs.Listener.{InTurn, saidOn, claimsIn, Listened, Shows, TableAgrees}
 use Rattle.network.proofs.Lists.{equal-or, In, in-left}
-use Rattle.network.proofs.Moves.{mine, Known, known-source, Kept, kept-on, on-here, source-low, source-silent}
+use Rattle.network.proofs.Moves.{mine, Known, known-source, kept-on, on-here, source-low, source-silent}
 use Rattle.network.proofs.Moves.{source-awake}
 use Rattle.network.proofs.NoTwo.{Held-so, run-so, at-here, here-at, no-two, last-word}
-use Rattle.network.proofs.Lowest.{Lowest, lowest, explained-run}
-use Rattle.network.proofs.Turn.{lastFrom, Last, AllLast, last-run}
+use Rattle.network.proofs.Lowest.{lowest, explained-run}
+use Rattle.network.proofs.Turn.{lastFrom, Last, last-run}
 use Rattle.network.proofs.Record.{whoSaid, fromWhere, NoneBelow, who-claims, from-claims, below-claims, holder-is}
 use Rattle.network.proofs.Record.{shown-came, record-facts}
 

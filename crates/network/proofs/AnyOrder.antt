@@ -2,31 +2,28 @@
 -- way to the other: who comes second claims it; who reads the other's claim goes away, or claims again.
 -- Assumes nothing.
 use mathlib.Core.Path.{_≡_, refl, sym, ap, _∙_}
-use mathlib.Core.Bool.{Bool, true, false}
+use mathlib.Core.Bool.{true, false}
 use mathlib.Core.List.{List, [], _∷_, _++_}
 use mathlib.Core.Logic.{_⊎_, inl, inr}
-use Prim.Native.Nat.{ℕ, _≤_, _<_}
+use Prim.Native.Nat.{ℕ, _<_}
 use native.Mathlib.Omega.{arith}
 use borrow.Author.Tests.{eq-eqb, ne-eqb}
 use lib.ListN.{length, take, drop}
-use Rattle.words.specs.Words.{if_then_else_, _=?_, Told, refused, gives, done}
-use Rattle.words.proofs.Words.{by-test, true-false, both-true}
+use Rattle.words.proofs.Words.{by-test, true-false}
 use Rattle.frame.specs.Identifier.{sourceOf}
 use Rattle.claim.specs.Candidates.{isWellFormed}
-use Rattle.claim.specs.Claim.{keepsRules, holdsList, address, claimSource, begun, Outcome, outcomeOf, after, isSent, pause}
+use Rattle.claim.specs.Claim.{address, begun, Outcome, outcomeOf, after, isSent, pause}
 use Rattle.claim.specs.Claim as Machine
-use Rattle.claim.specs.Promises.{Start, Hear, Pause, OurClaim, toldStarting, toldHearing, toldSending, startedOf, isSentTold}
+use Rattle.claim.specs.Promises.{Start, Hear, toldStarting, toldHearing, isSentTold}
 use Rattle.claim.specs.Promises.{isSound}
 use Rattle.claim.specs.declared.Claim.{Claim}
 use Rattle.claim.specs.declared.Started.{Started}
 use Rattle.claim.specs.declared.Heard.{Heard}
-use Rattle.claim.specs.declared.Paused.{Paused}
-use Rattle.claim.specs.declared.ClaimFrame.{ClaimFrame}
 use Rattle.claim.proofs.Outcomes.{Went, deaf, apart, same, wins, goes, ends, went}
 use Rattle.claim.proofs.Machine.{node-after, node-paused}
-use Rattle.network.specs.Network.{Sent, nameOf, Differ, Fit, sentIf, isOurs}
+use Rattle.network.specs.Network.{Sent, nameOf, Differ, Fit, sentIf}
 use Rattle.network.specs.AnyOrder.{Node, off, on, Nodes, fresh, reached, becomes, startedBy, Step, start, hear, Ran}
-use Rattle.network.specs.AnyOrder.{no-step, a-step, AtRest, At, NoTwoInAnyOrder}
+use Rattle.network.specs.AnyOrder.{no-step, a-step, NoTwoInAnyOrder}
 use Rattle.network.specs.AnyOrder as The
 use Rattle.network.proofs.Lists.{equal-or, In, in-left, in-right, in-either, in-head, in-rest, in-back}
 use Rattle.network.proofs.Moves.{mine, mine-source, Known, known-source, tells, source-low, source-awake}
@@ -108,6 +105,7 @@ kept-becomes names w i s out v f g m = record { keeps = keeps′; meet = meet′
         equal-or j i
         (λ e. rw (eq-eqb j i e, e) g)
         (λ n. rw (ne-eqb j i n) (keeps-more names out j (w j) f (v .keeps j)))
+
     meet′ : (j k : ℕ) → (j ≡ k → ⊥) → Meet names j (becomes i s out w j) k (becomes i s out w k)
     meet′ j k d =
         equal-or j i
@@ -270,12 +268,16 @@ no-two-in-any-order names w differ fit r rest i j a p q =
   where
     v : Kept names w
     v = kept-run names differ fit fresh w r (record { keeps = λ i. tt; meet = λ i j n. tt })
+
     at-i : (p .claim .silent ≡ false) × (address (p .claim) ≡ a)
     at-i = at-of (p .claim) (kept-on names w i (p .claim) (p .unread) v (p .started) .sound) a (p .stands)
+
     at-j : (q .claim .silent ≡ false) × (address (q .claim) ≡ a)
     at-j = at-of (q .claim) (kept-on names w j (q .claim) (q .unread) v (q .started) .sound) a (q .stands)
+
     met : (i ≡ j → ⊥) → Meet names i (on (p .claim) (p .unread)) j (on (q .claim) (q .unread))
     met n = rw (p .started, q .started) at (v .meet i j n)
+
     go : In (mine names i (address (p .claim))) (q .unread) ⊎ In (mine names j (address (q .claim))) (p .unread) → ⊥
     go (inl h) = rw (rest j (q .claim) (q .unread) (q .started)) at h
     go (inr h) = rw (rest i (p .claim) (p .unread) (p .started)) at h

@@ -5,12 +5,12 @@ use mathlib.Core.Path.{_≡_, refl, sym, ap, _∙_}
 use mathlib.Core.Bool.{true, false}
 use mathlib.Core.List.{List, [], _∷_}
 use mathlib.Core.Logic.{_⊎_, inl, inr}
-use Prim.Native.Nat.{ℕ, zero, suc, _+_, _*_, _^_, _≤_, _<_}
+use Prim.Native.Nat.{ℕ, zero, suc, _+_, _^_, _≤_, _<_}
 use native.Mathlib.Nat.{pow-suc}
 use native.Mathlib.Omega.{arith}
-use borrow.Author.Tests.{eq-eqb, ne-eqb, lt-ltb, le-ltb, eqb-true, eqb-false, ltb-true, ltb-false}
+use borrow.Author.Tests.{ne-eqb, lt-ltb, le-ltb, eqb-true, eqb-false, ltb-true, ltb-false}
 use lib.ListN.{length, getD}
-use lib.Pow.{pow-pos}
+use lib.Pow.{pow-pos, pow-mono}
 use Rattle.words.specs.Words.{if_then_else_, _<?_, _=?_}
 use Rattle.words.proofs.Words.{by-test}
 use Rattle.network.specs.Network.{Differ}
@@ -152,3 +152,16 @@ total-less names d n f =
     let r = all-lower names names n f in
     let e = cost-all names n (r .1) in
     rw (← e, ← r .0) (lower-less names d n)
+
+-- a claim of whichever NAME costs at most that much
+
+below-most : (ns : List ℕ) (n : ℕ) → below ns n ≤ length ns
+below-most [] n = omega arith
+below-most (m ∷ ns) n =
+    by-test (m <? n)
+    (λ t. rw t (omega (arith, below-most ns n)))
+    (λ t. rw t (omega (arith, below-most ns n)))
+
+pub cost-most : (names : List ℕ) (n : ℕ) → cost names n ≤ 2 ^ length names
+unfolding cost
+cost-most names n = pow-mono (below-most names n)

@@ -2,54 +2,35 @@
 -- next one, whatever it is.
 -- Assumes nothing.
 use mathlib.Core.Path.{_≡_, refl, sym, ap, _∙_}
-use mathlib.Core.List.{List, [], _∷_}
+use mathlib.Core.Bool.{true}
+use mathlib.Core.List.{List, [], _∷_, _++_}
 use mathlib.Core.Logic.{_⊎_, inl, inr}
-use Prim.Native.Nat.{ℕ, zero, suc, _≤_, _<_}
+use Prim.Native.Nat.{ℕ, zero, suc, _+_, _*_, _≤_, _<_}
 use native.Mathlib.Decide.{decLt}
 use native.Mathlib.Omega.{arith}
-use lib.ListN.{length, getD, take, drop, length-drop, drop-of-length-le}
+use lib.ListN.{length, getD, drop, length-drop, drop-of-length-le}
 use Rattle.words.specs.Words.{gives}
-use Rattle.claim.specs.Claim.{Outcome, nothingToDo, ownName, repeated, moved, fellSilent, outcomeOf}
-use Rattle.claim.specs.Promises.{Hear, heardOf, toldHearing, afterTold, frameSent}
+use Rattle.words.proofs.Words.{both-true}
+use Rattle.claim.specs.Claim.{outcomeOf, keepsRules, holdsList}
+use Rattle.claim.specs.Claim.{claimId, claimBytes, pause}
+use Rattle.claim.specs.Promises.{Pause, OurClaim, heardOf, isSound}
 use Rattle.claim.specs.declared.Claim.{Claim}
-use Rattle.claim.specs.declared.Heard.{Heard}
-use Rattle.claim.specs.declared.Hearing.{Hearing}
-use Rattle.claim.specs.declared.Hearing.the-variants as Hearing
+use Rattle.claim.specs.declared.Paused.{Paused}
+use Rattle.claim.specs.declared.Pausing.the-variants as Pausing
+use Rattle.claim.specs.declared.ClaimFrame.{ClaimFrame}
+use Rattle.claim.specs.declared.Sending.the-variants as Sending
+use Rattle.claim.proofs.Calls.{sound-well}
 use Rattle.claim.proofs.Laws.{frame-is-heard}
-use Rattle.network.specs.Network.{Sent, Node, off, on, Network, nodeAt, nameOf, Fit, Act, comes, reads, Step, come}
-use Rattle.network.specs.Network.{hear, pass}
-use Rattle.network.specs.Laws.{AtRest, deliveries, DeliversOn}
+use Rattle.network.specs.Network.{Sent, Node, off, on, Network, nodeAt, nameOf, Differ, Fit, fresh, Act, starts}
+use Rattle.network.specs.Network.{comes, reads, pauses, asked, Step, start, come, hear, pass, Ran, no-act, an-act}
+use Rattle.network.specs.Network as The
+use Rattle.network.specs.Laws.{AtRest, asks, asksIn, mostClaims, deliveries, deliveriesIn, DeliversOn}
+use Rattle.network.specs.Laws.{DeliversOnly, ComesToRest, EveryActCan}
 use Rattle.network.proofs.Lists.{equal-or, in-left, in-head}
-use Rattle.network.proofs.Moves.{Known, Kept, kept-on}
+use Rattle.network.proofs.Moves.{Kept, kept-on}
 use Rattle.network.proofs.NoTwo.{run-so}
-
--- a call answers every frame of a network
-
-answerOf : Outcome → Hearing
-answerOf nothingToDo = Hearing.NothingToDo
-answerOf ownName = Hearing.OwnName
-answerOf repeated = Hearing.SendClaimAgain
-answerOf moved = Hearing.SendNextClaim
-answerOf fellSilent = Hearing.SendCannotClaim
-
-answer-told : (o : Outcome) → toldHearing (answerOf o) ≡ gives o
-unfolding answerOf
-answer-told nothingToDo = refl
-answer-told ownName = refl
-answer-told repeated = refl
-answer-told moved = refl
-answer-told fellSilent = refl
-
-heard-some : (id : ℕ) (bytes : List ℕ) (c : Claim) (o : Outcome) → heardOf id bytes c ≡ gives o → (r : Heard) × Hear id bytes c r
-heard-some id bytes c o e = (
-  record {
-    claim = afterTold (heardOf id bytes c) c;
-    answer = answerOf o;
-    id = frameSent (heardOf id bytes c) c .id;
-    bytes = frameSent (heardOf id bytes c) c .bytes;
-  },
-  record { answer = answer-told o ∙ sym e; state = refl; sent-id = refl; sent-bytes = refl },
-)
+use Rattle.network.proofs.Few.{few-deliveries}
+use Rattle.network.proofs.Play.{startOf, start-is, isGiven, heardBy, heard-is}
 
 -- a node that has not read the whole bus, or none
 
@@ -104,8 +85,7 @@ module _ (names : List ℕ) (fit : Fit names) (w : Network) (v : Kept names w) w
         let h : heardOf (x .id) (x .bytes) c ≡ gives (outcomeOf (y .source) (nameOf names (x .by)) c) =
         ap (λ (s : Sent). heardOf (s .id) (s .bytes) c) (y .is)
         ∙ frame-is-heard (y .source) (nameOf names (x .by)) c (y .low) (fit (x .by) (y .one-of-us)) (kept-on names w i c k v e .sound) in
-        let r = heard-some (x .id) (x .bytes) c (outcomeOf (y .source) (nameOf names (x .by)) c) h in
-        (reads i, _, refl, hear w i c k x rest (r .0) e d n (r .1))
+        (reads i, _, refl, hear w i c k x rest (heardBy x c) e d n (heard-is x c (ap isGiven h)))
 
     reading : Delivery names w
     reading = equal-or (x .by) i (λ b. (reads i, _, refl, pass w i c k x rest e d b)) read-other
@@ -133,3 +113,90 @@ module _ (names : List ℕ) (fit : Fit names) (w : Network) (v : Kept names w) w
 
 pub delivers-on : DeliversOn
 delivers-on names acts w differ fit r = delivers names fit w (run-so names acts w differ fit r .kept)
+
+-- ---- so deliveries lead to rest, as there are only so many
+
+step-one : (names : List ℕ) (w v : Network) (act : Act) → Step names w act v → Ran names w (act ∷ []) v
+step-one names w v act s = an-act w v v act [] s (no-act v)
+
+run-more : (names : List ℕ) (w v end : Network) (acts more : List Act) → Ran names w acts v → Ran names v more end
+    → Ran names w (acts ++ more) end
+run-more names w v end acts more (no-act w′) r = r
+run-more names w v end acts more (an-act w′ u e act rest s q) r =
+    an-act w u end act (rest ++ more) s (run-more names u v end rest more q r)
+
+delivered-more : (acts : List Act) (act : Act) → deliveries act ≡ 1
+    → (deliveriesIn (acts ++ (act ∷ [])) ≡ deliveriesIn acts + 1) × (asksIn (acts ++ (act ∷ [])) ≡ asksIn acts)
+delivered-more [] act e = (omega (arith, e), go act e)
+  where
+    go : (a : Act) → deliveries a ≡ 1 → asks a + 0 ≡ 0
+    go (starts i list older) q = absurd (omega (arith, q))
+    go (comes n) q = omega arith
+    go (reads i) q = omega arith
+    go (pauses i ms) q = absurd (omega (arith, q))
+    go (asked i) q = absurd (omega (arith, q))
+delivered-more (a ∷ acts) act e =
+    let h = delivered-more acts act e in
+    (omega (arith, h .0), omega (arith, h .1))
+
+module _ (names : List ℕ) (differ : Differ names) (fit : Fit names) where
+  abbrev Rest : Network → Type 0
+  Rest w = (more : List Act) × (v : Network) × DeliversOnly more × Ran names w more v × AtRest v
+
+  rests : (fuel : ℕ) (acts : List Act) (w : Network) → Ran names (fresh names) acts w
+      → (length names + 1) * mostClaims (length names) (asksIn acts) ≤ deliveriesIn acts + fuel → Rest w
+  rests zero acts w r h = go (delivers-on names acts w differ fit r)
+    where
+      go : AtRest w ⊎ Delivery names w → Rest w
+      go (inl q) = ([], w, tt, no-act w, q)
+      go (inr q) =
+          let m = delivered-more acts (q .0) (q .2) in
+          let f = few-deliveries names (acts ++ (q .0 ∷ [])) (q .1) differ fit
+          (run-more names (fresh names) w (q .1) acts (q .0 ∷ []) r (step-one names w (q .1) (q .0) (q .3))) in
+          let g = rw (m .1) at f in
+          absurd (omega (arith, g, m .0, h))
+  rests (suc fuel) acts w r h = go (λ a v q l. rests fuel a v q l) (delivers-on names acts w differ fit r)
+    where
+      go : ((a : List Act) (v : Network) → Ran names (fresh names) a v
+          → (length names + 1) * mostClaims (length names) (asksIn a) ≤ deliveriesIn a + fuel → Rest v)
+          → AtRest w ⊎ Delivery names w → Rest w
+      go again (inl q) = ([], w, tt, no-act w, q)
+      go again (inr q) =
+          let m = delivered-more acts (q .0) (q .2) in
+          let z = again (acts ++ (q .0 ∷ [])) (q .1)
+          (run-more names (fresh names) w (q .1) acts (q .0 ∷ []) r (step-one names w (q .1) (q .0) (q .3)))
+          (rw (m .1) (omega (arith, m .0, h))) in
+          (q .0 ∷ z .0, z .1, (q .2, z .2), an-act w (q .1) (z .1) (q .0) (z .0) (q .3) (z .3), z .4)
+
+pub comes-to-rest : ComesToRest
+comes-to-rest names acts w differ fit r =
+    rests names differ fit ((length names + 1) * mostClaims (length names) (asksIn acts)) acts w r (omega arith)
+
+-- ---- and what else may happen can happen
+
+pausing-some : (ms : ℕ) (c : Claim) → isSound c ≡ true → (r : Paused) × Pause ms c r
+pausing-some ms c s =
+    let b = both-true (keepsRules c) (holdsList c) s in (
+      record { claim = pause ms c; answer = Pausing.Waited },
+      record { answer = sym (sound-well c (b .0) (b .1) .0); state = rw s refl },
+    )
+
+claim-some : (c : Claim) → isSound c ≡ true → (r : ClaimFrame) × OurClaim c r
+claim-some c s =
+    let b = both-true (keepsRules c) (holdsList c) s in (
+      record { answer = Sending.Frame; id = claimId c; bytes = claimBytes c },
+      record { answer = sym (sound-well c (b .0) (b .1) .0); sent-id = rw s refl; sent-bytes = rw s refl },
+    )
+
+pub every-act-can : EveryActCan
+every-act-can names acts w differ fit r =
+    record {
+      start = λ i list older h e.
+          (_, start w i list older (startOf (nameOf names i) list) (omega (arith, h, v .many)) e (start-is (nameOf names i) list));
+      pause = λ i ms c k e.
+          let p = pausing-some ms c (kept-on names w i c k v e .sound) in (_, The.pause w i ms c k (p .0) e (p .1));
+      ask = λ i c k e. let p = claim-some c (kept-on names w i c k v e .sound) in (_, The.ask w i c k (p .0) e (p .1));
+    }
+  where
+    v : Kept names w
+    v = run-so names acts w differ fit r .kept

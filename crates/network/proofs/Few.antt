@@ -4,31 +4,28 @@
 use mathlib.Core.Path.{_≡_, refl, sym, ap, _∙_}
 use mathlib.Core.Bool.{Bool, true, false}
 use mathlib.Core.List.{List, [], _∷_, _++_, map}
-use mathlib.Core.Logic.{_⊎_, inl, inr}
 use Prim.Native.Nat.{ℕ, zero, suc, _+_, _-_, _*_, _^_, _≤_, _<_}
-use native.Mathlib.Nat.{mul-suc, mul-le-mul-left, mul-comm}
-use native.Mathlib.Decide.{decLt}
+use native.Mathlib.Nat.{mul-suc, mul-add, mul-le-mul-left, mul-comm}
 use native.Mathlib.Omega.{arith}
 use borrow.Author.Tests.{lt-ltb}
-use lib.ListN.{length, getD, set, take, drop, length-append, length-drop, drop-of-length-le}
+use lib.ListN.{length, getD, set, take, drop, length-append}
 use lib.Seq.{drop-append-le}
 use Rattle.words.specs.Words.{if_then_else_, _<?_}
 use Rattle.words.proofs.Words.{by-test, both-true}
 use Rattle.frame.specs.Frame.{frameBytes}
-use Rattle.claim.specs.Candidates.{isWellFormed}
 use Rattle.claim.specs.Claim.{begun, Outcome, outcomeOf, after, isSent, pause}
 use Rattle.claim.specs.Claim as Machine
 use Rattle.claim.specs.declared.Claim.{Claim}
 use Rattle.claim.proofs.Candidates.{well-formed}
 use Rattle.claim.proofs.Sound.{rules-of, pause-silent, pause-awake}
 use Rattle.claim.proofs.Outcomes.{Went, deaf, apart, same, wins, goes, ends, went}
-use Rattle.network.specs.Network.{Sent, Node, off, on, Network, nodeAt, nameOf, Differ, Fit, fresh, Act, starts}
-use Rattle.network.specs.Network.{comes, reads, pauses, asked, becomes, Ran, no-act, an-act}
-use Rattle.network.specs.Laws.{Unasked, mostClaims, FewClaims, deliveries, deliveriesIn, FewDeliveries}
+use Rattle.network.specs.Network.{Sent, Node, off, on, Network, nodeAt, nameOf, Differ, Fit, fresh, Act}
+use Rattle.network.specs.Network.{becomes, Ran, no-act, an-act}
+use Rattle.network.specs.Laws.{asks, asksIn, mostClaims, FewClaims, deliveries, deliveriesIn, FewDeliveries}
 use Rattle.network.proofs.Lists.{drop-next}
-use Rattle.network.proofs.Moves.{Known, Keeps, Kept, kept-on, on-here, tells, Move, refuses, begins, comes-on, hears}
+use Rattle.network.proofs.Moves.{Keeps, Kept, kept-on, on-here, tells, Move, refuses, begins, comes-on, hears}
 use Rattle.network.proofs.Moves.{passes, waits, repeats, move-of, kept-move, kept-fresh}
-use Rattle.network.proofs.Cost.{cost, lower, total, lower-less, total-less}
+use Rattle.network.proofs.Cost.{cost, lower, total, lower-less, total-less, cost-most}
 
 -- ---- what a node may still send
 
@@ -192,12 +189,8 @@ keeps-within names bus i (on c k) g = g .within
 
 -- ---- every move
 
-abbrev NotAsked : Act → Type 0
-NotAsked (starts i list older) = Unit
-NotAsked (comes n) = Unit
-NotAsked (reads i) = Unit
-NotAsked (pauses i ms) = Unit
-NotAsked (asked i) = ⊥
+unasked : (p : ℕ) {x y : ℕ} → x ≤ y → x ≤ y + p * 0
+unasked p h = omega arith
 
 position-inside : (names : List ℕ) (w : Network) (i : ℕ) (c : Claim) (k : ℕ) → Kept names w → nodeAt w i ≡ on c k
     → c .position < c .candidates
@@ -205,36 +198,50 @@ position-inside names w i c k v e =
     rules-of c (both-true (Machine.keepsRules c) (Machine.holdsList c) (kept-on names w i c k v e .sound) .0) .inside
 
 module _ (names : List ℕ) (differ : Differ names) (w : Network) (v : Kept names w) where
-  all-move : (act : Act) (u : Network) → NotAsked act → Move names w act u → all names u ≤ all names w
-  all-move act u q (refuses i list older) = omega arith
-  all-move act u q (begins i list older h e f g) =
+  -- a node that is asked sends a claim more
+  asked-cost : (i : ℕ) (c : Claim) (k : ℕ) → nodeAt w i ≡ on c k
+      → all names (becomes i (on c k) (tells names i true c) w) ≤ all names w + 2 ^ length names
+  asked-cost i c k e =
+      let a = rw e at (weights-set names (w .bus) names (w .nodes) i (on c k) (v .many) (on-here names w i c k v e .0)) in
+      omega (
+        arith,
+        a,
+        heft-append names (w .waiting) (tells names i true c),
+        length-append (w .waiting) (tells names i true c),
+        tells-cost names differ i true c,
+        cost-most names (nameOf names i),
+      )
+
+  all-move : (act : Act) (u : Network) → Move names w act u → all names u ≤ all names w + 2 ^ length names * asks act
+  all-move act u (refuses i list older) = omega arith
+  all-move act u (begins i list older h e f g) =
       let c = begun (nameOf names i) list in
       let n = nameOf names i in
       let k = length (w .bus) - older in
       let m : left c ≤ 16 = omega (arith, left-awake c refl, well-formed list f .short) in
       let p : cost names n * left c ≤ cost names n * 16 = mul-le-mul-left (cost names n) m in
-      cheaper names w i off (on c k) (tells names i true c) v h e
-      (omega (arith, p, tells-cost names differ i true c, unread-drop names n k (w .bus)))
-  all-move act u q (comes-on n x rest d) =
+      unasked (2 ^ length names) (cheaper names w i off (on c k) (tells names i true c) v h e
+      (omega (arith, p, tells-cost names differ i true c, unread-drop names n k (w .bus))))
+  all-move act u (comes-on n x rest d) =
       let h = heft-come names n (w .waiting) x rest d in
       let g = weights-come names (w .bus) x names (w .nodes) (λ i. keeps-within names (w .bus) i (nodeAt w i) (v .keeps i)) in
       omega (arith, h .0, h .1, g, length-append (w .bus) (x ∷ []))
-  all-move act u q (hears i c k x rest y e d n) =
+  all-move act u (hears i c k x rest y e d n) =
       let o = outcomeOf (y .source) (nameOf names (x .by)) c in
       let g = kept-on names w i c k v e in
       let s = drop-next k (w .bus) x rest d .0 in
       let h = heard-cost names differ (w .bus) i c k x rest d (g .name) (y .source) (position-inside names w i c k v e) o
       (went (y .source) (nameOf names (x .by)) c) in
-      cheaper names w i (on c k) (on (after o c) (suc k)) (tells names i (isSent o) (after o c)) v (on-here names w i c k v e .0) e
-      (rw (s, d) h)
-  all-move act u q (passes i c k x rest e d b) =
+      unasked (2 ^ length names) (cheaper names w i (on c k) (on (after o c) (suc k)) (tells names i (isSent o) (after o c)) v (on-here names w i c k v e .0) e
+      (rw (s, d) h))
+  all-move act u (passes i c k x rest e d b) =
       let s = drop-next k (w .bus) x rest d .0 in
-      cheaper names w i (on c k) (on c (suc k)) [] v (on-here names w i c k v e .0) e
-      (rw (s, d) (omega arith))
-  all-move act u q (waits i ms c k e) =
-      cheaper names w i (on c k) (on (pause ms c) k) [] v (on-here names w i c k v e .0) e
-      (rw (left-paused ms c) (omega arith))
-  all-move act u q (repeats i c k e) = absurd q
+      unasked (2 ^ length names) (cheaper names w i (on c k) (on c (suc k)) [] v (on-here names w i c k v e .0) e
+      (rw (s, d) (omega arith)))
+  all-move act u (waits i ms c k e) =
+      unasked (2 ^ length names) (cheaper names w i (on c k) (on (pause ms c) k) [] v (on-here names w i c k v e .0) e
+      (rw (left-paused ms c) (omega arith)))
+  all-move act u (repeats i c k e) = omega (arith, asked-cost i c k e)
 
 -- ---- every run
 
@@ -242,26 +249,18 @@ fresh-weights : (names ns : List ℕ) → weights names [] ns (map (λ n. off) n
 fresh-weights names [] = omega arith
 fresh-weights names (n ∷ ns) = omega (arith, fresh-weights names ns)
 
-unasked-both : (act : Act) (acts : List Act) → Unasked (act ∷ acts) → NotAsked act × Unasked acts
-unasked-both (starts i list older) acts q = (tt, q)
-unasked-both (comes n) acts q = (tt, q)
-unasked-both (reads i) acts q = (tt, q)
-unasked-both (pauses i ms) acts q = (tt, q)
-unasked-both (asked i) acts q = absurd q
-
 all-run : (names : List ℕ) → Differ names → Fit names → (w end : Network) (acts : List Act) → Ran names w acts end → Kept names w
-    → Unasked acts → all names end ≤ all names w
-all-run names differ fit w end acts (no-act w′) v q = omega arith
-all-run names differ fit w end acts (an-act w′ t e act more s r) v q =
-    let b = unasked-both act more q in
+    → all names end ≤ all names w + 2 ^ length names * asksIn acts
+all-run names differ fit w end acts (no-act w′) v = omega arith
+all-run names differ fit w end acts (an-act w′ t e act more s r) v =
     let m = move-of names fit w v act t s in
-    let x = all-move names differ w v act t (b .0) m in
-    let y = all-run names differ fit t end more r (kept-move names w v act t m) (b .1) in
-    omega (arith, x, y)
+    let x = all-move names differ w v act t m in
+    let y = all-run names differ fit t end more r (kept-move names w v act t m) in
+    omega (arith, x, y, mul-add (2 ^ length names) (asks act) (asksIn more))
 
 pub few-claims : FewClaims
-few-claims names acts w differ fit r q =
-    let a = all-run names differ fit (fresh names) w acts r (kept-fresh names) q in
+few-claims names acts w differ fit r =
+    let a = all-run names differ fit (fresh names) w acts r (kept-fresh names) in
     let b = fresh-weights names names in
     let c = total-less names differ (256 ^ frameBytes) fit in
     omega (arith, a, b, c)
@@ -328,15 +327,16 @@ cursors-most bus (s ∷ ss) f =
     go (on c k) h = h
 
 pub few-deliveries : FewDeliveries
-few-deliveries names acts w differ fit r q =
+few-deliveries names acts w differ fit r =
     let a = delivered-run names fit (fresh names) w acts r (kept-fresh names) in
     let v = a .1 in
     let b = cursors-most (w .bus) (w .nodes) (λ i. keeps-within names (w .bus) i (nodeAt w i) (v .keeps i)) in
     let b′ : cursors (w .nodes) ≤ length (w .bus) * length names = rw (v .many) at b in
-    let c = few-claims names acts w differ fit r q in
-    let l : length (w .bus) ≤ mostClaims (length names) = omega (arith, c) in
+    let c = few-claims names acts w differ fit r in
+    let most = mostClaims (length names) (asksIn acts) in
+    let l : length (w .bus) ≤ most = omega (arith, c) in
     let n = length names in
-    let d : suc n * length (w .bus) ≤ suc n * mostClaims n = mul-le-mul-left (suc n) l in
+    let d : suc n * length (w .bus) ≤ suc n * most = mul-le-mul-left (suc n) l in
     let e : length (w .bus) * suc n ≡ length (w .bus) * n + length (w .bus) = mul-suc (length (w .bus)) n in
     let f : length (w .bus) * suc n ≡ suc n * length (w .bus) = mul-comm (length (w .bus)) (suc n) in
     let g : n + 1 ≡ suc n = omega arith in

@@ -13,17 +13,16 @@ use Rattle.words.specs.Words.{if_then_else_, _=?_, gives}
 use Rattle.words.proofs.Words.{by-test, both-true, true-false}
 use Rattle.claim.specs.Claim.{heldAfter, keepsRules, holdsList, address, pause}
 use Rattle.claim.specs.Claim as Machine
-use Rattle.claim.specs.Promises.{Stands, toldStanding}
+use Rattle.claim.specs.Promises.{toldStanding}
 use Rattle.claim.specs.declared.Claim.{Claim}
-use Rattle.claim.specs.declared.Standing.{Standing}
 use Rattle.claim.specs.declared.Standing.the-variants.{Held, Silent}
 use Rattle.claim.proofs.Sound.{rules-of, pause-silent, pause-awake}
 use Rattle.claim.proofs.Laws.{told-standing-same}
-use Rattle.network.specs.Network.{Sent, Node, off, on, Network, nodeAt, Differ, Fit, fresh, Act, starts, comes, reads}
+use Rattle.network.specs.Network.{Sent, Node, off, on, Network, nodeAt, Fit, Act, starts, comes, reads}
 use Rattle.network.specs.Network.{pauses, asked, becomes, Ran, no-act, an-act}
-use Rattle.network.specs.Laws.{At, Own, AtRest, LeftAlone, passesIn, HeldAtLast}
+use Rattle.network.specs.Laws.{Own, AtRest, LeftAlone, passesIn, HeldAtLast}
 use Rattle.network.specs.Laws as The
-use Rattle.network.proofs.Lists.{equal-or, In, in-left, in-right, in-either, in-head, in-back, drop-next, own-in}
+use Rattle.network.proofs.Lists.{equal-or, In, in-either, in-head, in-back, drop-next, own-in}
 use Rattle.network.proofs.Lists.{own-all}
 use Rattle.network.proofs.Moves.{Kept, kept-on, on-here, Move, refuses, begins, comes-on, hears, passes, waits}
 use Rattle.network.proofs.Moves.{repeats, move-of, others, kept-move}

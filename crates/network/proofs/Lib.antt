@@ -1,15 +1,15 @@
 pub mod Lists
 pub mod Moves
 pub mod NoTwo
+pub mod AnyOrder
 pub mod Cost
 pub mod Few
+pub mod Play
 pub mod Deliver
 pub mod Held
 pub mod Lowest
 pub mod Turn
 pub mod Record
 pub mod Agrees
-pub mod AnyOrder
-pub mod Play
 pub mod Needed
 pub mod Laws

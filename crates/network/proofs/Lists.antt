@@ -12,7 +12,7 @@ use lib.ListN.{length, getD, take, drop}
 use Rattle.words.specs.Words.{if_then_else_, _=?_}
 use Rattle.words.proofs.Words.{by-test}
 use Rattle.frame.specs.Identifier.{sourceOf}
-use Rattle.network.specs.Network.{Sent, Node, off, on}
+use Rattle.network.specs.Network.{Sent, Node, off}
 use Rattle.network.specs.Laws.{Own, lastBy}
 
 pub equal-or : {P : Type 0} (i j : ℕ) → (i ≡ j → P) → ((i ≡ j → ⊥) → P) → P

@@ -7,9 +7,9 @@ use mathlib.Core.List.{List, [], _∷_, _++_}
 use mathlib.Core.Logic.{_⊎_, inl, inr}
 use Prim.Native.Nat.{ℕ, zero, suc, _-_, _≤_, _<_}
 use native.Mathlib.Omega.{arith}
-use lib.ListN.{length, getD, set, take, drop}
+use lib.ListN.{length, getD, set, drop}
 use lib.Seq.{getD-set-same, getD-set-other}
-use Rattle.words.proofs.Words.{by-test, true-false}
+use Rattle.words.proofs.Words.{by-test}
 use Rattle.frame.specs.Identifier.{sourceOf}
 use Rattle.frame.specs.Standard.{greatestAddress, noAddress}
 use Rattle.claim.specs.Claim.{address, claimSource, begun, Outcome, outcomeOf, after, isSent, pause}

@@ -5,12 +5,12 @@ use mathlib.Core.Path.{_≡_, refl, sym, ap, _∙_}
 use mathlib.Core.Bool.{Bool, true, false}
 use mathlib.Core.List.{List, [], _∷_, _++_, map}
 use mathlib.Core.Logic.{_⊎_, inl, inr}
-use Prim.Native.Nat.{ℕ, zero, suc, _+_, _-_, _≤_, _<_, _^_}
+use Prim.Native.Nat.{ℕ, zero, suc, _+_, _-_, _≤_, _<_}
 use native.Mathlib.Omega.{arith}
 use lib.ListN.{length, getD, set, take, drop, length-set, length-map, length-append}
 use lib.Seq.{getD-set-same, getD-set-other}
 use Rattle.words.specs.Words.{Told, refused, gives, Done, done}
-use Rattle.words.proofs.Words.{by-test, true-false, both-true}
+use Rattle.words.proofs.Words.{by-test, both-true}
 use Rattle.frame.specs.Bytes.{bytesOf}
 use Rattle.frame.specs.Frame.{frameBytes}
 use Rattle.frame.specs.Identifier.{identifierOf, sourceOf}
@@ -18,9 +18,8 @@ use Rattle.frame.specs.Standard.{claimDgn, noAddress, greatestAddress}
 use Rattle.claim.specs.Candidates.{isWellFormed}
 use Rattle.claim.specs.Claim.{claimPriority, keepsRules, holdsList, address, claimSource, claimId, claimBytes, begun}
 use Rattle.claim.specs.Claim.{Outcome, outcomeOf, after, isSent, pause}
-use Rattle.claim.specs.Laws.{SameNode}
 use Rattle.claim.specs.Promises.{Start, Hear, Pause, OurClaim, toldStarting, toldHearing, toldSending, startedOf}
-use Rattle.claim.specs.Promises.{heardOf, afterTold, isSentTold, isSound, soundOf}
+use Rattle.claim.specs.Promises.{heardOf, afterTold, isSentTold, isSound}
 use Rattle.claim.specs.declared.Claim.{Claim}
 use Rattle.claim.specs.declared.Started.{Started}
 use Rattle.claim.specs.declared.Heard.{Heard}

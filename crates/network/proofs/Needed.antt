@@ -1,13 +1,12 @@
 -- What the laws need, each shown by a network of two nodes in which it is missing.
 -- Assumes nothing.
 use mathlib.Core.Path.{_≡_, refl, sym, ap, _∙_}
-use mathlib.Core.Bool.{Bool, true, false}
 use mathlib.Core.List.{List, [], _∷_, _++_, map}
 use mathlib.Core.Logic.{_⊎_, inl, inr}
 use Prim.Native.Nat.{ℕ, zero, suc, _<_, _^_}
 use native.Mathlib.Omega.{arith}
-use lib.ListN.{length, getD, take, drop}
-use Rattle.words.specs.Words.{Told, gives}
+use lib.ListN.{getD, take, drop}
+use Rattle.words.specs.Words.{gives}
 use Rattle.words.proofs.Words.{gives-same}
 use Rattle.frame.specs.Bytes.{numberOf, bytesOf}
 use Rattle.frame.specs.Frame.{frameBytes, checkedOf, sourceAllowed}
@@ -16,27 +15,25 @@ use Rattle.claim.specs.Candidates.{isWellFormed, padded}
 use Rattle.claim.specs.Claim.{keepsRules, holdsList, claimSource, claimId, claimBytes, standOf, begun, atNext, lostBy}
 use Rattle.claim.specs.Claim.{outcomeOf, after, isSent}
 use Rattle.claim.specs.Promises.{startedOf, meetsFrame, heardOf, soundOf}
-use Rattle.claim.specs.declared.Claim.{Claim}
 use Rattle.nodes.specs.Table as Table
 use Rattle.nodes.specs.Table.{addresses, absent, emptyTable}
-use Rattle.nodes.specs.Call.{Holder, nobody, holder, holderOf, lookedUpOf}
-use Rattle.nodes.specs.Promises.{LookUp, Empty}
-use Rattle.nodes.specs.Runs.{Call, hearing, pausing, Said, saidOf, saidBy, recordAfterAll, Sound, RunLeft}
-use Rattle.nodes.specs.Runs as NodesRuns
+use Rattle.nodes.specs.Call.{nobody, holder, holderOf, lookedUpOf}
+use Rattle.nodes.specs.Promises.{LookUp}
+use Rattle.nodes.specs.Runs.{Call, hearing, pausing, saidOf, saidBy, recordAfterAll, Sound, RunLeft}
 use Rattle.nodes.specs.declared.Node as Record
 use Rattle.nodes.specs.declared.LookedUp.the-variants.{Present, Absent}
 use Rattle.nodes.proofs.Blank.{empty-keeps-rules, absent-at}
 use Rattle.nodes.proofs.Find.{getD-front}
 use Rattle.nodes.proofs.Shown.{looked-here}
 use Rattle.nodes.proofs.Runs.{run-by-record, every-run-runs}
-use Rattle.network.specs.Network.{Sent, Node, off, on, Network, nodeAt, nameOf, Differ, Fit, fresh, Act, starts, comes}
+use Rattle.network.specs.Network.{Node, on, Network, nameOf, Differ, Fit, fresh, Act, starts, comes}
 use Rattle.network.specs.Network.{reads, becomes}
-use Rattle.network.specs.Laws.{At, AtRest}
-use Rattle.network.specs.Listener.{saidOn, claimsIn, Listened, Shows}
-use Rattle.network.specs.Needed.{NamesDiffer, Runs, stops, goes, Losing, NoneLost, Listening, StartFirst, Swapped}
+use Rattle.network.specs.Laws.{At}
+use Rattle.network.specs.Listener.{claimsIn, Listened, Shows}
+use Rattle.network.specs.Needed.{NamesDiffer, Runs, stops, goes, Losing, NoneLost, Listening, StartFirst}
 use Rattle.network.specs.Needed.{OneOrder, OwnOrder}
 use Rattle.network.specs.Needed as The
-use Rattle.network.proofs.Play.{startOf, start-is, next, plays, canAll, step-so, run-of, rests, is-at-rest, inTurnAll}
+use Rattle.network.proofs.Play.{startOf, start-is, next, plays, step-so, run-of, is-at-rest}
 use Rattle.network.proofs.Play.{turn-run}
 
 -- ---- two NAMEs
@@ -156,8 +153,8 @@ module _ (calls : List Call) where
   abbrev end : List Record.Node
   end = every-run-runs (emptyTable ++ []) calls begin .0
 
-  pub listened : Listened (claimsIn (map saidBy calls)) end
-  listened =
+  pub hearing-all : Listened (claimsIn (map saidBy calls)) end
+  hearing-all =
       record {
         empty = emptyTable;
         behind = [];
@@ -242,7 +239,7 @@ one-order f =
       so = refl;
       otherwise = refl;
     })
-    (end otherCalls) (listened otherCalls) 128 in
+    (end otherCalls) (hearing-all otherCalls) 128 in
     not-shown otherCalls rivals ordered 1 128 (omega arith) order-left p s
 
 -- ---- a node whose own claims come in another order
@@ -272,5 +269,5 @@ own-order f =
     record { claim = atNext (begun 9 (128 ∷ 129 ∷ [])); read = 4; started = refl; stands = inr (record { answer = refl }) } in
     let s =
     f rivals mixedActs mixed (differ-two 9 7 (λ e. omega arith)) (fit-two 9 7 (omega arith) (omega arith))
-    (run-of rivals (fresh rivals) mixedActs refl) (is-at-rest mixed refl) refl (end mixedCalls) (listened mixedCalls) 129 in
+    (run-of rivals (fresh rivals) mixedActs refl) (is-at-rest mixed refl) refl (end mixedCalls) (hearing-all mixedCalls) 129 in
     not-shown mixedCalls rivals mixed 0 129 (omega arith) mixed-left p s

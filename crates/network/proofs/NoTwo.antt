@@ -7,14 +7,14 @@ use mathlib.Core.Bool.{true, false}
 use mathlib.Core.List.{List, [], _∷_, _++_}
 use mathlib.Core.Logic.{_⊎_, inl, inr}
 use mathlib.Core.Option.{Option, some, none}
-use Prim.Native.Nat.{ℕ, zero, suc, _-_, _≤_, _<_}
+use Prim.Native.Nat.{ℕ, suc, _-_, _≤_, _<_}
 use native.Mathlib.Omega.{arith}
-use lib.ListN.{length, getD, set, take, drop, take-append-drop}
+use lib.ListN.{length, take, drop, take-append-drop}
 use lib.Seq.{drop-append-le, take-append-le}
 use Rattle.words.specs.Words.{_=?_, gives}
 use Rattle.words.proofs.Words.{true-false, both-true, gives-same, by-test}
 use Rattle.frame.specs.Identifier.{sourceOf}
-use Rattle.claim.specs.Claim.{keepsRules, holdsList, address, claimSource, begun, Outcome, outcomeOf, after, isSent, pause}
+use Rattle.claim.specs.Claim.{keepsRules, holdsList, address, begun, Outcome, outcomeOf, after, isSent, pause}
 use Rattle.claim.specs.Claim as Machine
 use Rattle.claim.specs.Promises.{isSound, Stands, toldStanding}
 use Rattle.claim.specs.declared.Claim.{Claim}
@@ -22,7 +22,6 @@ use Rattle.claim.specs.declared.Standing.{Standing}
 use Rattle.claim.specs.declared.Standing.the-variants.{Held, Claiming}
 use Rattle.claim.proofs.Outcomes.{Went, deaf, apart, same, wins, goes, ends, went}
 use Rattle.claim.proofs.Calls.{sound-well}
-use Rattle.claim.proofs.Machine.{node-after}
 use Rattle.network.specs.Network.{Sent, Node, off, on, Network, nodeAt, nameOf, Differ, Fit, fresh, Act, becomes, Ran}
 use Rattle.network.specs.Network.{no-act, an-act}
 use Rattle.network.specs.Laws.{At, Own, AtRest, NoTwo, lastBy, LastWord}

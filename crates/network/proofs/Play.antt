@@ -1,18 +1,18 @@
 -- A run that is worked out: where acts can be done one after another, there is a run of them, and this is its end.
 -- Assumes nothing.
-use mathlib.Core.Path.{_≡_, refl, sym, ap, _∙_}
+use mathlib.Core.Path.{_≡_, refl, sym}
 use mathlib.Core.Bool.{Bool, true, false}
 use mathlib.Core.List.{List, [], _∷_, _++_}
-use Prim.Native.Nat.{ℕ, zero, suc, _+_, _≤_, _<_}
+use Prim.Native.Nat.{ℕ, zero, suc, _+_, _<_}
 use native.Mathlib.Omega.{arith}
 use borrow.Author.Tests.{eqb-true, eqb-false, ltb-true}
-use lib.ListN.{length, getD, take, drop, length-drop}
-use Rattle.words.specs.Words.{if_then_else_, _and_, _=?_, _<?_, Told, refused, gives, Done, done}
+use lib.ListN.{length, getD, take, drop}
+use Rattle.words.specs.Words.{if_then_else_, _and_, _=?_, _<?_, Told, refused, gives}
 use Rattle.words.proofs.Words.{by-test, both-true, true-false}
 use Rattle.claim.specs.Candidates.{isWellFormed}
-use Rattle.claim.specs.Claim.{begun, pause, Outcome, nothingToDo, ownName, repeated, moved, fellSilent}
-use Rattle.claim.specs.Promises.{Start, Hear, Pause, startedOf, heardOf, afterTold, isSentTold, frameSent, frameIf, blank}
-use Rattle.claim.specs.Promises.{toldHearing, toldStarting, isSound, soundOf}
+use Rattle.claim.specs.Claim.{begun, Outcome, nothingToDo, ownName, repeated, moved, fellSilent}
+use Rattle.claim.specs.Promises.{Start, Hear, startedOf, heardOf, afterTold, isSentTold, frameSent, frameIf, blank}
+use Rattle.claim.specs.Promises.{toldHearing, toldStarting}
 use Rattle.claim.specs.declared.Claim.{Claim}
 use Rattle.claim.specs.declared.Started.{Started}
 use Rattle.claim.specs.declared.Starting.{Starting}
@@ -47,7 +47,7 @@ start-is name list =
       sent-bytes = refl;
     }
 
-abbrev answerOf : Told Outcome → Hearing
+abbrev pub answerOf : Told Outcome → Hearing
 answerOf (gives nothingToDo) = Hearing.NothingToDo
 answerOf (gives ownName) = Hearing.OwnName
 answerOf (gives repeated) = Hearing.SendClaimAgain
@@ -55,7 +55,7 @@ answerOf (gives moved) = Hearing.SendNextClaim
 answerOf (gives fellSilent) = Hearing.SendCannotClaim
 answerOf (refused n) = Hearing.BrokenState
 
-abbrev isGiven : Told Outcome → Bool
+abbrev pub isGiven : Told Outcome → Bool
 isGiven (gives o) = true
 isGiven (refused n) = false
 
@@ -67,7 +67,7 @@ answer-told (gives moved) e = refl
 answer-told (gives fellSilent) e = refl
 answer-told (refused n) e = true-false (sym e)
 
-abbrev heardBy : Sent → Claim → Heard
+abbrev pub heardBy : Sent → Claim → Heard
 heardBy x c =
     record {
       claim = afterTold (heardOf (x .id) (x .bytes) c) c;
@@ -76,7 +76,7 @@ heardBy x c =
       bytes = frameSent (heardOf (x .id) (x .bytes) c) c .bytes;
     }
 
-heard-is : (x : Sent) (c : Claim) → isGiven (heardOf (x .id) (x .bytes) c) ≡ true → Hear (x .id) (x .bytes) c (heardBy x c)
+pub heard-is : (x : Sent) (c : Claim) → isGiven (heardOf (x .id) (x .bytes) c) ≡ true → Hear (x .id) (x .bytes) c (heardBy x c)
 heard-is x c e =
     record { answer = answer-told (heardOf (x .id) (x .bytes) c) e; state = refl; sent-id = refl; sent-bytes = refl }
 

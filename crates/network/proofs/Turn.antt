@@ -4,13 +4,13 @@ use mathlib.Core.Path.{_≡_, refl, sym, ap, _∙_}
 use mathlib.Core.Bool.{Bool, true, false}
 use mathlib.Core.List.{List, [], _∷_, _++_}
 use mathlib.Core.Option.{Option, some, none}
-use Prim.Native.Nat.{ℕ, suc, _-_, _≤_, _<_}
+use Prim.Native.Nat.{ℕ, suc, _-_, _<_}
 use native.Mathlib.Omega.{arith}
 use borrow.Author.Tests.{eq-eqb, ne-eqb}
-use lib.ListN.{length, getD, set, take, drop, take-append-drop}
+use lib.ListN.{length, take, drop, take-append-drop}
 use lib.Seq.{getD-set-same, getD-set-other}
 use Rattle.words.specs.Words.{if_then_else_, _=?_}
-use Rattle.words.proofs.Words.{by-test, true-false}
+use Rattle.words.proofs.Words.{by-test}
 use Rattle.frame.specs.Identifier.{sourceOf}
 use Rattle.claim.specs.Claim.{address, claimSource, begun, Outcome, outcomeOf, after, isSent, pause}
 use Rattle.claim.specs.Promises.{isSound}
@@ -20,9 +20,9 @@ use Rattle.network.specs.Network.{Sent, Node, off, on, Network, nodeAt, 
 use Rattle.network.specs.Network.{no-act, an-act}
 use Rattle.network.specs.Listener.{NoneBy, FirstOfIts, InTurn}
 use Rattle.network.proofs.Lists.{equal-or}
-use Rattle.network.proofs.Moves.{mine, mine-source, Known, Kept, kept-on, on-here, tells, Move, refuses}
+use Rattle.network.proofs.Moves.{mine, mine-source, Kept, kept-on, on-here, tells, Move, refuses}
 use Rattle.network.proofs.Moves.{begins, comes-on, hears, passes, waits, repeats, move-of, source-low, source-silent}
-use Rattle.network.proofs.Moves.{source-awake, others, kept-move, kept-fresh, all-off, paused-stays, sound-heard}
+use Rattle.network.proofs.Moves.{source-awake, kept-move, kept-fresh, all-off, paused-stays, sound-heard}
 
 -- from where a node claimed last, where it did from `who` before
 abbrev pub lastFrom : ℕ → Option ℕ → List Sent → Option ℕ

@@ -4,7 +4,7 @@ use mathlib.Core.Path.{_≡_}
 use mathlib.Core.List.{List, [], _∷_}
 use mathlib.Core.Logic.{_⊎_}
 use mathlib.Core.Option.{Option, some, none}
-use Prim.Native.Nat.{ℕ, _+_, _-_, _*_, _^_, _≤_}
+use Prim.Native.Nat.{ℕ, _+_, _-_, _*_, _^_, _≤_, _<_}
 use lib.ListN.{length, drop}
 use Rattle.words.specs.Words.{if_then_else_, _=?_}
 use Rattle.frame.specs.Identifier.{sourceOf}
@@ -14,8 +14,8 @@ use Rattle.claim.specs.Promises.{Stands}
 use Rattle.claim.specs.declared.Claim.{Claim}
 use Rattle.claim.specs.declared.Standing.{Standing}
 use Rattle.claim.specs.declared.Standing.the-variants.{Held, Claiming, Silent}
-use Rattle.network.specs.Network.{Sent, on, Network, nodeAt, Differ, Fit, fresh, Act, starts, comes, reads}
-use Rattle.network.specs.Network.{pauses, asked, Step, Ran}
+use Rattle.network.specs.Network.{Sent, off, on, Network, nodeAt, Differ, Fit, fresh, Act, starts, comes}
+use Rattle.network.specs.Network.{reads, pauses, asked, Step, Ran}
 
 -- ---- No two nodes have one address (RULES 14.9)
 
@@ -57,25 +57,30 @@ LastWord =
 
 -- ---- The network comes to rest (RULES 14.11 and 14.12)
 
--- nobody is asked for its claim
-abbrev pub Unasked : List Act → Type 0
-Unasked [] = Unit
-Unasked (starts i list older ∷ acts) = Unasked acts
-Unasked (comes n ∷ acts) = Unasked acts
-Unasked (reads i ∷ acts) = Unasked acts
-Unasked (pauses i ms ∷ acts) = Unasked acts
-Unasked (asked i ∷ acts) = ⊥
+-- how often somebody is asked for its claim
+
+abbrev pub asks : Act → ℕ
+asks (starts i list older) = 0
+asks (comes n) = 0
+asks (reads i) = 0
+asks (pauses i ms) = 0
+asks (asked i) = 1
+
+abbrev pub asksIn : List Act → ℕ
+asksIn [] = 0
+asksIn (act ∷ acts) = asks act + asksIn acts
 
 -- n nodes send no more claims than this: each sends at most 17 of its own accord, one for each address of its list and
--- one from 254, and a claim is repeated by lower NAMEs alone
-abbrev pub mostClaims : ℕ → ℕ
-mostClaims n = (longestList + 1) * (2 ^ n - 1)
+-- one from 254, and again where it is asked; and a claim is repeated by lower NAMEs alone
+abbrev pub mostClaims : ℕ → ℕ → ℕ
+mostClaims n requests = (longestList + 1) * (2 ^ n - 1) + 2 ^ n * requests
 
+-- however long a run is, and however often nodes pause and claims pass each other
 abbrev pub FewClaims : Type 0
 FewClaims =
     (names : List ℕ) (acts : List Act) (w : Network) → Differ names → Fit names
-    → Ran names (fresh names) acts w → Unasked acts
-    → length (w .bus) + length (w .waiting) ≤ mostClaims (length names)
+    → Ran names (fresh names) acts w
+    → length (w .bus) + length (w .waiting) ≤ mostClaims (length names) (asksIn acts)
 
 -- the deliveries in a run: a claim comes on the bus, or a node reads one
 
@@ -90,12 +95,12 @@ abbrev pub deliveriesIn : List Act → ℕ
 deliveriesIn [] = 0
 deliveriesIn (act ∷ acts) = deliveries act + deliveriesIn acts
 
--- so no run has more deliveries than this, however long it is
+-- so no run has more deliveries than this: every claim comes on the bus once, and every node reads it once
 abbrev pub FewDeliveries : Type 0
 FewDeliveries =
     (names : List ℕ) (acts : List Act) (w : Network) → Differ names → Fit names
-    → Ran names (fresh names) acts w → Unasked acts
-    → deliveriesIn acts ≤ (length names + 1) * mostClaims (length names)
+    → Ran names (fresh names) acts w
+    → deliveriesIn acts ≤ (length names + 1) * mostClaims (length names) (asksIn acts)
 
 -- and as long as the network is not at rest there is one more to make: who goes on delivering brings it to rest
 abbrev pub DeliversOn : Type 0
@@ -103,6 +108,30 @@ DeliversOn =
     (names : List ℕ) (acts : List Act) (w : Network) → Differ names → Fit names
     → Ran names (fresh names) acts w
     → AtRest w ⊎ ((act : Act) × (v : Network) × (deliveries act ≡ 1) × Step names w act v)
+
+-- from wherever a run has come to, deliveries alone lead to rest
+abbrev pub DeliversOnly : List Act → Type 0
+DeliversOnly [] = Unit
+DeliversOnly (act ∷ acts) = (deliveries act ≡ 1) × DeliversOnly acts
+
+abbrev pub ComesToRest : Type 0
+ComesToRest =
+    (names : List ℕ) (acts : List Act) (w : Network) → Differ names → Fit names
+    → Ran names (fresh names) acts w
+    → (more : List Act) × (v : Network) × DeliversOnly more × Ran names w more v × AtRest v
+
+-- What else may happen can happen at any time, so that runs are not said of nothing: a node that has not started starts,
+-- with any list, and for one that has, time passes, and it is asked for its claim.
+pub record AnyTime (names : List ℕ) (w : Network) : Type 0 where
+  pub start : (i : ℕ) (list : List ℕ) (older : ℕ) → i < length names → nodeAt w i ≡ off
+      → (v : Network) × Step names w (starts i list older) v
+  pub pause : (i ms : ℕ) (c : Claim) (k : ℕ) → nodeAt w i ≡ on c k → (v : Network) × Step names w (pauses i ms) v
+  pub ask : (i : ℕ) (c : Claim) (k : ℕ) → nodeAt w i ≡ on c k → (v : Network) × Step names w (asked i) v
+
+abbrev pub EveryActCan : Type 0
+EveryActCan =
+    (names : List ℕ) (acts : List Act) (w : Network) → Differ names → Fit names
+    → Ran names (fresh names) acts w → AnyTime names w
 
 -- ---- Every node holds an address, or is silent (RULES 14.13)
 

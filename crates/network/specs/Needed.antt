@@ -2,7 +2,7 @@
 -- proofs/Needed.antt has it, run by run.
 use mathlib.Core.Path.{_≡_}
 use mathlib.Core.List.{List, [], _∷_, _++_}
-use Prim.Native.Nat.{ℕ, suc, _-_, _<_}
+use Prim.Native.Nat.{ℕ, suc, _<_}
 use lib.ListN.{length, take, drop}
 use Rattle.claim.specs.Promises.{Start}
 use Rattle.claim.specs.declared.Started.{Started}

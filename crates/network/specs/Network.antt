@@ -9,7 +9,7 @@ use mathlib.Core.Bool.{Bool, true, false}
 use mathlib.Core.List.{List, [], _∷_, _++_, map}
 use Prim.Native.Nat.{ℕ, suc, _-_, _<_, _^_}
 use lib.ListN.{length, getD, set, take, drop}
-use Rattle.words.specs.Words.{Told, refused, gives, Done, done}
+use Rattle.words.specs.Words.{Told, refused, gives, Done}
 use Rattle.frame.specs.Frame.{frameBytes}
 use Rattle.claim.specs.Promises.{Start, Hear, Pause, OurClaim, toldStarting, toldHearing, toldSending, isSentTold}
 use Rattle.claim.specs.declared.Claim.{Claim}
