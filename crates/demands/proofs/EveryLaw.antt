@@ -607,6 +607,7 @@ network-laws =
       delivers-on = Network.delivers-on;
       comes-to-rest = Network.comes-to-rest;
       every-act-can = Network.every-act-can;
+      none-refuses = Network.none-refuses;
       held-at-last = Network.held-at-last;
       no-two-in-any-order = Network.no-two-in-any-order;
       table-agrees = Network.table-agrees;

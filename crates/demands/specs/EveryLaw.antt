@@ -561,6 +561,7 @@ pub record NetworkLaws : Type 0 where
   pub delivers-on : Network.DeliversOn
   pub comes-to-rest : Network.ComesToRest
   pub every-act-can : Network.EveryActCan
+  pub none-refuses : Network.NoneRefuses
   pub held-at-last : Network.HeldAtLast
   pub no-two-in-any-order : NetworkAnyOrder.NoTwoInAnyOrder
   pub table-agrees : NetworkListener.TableAgrees

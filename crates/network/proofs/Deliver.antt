@@ -9,25 +9,24 @@ use Prim.Native.Nat.{ℕ, zero, suc, _+_, _*_, _≤_, _<_}
 use native.Mathlib.Decide.{decLt}
 use native.Mathlib.Omega.{arith}
 use lib.ListN.{length, getD, drop, length-drop, drop-of-length-le}
-use Rattle.words.specs.Words.{gives}
-use Rattle.words.proofs.Words.{both-true}
+use Rattle.words.specs.Words.{Told, refused, gives, done}
+use Rattle.words.proofs.Words.{both-true, refused-gives}
 use Rattle.claim.specs.Claim.{outcomeOf, keepsRules, holdsList}
 use Rattle.claim.specs.Claim.{claimId, claimBytes, pause}
-use Rattle.claim.specs.Promises.{Pause, OurClaim, heardOf, isSound}
+use Rattle.claim.specs.Promises.{Pause, OurClaim, isSound, soundOf, toldHearing, toldPausing, toldSending}
 use Rattle.claim.specs.declared.Claim.{Claim}
 use Rattle.claim.specs.declared.Paused.{Paused}
 use Rattle.claim.specs.declared.Pausing.the-variants as Pausing
 use Rattle.claim.specs.declared.ClaimFrame.{ClaimFrame}
 use Rattle.claim.specs.declared.Sending.the-variants as Sending
 use Rattle.claim.proofs.Calls.{sound-well}
-use Rattle.claim.proofs.Laws.{frame-is-heard}
 use Rattle.network.specs.Network.{Sent, Node, off, on, Network, nodeAt, nameOf, Differ, Fit, fresh, Act, starts}
 use Rattle.network.specs.Network.{comes, reads, pauses, asked, Step, start, come, hear, pass, Ran, no-act, an-act}
 use Rattle.network.specs.Network as The
 use Rattle.network.specs.Laws.{AtRest, asks, asksIn, mostClaims, deliveries, deliveriesIn, DeliversOn}
-use Rattle.network.specs.Laws.{DeliversOnly, ComesToRest, EveryActCan}
+use Rattle.network.specs.Laws.{DeliversOnly, ComesToRest, EveryActCan, NoneRefuses}
 use Rattle.network.proofs.Lists.{equal-or, in-left, in-head}
-use Rattle.network.proofs.Moves.{Kept, kept-on}
+use Rattle.network.proofs.Moves.{Node-keeps, Kept, kept-on, heard-known}
 use Rattle.network.proofs.NoTwo.{run-so}
 use Rattle.network.proofs.Few.{few-deliveries}
 use Rattle.network.proofs.Play.{startOf, start-is, isGiven, heardBy, heard-is}
@@ -82,9 +81,7 @@ module _ (names : List ℕ) (fit : Fit names) (w : Network) (v : Kept names w) w
     read-other : (x .by ≡ i → ⊥) → Delivery names w
     read-other n =
         let y = v .known x (in-left x (w .bus) (w .waiting) (in-head k (w .bus) x rest d)) in
-        let h : heardOf (x .id) (x .bytes) c ≡ gives (outcomeOf (y .source) (nameOf names (x .by)) c) =
-        ap (λ (s : Sent). heardOf (s .id) (s .bytes) c) (y .is)
-        ∙ frame-is-heard (y .source) (nameOf names (x .by)) c (y .low) (fit (x .by) (y .one-of-us)) (kept-on names w i c k v e .sound) in
+        let h = heard-known names fit c x y (kept-on names w i c k v e .sound) in
         (reads i, _, refl, hear w i c k x rest (heardBy x c) e d n (heard-is x c (ap isGiven h)))
 
     reading : Delivery names w
@@ -200,3 +197,27 @@ every-act-can names acts w differ fit r =
   where
     v : Kept names w
     v = run-so names acts w differ fit r .kept
+
+-- ---- and nobody refuses
+
+given-not : {A : Type 0} (t : Told A) (a : A) (n : ℕ) → t ≡ gives a → t ≡ refused n → ⊥
+given-not t a n e f = refused-gives (sym f ∙ e)
+
+pub none-refuses : NoneRefuses
+none-refuses names acts w differ fit r i c k e =
+    record {
+      hear = λ x rest q n d p t.
+          let y = v .known x (in-left x (w .bus) (w .waiting) (in-head k (w .bus) x rest d)) in
+          given-not (toldHearing (q .answer)) (outcomeOf (y .source) (nameOf names (x .by)) c) n (p .answer ∙ heard-known names fit c x y (g .sound)) t;
+      pause = λ ms q n p t. given-not (toldPausing (q .answer)) done n (p .answer ∙ well) t;
+      ask = λ q n p t. given-not (toldSending (q .answer)) done n (p .answer ∙ well) t;
+    }
+  where
+    v : Kept names w
+    v = run-so names acts w differ fit r .kept
+
+    g : Node-keeps names (w .bus) i c k
+    g = kept-on names w i c k v e
+
+    well : soundOf c ≡ gives done
+    well = let b = both-true (keepsRules c) (holdsList c) (g .sound) in sound-well c (b .0) (b .1) .0

@@ -155,6 +155,13 @@ source-awake c s = rw s
 
 -- ---- what the calls of a node do
 
+-- a claim of the network is heard as the claim that it is
+pub heard-known : (names : List ℕ) → Fit names → (c : Claim) (x : Sent) (y : Known names x) → isSound c ≡ true
+    → heardOf (x .id) (x .bytes) c ≡ gives (outcomeOf (y .source) (nameOf names (x .by)) c)
+heard-known names fit c x y sound =
+    ap (λ (s : Sent). heardOf (s .id) (s .bytes) c) (y .is)
+    ∙ frame-is-heard (y .source) (nameOf names (x .by)) c (y .low) (fit (x .by) (y .one-of-us)) sound
+
 -- a claim that is heard
 module _ (names : List ℕ) (fit : Fit names) (i : ℕ) (c : Claim) (x : Sent) (y : Known names x) (r : Heard)
     (sound : isSound c ≡ true) (name : c .name ≡ nameOf names i) (p : Hear (x .id) (x .bytes) c r) where
@@ -162,9 +169,7 @@ module _ (names : List ℕ) (fit : Fit names) (i : ℕ) (c : Claim) (x : Sent) (
   o = outcomeOf (y .source) (nameOf names (x .by)) c
 
   heard : heardOf (x .id) (x .bytes) c ≡ gives o
-  heard =
-      ap (λ (s : Sent). heardOf (s .id) (s .bytes) c) (y .is)
-      ∙ frame-is-heard (y .source) (nameOf names (x .by)) c (y .low) (fit (x .by) (y .one-of-us)) sound
+  heard = heard-known names fit c x y sound
 
   frame : isSent o ≡ true → (r .id ≡ claimId (after o c)) × (r .bytes ≡ claimBytes (after o c))
   frame s = (p .sent-id ∙ rw heard (rw s refl), p .sent-bytes ∙ rw heard (rw s refl))

@@ -1,4 +1,4 @@
--- A network in which every node has an order of its own (RULES 14.17): a claim that is sent is at once on its way to
+-- A network in which every node has an order of its own (RULES 16.13): a claim that is sent is at once on its way to
 -- each other node that has started by then, and a node reads what is on its way to it in any order. Here too no two
 -- nodes have one address at rest. So for that the one order for all is not needed; a listener's table needs it.
 use mathlib.Core.Path.{_≡_}

@@ -1,4 +1,4 @@
--- The laws of a network (RULES 14.9 to 14.14), each a named statement. proofs/Laws.antt has a proof of each, under the
+-- The laws of a network (RULES 16.10 to 16.17), each a named statement. proofs/Laws.antt has a proof of each, under the
 -- same name written small.
 use mathlib.Core.Path.{_≡_}
 use mathlib.Core.List.{List, [], _∷_}
@@ -6,18 +6,21 @@ use mathlib.Core.Logic.{_⊎_}
 use mathlib.Core.Option.{Option, some, none}
 use Prim.Native.Nat.{ℕ, _+_, _-_, _*_, _^_, _≤_, _<_}
 use lib.ListN.{length, drop}
-use Rattle.words.specs.Words.{if_then_else_, _=?_}
+use Rattle.words.specs.Words.{if_then_else_, _=?_, refused}
 use Rattle.frame.specs.Identifier.{sourceOf}
 use Rattle.claim.specs.Candidates.{longestList}
 use Rattle.claim.specs.Claim.{heldAfter}
-use Rattle.claim.specs.Promises.{Stands}
+use Rattle.claim.specs.Promises.{Hear, Pause, Stands, OurClaim, toldHearing, toldPausing, toldSending}
 use Rattle.claim.specs.declared.Claim.{Claim}
+use Rattle.claim.specs.declared.Heard.{Heard}
+use Rattle.claim.specs.declared.Paused.{Paused}
+use Rattle.claim.specs.declared.ClaimFrame.{ClaimFrame}
 use Rattle.claim.specs.declared.Standing.{Standing}
 use Rattle.claim.specs.declared.Standing.the-variants.{Held, Claiming, Silent}
 use Rattle.network.specs.Network.{Sent, off, on, Network, nodeAt, Differ, Fit, fresh, Act, starts, comes}
 use Rattle.network.specs.Network.{reads, pauses, asked, Step, Ran}
 
--- ---- No two nodes have one address (RULES 14.9)
+-- ---- No two nodes have one address (RULES 16.10 and 16.11)
 
 -- a node that has started claims or holds an address: its call `stands` says so
 pub record At (w : Network) (i a : ℕ) : Type 0 where
@@ -41,7 +44,7 @@ NoTwo =
     → Ran names (fresh names) acts w → AtRest w
     → (i j a : ℕ) → At w i a → At w j a → i ≡ j
 
--- Why it is so (RULES 14.10): whoever has an address at rest has the last word on it. The last claim from that address
+-- Why it is so (RULES 16.12): whoever has an address at rest has the last word on it. The last claim from that address
 -- on the bus is its own, and two nodes cannot both have the last word.
 
 -- who sent the last claim from an address, where `who` did before
@@ -55,7 +58,7 @@ LastWord =
     → Ran names (fresh names) acts w → AtRest w → w .waiting ≡ []
     → (i a : ℕ) → At w i a → lastBy a none (w .bus) ≡ some i
 
--- ---- The network comes to rest (RULES 14.11 and 14.12)
+-- ---- The network comes to rest (RULES 16.14 and 16.15)
 
 -- how often somebody is asked for its claim
 
@@ -120,6 +123,8 @@ ComesToRest =
     → Ran names (fresh names) acts w
     → (more : List Act) × (v : Network) × DeliversOnly more × Ran names w more v × AtRest v
 
+-- ---- Every call answers, and none refuses (RULES 16.16)
+
 -- What else may happen can happen at any time, so that runs are not said of nothing: a node that has not started starts,
 -- with any list, and for one that has, time passes, and it is asked for its claim.
 pub record AnyTime (names : List ℕ) (w : Network) : Type 0 where
@@ -133,7 +138,21 @@ EveryActCan =
     (names : List ℕ) (acts : List Act) (w : Network) → Differ names → Fit names
     → Ran names (fresh names) acts w → AnyTime names w
 
--- ---- Every node holds an address, or is silent (RULES 14.13)
+-- A start is refused for its list alone. After it no call of a node is refused: its state keeps its rules, and every
+-- frame on the bus is a sound claim.
+pub record Unrefused (w : Network) (i : ℕ) (c : Claim) (k : ℕ) : Type 0 where
+  pub hear : (x : Sent) (rest : List Sent) (r : Heard) (n : ℕ) → drop k (w .bus) ≡ x ∷ rest → Hear (x .id) (x .bytes) c r
+      → toldHearing (r .answer) ≡ refused n → ⊥
+  pub pause : (ms : ℕ) (r : Paused) (n : ℕ) → Pause ms c r → toldPausing (r .answer) ≡ refused n → ⊥
+  pub ask : (r : ClaimFrame) (n : ℕ) → OurClaim c r → toldSending (r .answer) ≡ refused n → ⊥
+
+abbrev pub NoneRefuses : Type 0
+NoneRefuses =
+    (names : List ℕ) (acts : List Act) (w : Network) → Differ names → Fit names
+    → Ran names (fresh names) acts w
+    → (i : ℕ) (c : Claim) (k : ℕ) → nodeAt w i ≡ on c k → Unrefused w i c k
+
+-- ---- Every node holds an address, or is silent (RULES 16.17)
 
 -- no node starts, and none is asked for its claim
 abbrev pub LeftAlone : List Act → Type 0

@@ -1,4 +1,4 @@
--- RULES 14, a network of nodes.
+-- RULES 16, a network of nodes.
 pub mod Network
 pub mod Laws
 pub mod Listener

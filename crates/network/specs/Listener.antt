@@ -1,4 +1,4 @@
--- A listener: a node table (crates/nodes) on the bus of a network (RULES 14.15 to 14.17). It began empty, heard every
+-- A listener: a node table (crates/nodes) on the bus of a network (RULES 16.18 and 16.19). It began empty, heard every
 -- claim in the order of the bus, and whatever other frames there were, with pauses anywhere. At rest it shows just the
 -- nodes that are not silent, each at its address, and no challenger.
 use mathlib.Core.Path.{_≡_}

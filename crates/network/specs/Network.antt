@@ -1,4 +1,4 @@
--- A network: nodes that claim addresses on one bus (RULES 14.1 to 14.8). What a node does is told by the promises of
+-- A network: nodes that claim addresses on one bus (RULES 16.1 to 16.9). What a node does is told by the promises of
 -- `Claim::start`, `hear`, `pause` and `our_claim` (crates/claim) alone, and what it sends is the frame that the call
 -- hands it. All that is added here is the bus.
 --
