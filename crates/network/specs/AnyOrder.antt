@@ -8,7 +8,8 @@ use mathlib.Core.Logic.{_⊎_}
 use Prim.Native.Nat.{ℕ, _<_}
 use lib.ListN.{length, take, drop}
 use Rattle.words.specs.Words.{if_then_else_, _=?_, Told, refused, gives, Done}
-use Rattle.claim.specs.Promises.{Start, Hear, Pause, OurClaim, Stands, toldStarting, toldHearing, toldSending, isSentTold}
+use Rattle.claim.specs.Promises.{Start, Hear, Pause, Stands, OurClaim, toldStarting, toldHearing, toldSending}
+use Rattle.claim.specs.Promises.{isSentTold}
 use Rattle.claim.specs.declared.Claim.{Claim}
 use Rattle.claim.specs.declared.Started.{Started}
 use Rattle.claim.specs.declared.Heard.{Heard}

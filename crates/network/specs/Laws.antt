@@ -125,8 +125,8 @@ ComesToRest =
 
 -- ---- Every call answers, and none refuses (RULES 16.16)
 
--- What else may happen can happen at any time, so that runs are not said of nothing: a node that has not started starts,
--- with any list, and for one that has, time passes, and it is asked for its claim.
+-- What else may happen can happen at any time, so that runs are not said of nothing: a node that has not started can
+-- start, with any list; for one that has started time can pass, and it can be asked for its claim.
 pub record AnyTime (names : List ℕ) (w : Network) : Type 0 where
   pub start : (i : ℕ) (list : List ℕ) (older : ℕ) → i < length names → nodeAt w i ≡ off
       → (v : Network) × Step names w (starts i list older) v
@@ -141,8 +141,8 @@ EveryActCan =
 -- A start is refused for its list alone. After it no call of a node is refused: its state keeps its rules, and every
 -- frame on the bus is a sound claim.
 pub record Unrefused (w : Network) (i : ℕ) (c : Claim) (k : ℕ) : Type 0 where
-  pub hear : (x : Sent) (rest : List Sent) (r : Heard) (n : ℕ) → drop k (w .bus) ≡ x ∷ rest → Hear (x .id) (x .bytes) c r
-      → toldHearing (r .answer) ≡ refused n → ⊥
+  pub hear : (x : Sent) (rest : List Sent) (r : Heard) (n : ℕ) → drop k (w .bus) ≡ x ∷ rest
+      → Hear (x .id) (x .bytes) c r → toldHearing (r .answer) ≡ refused n → ⊥
   pub pause : (ms : ℕ) (r : Paused) (n : ℕ) → Pause ms c r → toldPausing (r .answer) ≡ refused n → ⊥
   pub ask : (r : ClaimFrame) (n : ℕ) → OurClaim c r → toldSending (r .answer) ≡ refused n → ⊥
 
