@@ -102,6 +102,7 @@ demand-two =
       comes-to-rest = Network.comes-to-rest;
       held-at-last = Network.held-at-last;
       table-agrees = Network.table-agrees;
+      late-table-agrees = Network.late-table-agrees;
       nodes-run = NodesRuns.run-by-record;
       nodes-every-run-runs = NodesRuns.every-run-runs;
       challenge-waits = NodesChallenge.challenge-waits;

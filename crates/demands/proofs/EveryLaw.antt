@@ -611,6 +611,7 @@ network-laws =
       held-at-last = Network.held-at-last;
       no-two-in-any-order = Network.no-two-in-any-order;
       table-agrees = Network.table-agrees;
+      late-table-agrees = Network.late-table-agrees;
       names-differ = Network.names-differ;
       none-lost = Network.none-lost;
       start-first = Network.start-first;

@@ -105,6 +105,7 @@ pub record DemandTwo : Type 0 where
   pub comes-to-rest : Network.ComesToRest
   pub held-at-last : Network.HeldAtLast
   pub table-agrees : NetworkListener.TableAgrees
+  pub late-table-agrees : NetworkListener.LateTableAgrees
   -- the node table: a run of calls makes of each record what the claims and pauses make of it, and a challenger takes
   -- its record just when the rules say so
   pub nodes-run : NodesRuns.RunByRecord

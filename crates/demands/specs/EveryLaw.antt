@@ -565,6 +565,7 @@ pub record NetworkLaws : Type 0 where
   pub held-at-last : Network.HeldAtLast
   pub no-two-in-any-order : NetworkAnyOrder.NoTwoInAnyOrder
   pub table-agrees : NetworkListener.TableAgrees
+  pub late-table-agrees : NetworkListener.LateTableAgrees
   pub names-differ : NetworkNeeded.NamesDiffer
   pub none-lost : NetworkNeeded.NoneLost
   pub start-first : NetworkNeeded.StartFirst

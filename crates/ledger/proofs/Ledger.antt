@@ -79,6 +79,7 @@ fields-of-two =
       comes-to-rest = demand-two .comes-to-rest;
       held-at-last = demand-two .held-at-last;
       table-agrees = demand-two .table-agrees;
+      late-table-agrees = demand-two .late-table-agrees;
       nodes-run = demand-two .nodes-run;
       nodes-every-run-runs = demand-two .nodes-every-run-runs;
       challenge-waits = demand-two .challenge-waits;

@@ -103,6 +103,7 @@ pub record FieldsOfTwo : Type 0 where
   pub comes-to-rest : Network.ComesToRest
   pub held-at-last : Network.HeldAtLast
   pub table-agrees : NetworkListener.TableAgrees
+  pub late-table-agrees : NetworkListener.LateTableAgrees
   pub nodes-run : NodesRuns.RunByRecord
   pub nodes-every-run-runs : NodesRuns.EveryRunRuns
   pub challenge-waits : NodesRuns.ChallengeWaits

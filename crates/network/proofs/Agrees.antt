@@ -8,7 +8,7 @@ use mathlib.Core.Option.{Option, some, none}
 use Prim.Native.Nat.{ℕ, _≤_, _<_, _^_}
 use native.Mathlib.Omega.{arith}
 use borrow.Author.Tests.{eq-eqb, ne-eqb, ltb-true, ltb-false}
-use lib.ListN.{length, getD, take}
+use lib.ListN.{length, getD, take, drop, take-append-drop}
 use Rattle.words.specs.Words.{if_then_else_, _=?_, _<?_, gives}
 use Rattle.words.proofs.Words.{by-test, true-false}
 use Rattle.frame.specs.Bytes.{bytesOf}
@@ -33,13 +33,14 @@ use Rattle.nodes.proofs.Shown.{looked-here, rival-here, no-rival-is, held-alone
 use Rattle.nodes.proofs.Runs.{run-by-record}
 use Rattle.network.specs.Network.{Sent, Node, off, on, Network, nodeAt, nameOf, Differ, Fit, fresh, Act, Ran}
 use Rattle.network.specs.Laws.{At, AtRest, lastBy}
-use Rattle.network.specs.Listener.{InTurn, saidOn, claimsIn, Listened, Shows, TableAgrees}
-use Rattle.network.proofs.Lists.{equal-or, In, in-left}
+use Rattle.network.specs.Listener.{InTurn, saidOn, claimsIn, Listened, Shows, TableAgrees, ClaimedFrom}
+use Rattle.network.specs.Listener.{LateTableAgrees}
+use Rattle.network.proofs.Lists.{equal-or, In, in-left, in-drop, last-since, word-claimed}
 use Rattle.network.proofs.Moves.{mine, Known, known-source, kept-on, on-here, source-low, source-silent}
 use Rattle.network.proofs.Moves.{source-awake}
 use Rattle.network.proofs.NoTwo.{Held-so, run-so, at-here, here-at, no-two, last-word}
 use Rattle.network.proofs.Lowest.{lowest, explained-run}
-use Rattle.network.proofs.Turn.{lastFrom, Last, last-run}
+use Rattle.network.proofs.Turn.{lastFrom, Last, last-run, from-since, from-all}
 use Rattle.network.proofs.Record.{whoSaid, fromWhere, NoneBelow, who-claims, from-claims, below-claims, holder-is}
 use Rattle.network.proofs.Record.{shown-came, record-facts}
 
@@ -168,38 +169,59 @@ module _ (names : List ℕ) (acts : List Act) (w : Network) (differ : Differ nam
           (λ s. absurd (omega (arith, y, l, source-silent c s)))
           (λ s. rw (sym (source-awake c s) ∙ y) at (here-at names w i c k (v .kept) f s))
 
-  module _ (said : List Said) (heard : claimsIn said ≡ saidOn (w .bus)) where
+  -- what was heard since so many claims had passed
+  module _ (passed : ℕ) (claimed : (i a : ℕ) → At w i a → ClaimedFrom i a (drop passed (w .bus))) (said : List Said)
+      (heard : claimsIn said ≡ saidOn (drop passed (w .bus))) where
+    abbrev since : List Sent
+    since = drop passed (w .bus)
+
+    known-since : AllKnown names fit since
+    known-since x h = known x (in-drop x passed (w .bus) h)
+
+    whole : take passed (w .bus) ++ since ≡ w .bus
+    whole = take-append-drop passed (w .bus)
+
     -- a node that is there holds its record
     held-there : (i a : ℕ) → At w i a → recordAfterAll said a absent ≡ held (nameOf names i)
     held-there i a p =
         let h : i < length names = on-here names w i (p .claim) (p .read) (v .kept) (p .started) .1 in
         holder-is a (nameOf names i) said
-        (below-claims a (nameOf names i) said (rw heard (below-on names fit a (nameOf names i) (w .bus) known (none-lower i a p))))
-        (who-claims a none said ∙ ap (whoSaid a none) heard ∙ who-on names fit a none (w .bus) known
-        ∙ ap (nameIn names fit) (last-word names acts w differ fit ran rest all-came i a p))
+        (below-claims a (nameOf names i) said
+        (rw heard
+        (below-on names fit a (nameOf names i) since known-since
+        (λ x q. none-lower i a p x (in-drop x passed (w .bus) q)))))
+        (who-claims a none said ∙ ap (whoSaid a none) heard ∙ who-on names fit a none since known-since
+        ∙ ap (nameIn names fit)
+        (last-since a i i (take passed (w .bus)) since (claimed i a p)
+        (ap (lastBy a none) whole ∙ last-word names acts w differ fit ran rest all-came i a p)))
         (from-claims (nameOf names i) none said ∙ ap (fromWhere (nameOf names i) none) heard
-        ∙ from-on names fit differ i h none (w .bus) known ∙ last-there i a p)
+        ∙ from-on names fit differ i h none since known-since
+        ∙ from-since i a a (take passed (w .bus)) since (claimed i a p) (ap (lastFrom i none) whole ∙ last-there i a p))
 
     -- and whoever stands in a record is there
     there-shown : (n a : ℕ) → a ≤ greatestAddress → stands n (recordAfterAll said a absent) ≡ true
         → (i : ℕ) × At w i a × (nameOf names i ≡ n)
     there-shown n a l z =
-        let f : fromWhere n none (saidOn (w .bus)) ≡ some a =
+        let f : fromWhere n none (saidOn since) ≡ some a =
         ap (fromWhere n none) (sym heard) ∙ sym (from-claims n none said) ∙ shown-came a n said z in
-        go f (from-one names fit n a none (w .bus) known f)
+        go f (from-one names fit n a none since known-since f)
       where
-        go : fromWhere n none (saidOn (w .bus)) ≡ some a
+        go : fromWhere n none (saidOn since) ≡ some a
             → (_≡_ {A = Option ℕ} none (some a)) ⊎ ((i : ℕ) × (i < length names) × (nameOf names i ≡ n))
             → (i : ℕ) × At w i a × (nameOf names i ≡ n)
         go f (inl e) = let y : _≡_ {A = ℕ} 0 1 = cc in absurd (omega arith)
         go f (inr q) = (
           q .0,
           there-last (q .0) a l
-              (sym (from-on names fit differ (q .0) (q .1) none (w .bus) known) ∙ ap (λ (m : ℕ). fromWhere m none (saidOn (w .bus))) (q .2) ∙ f),
+              (ap (lastFrom (q .0) none) (sym whole)
+              ∙ from-all (q .0) a (take passed (w .bus)) since
+              (sym (from-on names fit differ (q .0) (q .1) none since known-since)
+              ∙ ap (λ (m : ℕ). fromWhere m none (saidOn since)) (q .2) ∙ f)),
           q .2,
         )
 
-  module _ (table : List Record.Node) (l : Listened (saidOn (w .bus)) table) where
+  module _ (passed : ℕ) (claimed : (i a : ℕ) → At w i a → ClaimedFrom i a (drop passed (w .bus))) (table : List Record.Node)
+      (l : Listened (saidOn (drop passed (w .bus))) table) where
     abbrev said : List Said
     said = map saidBy (l .calls)
 
@@ -252,11 +274,11 @@ module _ (names : List ℕ) (acts : List Act) (w : Network) (differ : Differ nam
           }
 
       holds : (i : ℕ) → At w i a → r ≡ held (nameOf names i)
-      holds i p = record-is a low ∙ held-there said (l .in-order) i a p
+      holds i p = record-is a low ∙ held-there passed claimed said (l .in-order) i a p
 
       shown-present : r .present ≡ true → Shows names w table a
       shown-present p =
-          let q = there-shown said (l .in-order) (r .name) a h
+          let q = there-shown passed claimed said (l .in-order) (r .name) a h
           (ap (stands (r .name)) (sym (record-is a low)) ∙ stands-holder (r .name) r (has-name-of (r .name) r p refl)) in
           record {
             shown = inl (
@@ -290,5 +312,12 @@ module _ (names : List ℕ) (acts : List Act) (w : Network) (differ : Differ nam
         let h = ltb-false greatestAddress a t in
         by-test (getD table a absent .present) (shown-present a h) (shown-absent a h))
 
+pub late-table-agrees : LateTableAgrees
+late-table-agrees names acts w differ fit ran turn rest all-came passed claimed table l a =
+    shows names acts w differ fit ran turn rest all-came passed claimed table l a
+
+-- every node claimed its address some time
 pub table-agrees : TableAgrees
-table-agrees names acts w differ fit ran turn rest all-came table l a = shows names acts w differ fit ran turn rest all-came table l a
+table-agrees names acts w differ fit ran turn rest all-came table l a =
+    shows names acts w differ fit ran turn rest all-came 0
+    (λ i b p. word-claimed b i (w .bus) (last-word names acts w differ fit ran rest all-came i b p)) table l a

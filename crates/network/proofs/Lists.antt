@@ -1,19 +1,21 @@
 -- Claims in lists: being in one, the last one from an address, and the last one of a node.
 -- Assumes nothing.
 use mathlib.Core.Path.{_≡_, refl, sym, ap, _∙_}
+use mathlib.Core.Bool.{true}
 use mathlib.Core.List.{List, [], _∷_, _++_}
 use mathlib.Core.Logic.{_⊎_, inl, inr}
 use mathlib.Core.Option.{Option, some, none}
 use Prim.Native.Nat.{ℕ, zero, suc, _≤_, _<_}
 use native.Mathlib.Decide.{ℕ-discrete}
 use native.Mathlib.Omega.{arith}
-use borrow.Author.Tests.{eq-eqb, ne-eqb}
+use borrow.Author.Tests.{eq-eqb, ne-eqb, eqb-true}
 use lib.ListN.{length, getD, take, drop}
 use Rattle.words.specs.Words.{if_then_else_, _=?_}
 use Rattle.words.proofs.Words.{by-test}
 use Rattle.frame.specs.Identifier.{sourceOf}
 use Rattle.network.specs.Network.{Sent, Node, off}
 use Rattle.network.specs.Laws.{Own, lastBy}
+use Rattle.network.specs.Listener.{ClaimedFrom}
 
 pub equal-or : {P : Type 0} (i j : ℕ) → (i ≡ j → P) → ((i ≡ j → ⊥) → P) → P
 equal-or {P} i j f g = go (ℕ-discrete i j)
@@ -140,3 +142,42 @@ last-taken a i who y (x ∷ l) o (inl q) e =
     rw (eq-eqb (sourceOf (x .id)) a s, o .0) (last-own a i l (o .1))
 last-taken a i who y (x ∷ l) o (inr h) e =
     last-taken a i (if sourceOf (x .id) =? a then some (x .by) else who) y l (o .1) h e
+
+-- from the first claim from an address on, it makes no difference who had the last word before
+
+last-anyway : (a j : ℕ) (who other : Option ℕ) (l : List Sent) → ClaimedFrom j a l → lastBy a who l ≡ lastBy a other l
+last-anyway a j who other [] h = absurd h
+last-anyway a j who other (x ∷ l) (inl h) = rw (eq-eqb (sourceOf (x .id)) a (h .1)) refl
+last-anyway a j who other (x ∷ l) (inr h) =
+    by-test (sourceOf (x .id) =? a)
+    (λ t. rw t refl)
+    (λ t. rw t (last-anyway a j who other l h))
+
+pub last-since : (a i j : ℕ) (l r : List Sent) → ClaimedFrom j a r → lastBy a none (l ++ r) ≡ some i → lastBy a none r ≡ some i
+last-since a i j l r h e = last-anyway a j none (lastBy a none l) r h ∙ sym (last-append a none l r) ∙ e
+
+-- who has the last word has claimed the address
+last-claimed : (a i : ℕ) (who : Option ℕ) (l : List Sent) → lastBy a who l ≡ some i → (who ≡ some i) ⊎ ClaimedFrom i a l
+last-claimed a i who [] e = inl e
+last-claimed a i who (x ∷ l) e =
+    by-test (sourceOf (x .id) =? a)
+    (λ t. here t (last-claimed a i (some (x .by)) l (rw t at e)))
+    (λ t. there (last-claimed a i who l (rw t at e)))
+  where
+    some-same : (j k : ℕ) → _≡_ {A = Option ℕ} (some j) (some k) → j ≡ k
+    some-same j k q = cc
+
+    here : (sourceOf (x .id) =? a) ≡ true → (some (x .by) ≡ some i) ⊎ ClaimedFrom i a l → (who ≡ some i) ⊎ ClaimedFrom i a (x ∷ l)
+    here t (inl q) = inr (inl (some-same (x .by) i q, eqb-true (sourceOf (x .id)) a t))
+    here t (inr q) = inr (inr q)
+
+    there : (who ≡ some i) ⊎ ClaimedFrom i a l → (who ≡ some i) ⊎ ClaimedFrom i a (x ∷ l)
+    there (inl q) = inl q
+    there (inr q) = inr (inr q)
+
+pub word-claimed : (a i : ℕ) (l : List Sent) → lastBy a none l ≡ some i → ClaimedFrom i a l
+word-claimed a i l e = go (last-claimed a i none l e)
+  where
+    go : (_≡_ {A = Option ℕ} none (some i)) ⊎ ClaimedFrom i a l → ClaimedFrom i a l
+    go (inl q) = let z : _≡_ {A = ℕ} 0 1 = cc in absurd (omega arith)
+    go (inr q) = q

@@ -3,6 +3,7 @@
 use mathlib.Core.Path.{_≡_, refl, sym, ap, _∙_}
 use mathlib.Core.Bool.{Bool, true, false}
 use mathlib.Core.List.{List, [], _∷_, _++_}
+use mathlib.Core.Logic.{inl, inr}
 use mathlib.Core.Option.{Option, some, none}
 use Prim.Native.Nat.{ℕ, suc, _-_, _<_}
 use native.Mathlib.Omega.{arith}
@@ -18,7 +19,7 @@ use Rattle.claim.specs.declared.Claim.{Claim}
 use Rattle.claim.proofs.Outcomes.{Went, deaf, apart, same, wins, goes, ends, went}
 use Rattle.network.specs.Network.{Sent, Node, off, on, Network, nodeAt, nameOf, Fit, fresh, Act, becomes, Ran}
 use Rattle.network.specs.Network.{no-act, an-act}
-use Rattle.network.specs.Listener.{NoneBy, FirstOfIts, InTurn}
+use Rattle.network.specs.Listener.{NoneBy, FirstOfIts, InTurn, ClaimedFrom}
 use Rattle.network.proofs.Lists.{equal-or}
 use Rattle.network.proofs.Moves.{mine, mine-source, Kept, kept-on, on-here, tells, Move, refuses}
 use Rattle.network.proofs.Moves.{begins, comes-on, hears, passes, waits, repeats, move-of, source-low, source-silent}
@@ -36,6 +37,29 @@ from-append i who (x ∷ l) r = from-append i (if x .by =? i then some (sourceOf
 from-none : (i : ℕ) (who : Option ℕ) (l : List Sent) → NoneBy i l → lastFrom i who l ≡ who
 from-none i who [] n = refl
 from-none i who (x ∷ l) n = rw (ne-eqb (x .by) i (n .0)) (from-none i who l (n .1))
+
+-- of claims that were heard later, and of all of them
+
+from-anyway : (i a : ℕ) (who other : Option ℕ) (l : List Sent) → ClaimedFrom i a l → lastFrom i who l ≡ lastFrom i other l
+from-anyway i a who other [] h = absurd h
+from-anyway i a who other (x ∷ l) (inl h) = rw (eq-eqb (x .by) i (h .0)) refl
+from-anyway i a who other (x ∷ l) (inr h) =
+    by-test (x .by =? i)
+    (λ t. rw t refl)
+    (λ t. rw t (from-anyway i a who other l h))
+
+pub from-since : (i a b : ℕ) (l r : List Sent) → ClaimedFrom i b r → lastFrom i none (l ++ r) ≡ some a → lastFrom i none r ≡ some a
+from-since i a b l r h e = from-anyway i b none (lastFrom i none l) r h ∙ sym (from-append i none l r) ∙ e
+
+from-some : (i a : ℕ) (who : Option ℕ) (l : List Sent) → lastFrom i none l ≡ some a → lastFrom i who l ≡ some a
+from-some i a who [] e = let z : _≡_ {A = ℕ} 0 1 = cc in absurd (omega arith)
+from-some i a who (x ∷ l) e =
+    by-test (x .by =? i)
+    (λ t. rw t (rw t at e))
+    (λ t. rw t (from-some i a who l (rw t at e)))
+
+pub from-all : (i a : ℕ) (l r : List Sent) → lastFrom i none r ≡ some a → lastFrom i none (l ++ r) ≡ some a
+from-all i a l r e = from-append i none l r ∙ from-some i a (lastFrom i none l) r e
 
 -- a claim that comes on the bus before the others that wait
 from-come : (i n : ℕ) (bus waiting : List Sent) (x : Sent) (rest : List Sent) → drop n waiting ≡ x ∷ rest

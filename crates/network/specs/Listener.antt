@@ -1,4 +1,4 @@
--- A listener: a node table (crates/nodes) on the bus of a network (RULES 16.18 and 16.19). It began empty, heard every
+-- A listener: a node table (crates/nodes) on the bus of a network (RULES 16.18 to 16.20). It began empty, heard every
 -- claim in the order of the bus, and whatever other frames there were, with pauses anywhere. At rest it shows just the
 -- nodes that are not silent, each at its address, and no challenger.
 use mathlib.Core.Path.{_≡_}
@@ -6,6 +6,7 @@ use mathlib.Core.List.{List, [], _∷_, _++_, map}
 use mathlib.Core.Logic.{_⊎_}
 use Prim.Native.Nat.{ℕ}
 use lib.ListN.{take, drop}
+use Rattle.frame.specs.Identifier.{sourceOf}
 use Rattle.nodes.specs.Promises.{Empty, LookUp, FindChallenger}
 use Rattle.nodes.specs.Runs as Table
 use Rattle.nodes.specs.Runs.{Said, nothing, claims, pauses, saidBy, hearing}
@@ -70,4 +71,20 @@ TableAgrees =
     (names : List ℕ) (acts : List Act) (w : Network) → Differ names → Fit names
     → (ran : Ran names (fresh names) acts w) → InTurn ran → AtRest w → w .waiting ≡ []
     → (table : List Record.Node) → Listened (saidOn (w .bus)) table
+    → (a : ℕ) → Shows names w table a
+
+-- ---- A listener that was switched on later, when so many claims had passed, shows the same as soon as each of these
+-- nodes has claimed its address since; every node does so when it is asked for its claim (RULES 16.9).
+
+-- a node claimed an address
+abbrev pub ClaimedFrom : ℕ → ℕ → List Sent → Type 0
+ClaimedFrom i a [] = ⊥
+ClaimedFrom i a (x ∷ xs) = ((x .by ≡ i) × (sourceOf (x .id) ≡ a)) ⊎ ClaimedFrom i a xs
+
+abbrev pub LateTableAgrees : Type 0
+LateTableAgrees =
+    (names : List ℕ) (acts : List Act) (w : Network) → Differ names → Fit names
+    → (ran : Ran names (fresh names) acts w) → InTurn ran → AtRest w → w .waiting ≡ []
+    → (passed : ℕ) → ((i a : ℕ) → At w i a → ClaimedFrom i a (drop passed (w .bus)))
+    → (table : List Record.Node) → Listened (saidOn (drop passed (w .bus))) table
     → (a : ℕ) → Shows names w table a

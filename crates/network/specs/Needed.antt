@@ -1,4 +1,4 @@
--- What the laws need (RULES 16.20): with any of these taken away there is a network at rest of which they are false.
+-- What the laws need (RULES 16.21): with any of these taken away there is a network at rest of which they are false.
 -- proofs/Needed.antt has it, run by run.
 use mathlib.Core.Path.{_≡_}
 use mathlib.Core.List.{List, [], _∷_, _++_}
