@@ -1,4 +1,4 @@
--- Claims in lists: being in one, the last one from an address, and the last one of a node.
+-- Claims in lists: being in one, and the last one from an address.
 -- Assumes nothing.
 use mathlib.Core.Path.{_≡_, refl, sym, ap, _∙_}
 use mathlib.Core.Bool.{true}
