@@ -95,8 +95,9 @@ pub record DemandTwo : Type 0 where
   pub fast-joined-by-rules : FastSending.JoinedByRules
   -- claims: what one node sends, another's table takes for that claim
   pub claim-is-heard : ClaimIsHeard
-  -- a network of nodes on one bus: at rest no two have one address, whoever has one having the last word on it; it comes
-  -- to rest, and each node then holds an address or is silent; and a listener's table shows just those that have one
+  -- a network of nodes on one bus: at rest no two have one address, whoever has one having the last word on it; it
+  -- comes to rest, and each node then holds an address or is silent; and a listener's table shows just those that have
+  -- one
   pub no-two : Network.NoTwo
   pub last-word : Network.LastWord
   pub few-claims : Network.FewClaims
