@@ -156,7 +156,6 @@ fn unsplittable(notes: &mut [u64], why: Unsplittable) {
     match why {
         Unsplittable::NoCode => say::text(b"Refused NoCode "),
         Unsplittable::LengthNotSplit => say::text(b"Refused LengthNotSplit "),
-        Unsplittable::TooManyPackets => say::text(b"Refused TooManyPackets "),
     }
     put(notes, notes::MESSAGE_UNSPLITTABLE, why.refusal() as u64);
 }

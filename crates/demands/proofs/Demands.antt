@@ -2,6 +2,7 @@
 -- Assumes nothing.
 use Rattle.frame.proofs.Laws as Frame
 use Rattle.message.proofs.Laws as Message
+use Rattle.message.proofs.PacketCount as MessagePacketCount
 use Rattle.fast.proofs.Laws as Fast
 use Rattle.fast.proofs.KeepsPlaces as FastKeepsPlaces
 use Rattle.fast.proofs.Joined as FastJoined
@@ -28,6 +29,7 @@ use Rattle.network.proofs.Laws as Network
 use Rattle.capture.proofs.Feeding as Feeding
 use Rattle.demands.specs.Demands.{DemandOne, DemandTwo, DemandThree}
 use Rattle.demands.proofs.EveryCall.{every-call}
+use Rattle.demands.proofs.Numbers.{every-number}
 use Rattle.demands.proofs.BusyBus as BusyBus
 use Rattle.demands.proofs.SplitAndJoin as SplitAndJoin
 use Rattle.demands.proofs.FastBus as FastBus
@@ -38,6 +40,7 @@ pub demand-one : DemandOne
 demand-one =
     record {
       calls = every-call;
+      numbers = every-number;
       frame = Frame.refused-keeps;
       hear = Message.refused-keeps;
       ten-closes = Message.ten-closes;
@@ -88,6 +91,12 @@ demand-two =
       no-third-state = Catalogue.no-third-state;
       splitter-announces = Message.splitter-announces;
       splitter-splits = Message.splitter-splits;
+      fits-exactly = MessagePacketCount.fits-exactly;
+      announcement-fits = MessagePacketCount.announcement-fits;
+      packet-fits = MessagePacketCount.packet-fits;
+      never-fourteen = MessagePacketCount.never-fourteen;
+      announcement-as-before = MessagePacketCount.announcement-as-before;
+      packet-as-before = MessagePacketCount.packet-as-before;
       split-and-join = SplitAndJoin.split-and-join;
       joined-by-rules = SplitAndJoin.joined-by-rules;
       fast-splitter-splits = Fast.splitter-splits;

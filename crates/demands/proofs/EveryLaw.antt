@@ -11,6 +11,7 @@ use Rattle.places.proofs.NineKeys as PlacesNineKeys
 use Rattle.places.proofs.Tiny as PlacesTiny
 use Rattle.places.proofs.TinyReceiver as PlacesTinyReceiver
 use Rattle.message.proofs.Laws as Message
+use Rattle.message.proofs.PacketCount as MessagePacketCount
 use Rattle.message.proofs.Pauses as MessagePauses
 use Rattle.fast.proofs.Laws as Fast
 use Rattle.fast.proofs.Example as FastExample
@@ -170,6 +171,14 @@ message-laws =
       splitter-announces = Message.splitter-announces;
       splitter-splits = Message.splitter-splits;
       lowest-wins = Message.lowest-wins;
+      fits-exactly = MessagePacketCount.fits-exactly;
+      announcement-fits = MessagePacketCount.announcement-fits;
+      packet-fits = MessagePacketCount.packet-fits;
+      too-many-to-announce = MessagePacketCount.too-many-to-announce;
+      too-many-to-split = MessagePacketCount.too-many-to-split;
+      never-fourteen = MessagePacketCount.never-fourteen;
+      announcement-as-before = MessagePacketCount.announcement-as-before;
+      packet-as-before = MessagePacketCount.packet-as-before;
       pauses-add-up = MessagePauses.pauses-add-up;
     }
 

@@ -5,5 +5,6 @@ pub mod FastBus
 pub mod FastSplitAndJoin
 pub mod ClaimsHeard
 pub mod EveryCall
+pub mod Numbers
 pub mod EveryLaw
 pub mod Demands

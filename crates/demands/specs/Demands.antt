@@ -1,6 +1,7 @@
 -- The three demands on the library (RULES 13.1 to 13.5), each a statement over the definitions of its parts.
 use Rattle.frame.specs.Laws as Frame
 use Rattle.message.specs.Laws as Message
+use Rattle.message.specs.PacketCount as MessagePacketCount
 use Rattle.fast.specs.Laws as Fast
 use Rattle.fast.specs.Calls as FastCalls
 use Rattle.fast.specs.Sending as FastSending
@@ -17,6 +18,7 @@ use Rattle.capture.specs.Laws as Capture
 use Rattle.network.specs.Laws as Network
 use Rattle.network.specs.Listener as NetworkListener
 use Rattle.demands.specs.EveryCall.{EveryCall}
+use Rattle.demands.specs.Numbers.{EveryNumber}
 use Rattle.demands.specs.BusyBus.{BusyBus, OpenOnBus, ToldOnBus, NoPlaceFree, PauseCount, SumsOfPauses, StartKept}
 use Rattle.demands.specs.BusyBus.{RulesKept, EveryRunRuns, NoPlaceFreeAt, PauseCountAt}
 use Rattle.demands.specs.SplitAndJoin.{SplitAndJoin, JoinedByRules}
@@ -29,6 +31,7 @@ use Rattle.demands.specs.Pauses.{PausesAddUp}
 -- its number (RULES 2.1) and changes nothing lent or held, but 10 closes that sender's message.
 pub record DemandOne : Type 2 where
   pub calls : EveryCall
+  pub numbers : EveryNumber
   -- zeros, the state that was handed in, and the lent bytes stand beside a refusal
   pub frame : Frame.RefusedKeeps
   pub hear : Message.RefusedKeeps
@@ -83,10 +86,18 @@ pub record DemandTwo : Type 0 where
   pub mark-reads : Catalogue.MarkReads
   pub mark-writes : Catalogue.MarkWrites
   pub no-third-state : Catalogue.NoThirdState
-  -- long messages: every message and DGN within the limits of RULES 5.15 is split, and is joined again in any run of
-  -- calls
+  -- long messages: every message and DGN within the limits of RULES 5.15 is split
   pub splitter-announces : Message.SplitterAnnounces
   pub splitter-splits : Message.SplitterSplits
+  -- none of them has more packets than a byte numbers, which the splitter asked once: what it answers is what it
+  -- answered then
+  pub fits-exactly : MessagePacketCount.FitsExactly
+  pub announcement-fits : MessagePacketCount.AnnouncementFits
+  pub packet-fits : MessagePacketCount.PacketFits
+  pub never-fourteen : MessagePacketCount.NeverFourteen
+  pub announcement-as-before : MessagePacketCount.AnnouncementAsBefore
+  pub packet-as-before : MessagePacketCount.PacketAsBefore
+  -- and it is joined again in any run of calls
   pub split-and-join : SplitAndJoin
   pub joined-by-rules : JoinedByRules
   -- fast packets: every message of 1 to 223 bytes, in every sequence, is split, and is joined again in any run of calls

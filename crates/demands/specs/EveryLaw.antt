@@ -11,6 +11,7 @@ use Rattle.places.specs.Calls as PlacesCalls
 use Rattle.places.specs.Tiny as PlacesTiny
 use Rattle.places.specs.TinyReceiver as PlacesTinyReceiver
 use Rattle.message.specs.Laws as Message
+use Rattle.message.specs.PacketCount as MessagePacketCount
 use Rattle.message.specs.Pauses as MessagePauses
 use Rattle.fast.specs.Laws as Fast
 use Rattle.fast.specs.Example as FastExample
@@ -148,6 +149,14 @@ pub record MessageLaws : Type 0 where
   pub splitter-splits : Message.SplitterSplits
   pub lowest-wins :
       (id : ℕ) (bytes : List ℕ) (places : List Place) (storage : List ℕ) → Message.LowestWins id bytes places storage
+  pub fits-exactly : MessagePacketCount.FitsExactly
+  pub announcement-fits : MessagePacketCount.AnnouncementFits
+  pub packet-fits : MessagePacketCount.PacketFits
+  pub too-many-to-announce : MessagePacketCount.TooManyToAnnounce
+  pub too-many-to-split : MessagePacketCount.TooManyToSplit
+  pub never-fourteen : MessagePacketCount.NeverFourteen
+  pub announcement-as-before : MessagePacketCount.AnnouncementAsBefore
+  pub packet-as-before : MessagePacketCount.PacketAsBefore
   pub pauses-add-up : MessagePauses.PausesAddUp
 
 pub record FastLaws : Type 1 where

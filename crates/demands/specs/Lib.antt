@@ -6,5 +6,6 @@ pub mod FastSplitAndJoin
 pub mod ClaimsHeard
 pub mod Pauses
 pub mod EveryCall
+pub mod Numbers
 pub mod EveryLaw
 pub mod Demands

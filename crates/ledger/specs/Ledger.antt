@@ -2,11 +2,13 @@
 -- 13.11), each named once more from outside the crates that state and prove them. A demand that loses a field, or a
 -- table that loses a line, no longer fits it.
 use mathlib.Core.Path.{_≡_}
+use mathlib.Core.Bool.{false}
 use mathlib.Core.List.{[], _∷_}
 use Rattle.words.specs.Pauses.{PauseCall}
 use Rattle.words.specs.Pauses as Pauses
 use Rattle.frame.specs.Laws as Frame
 use Rattle.message.specs.Laws as Message
+use Rattle.message.specs.PacketCount as MessagePacketCount
 use Rattle.fast.specs.Laws as Fast
 use Rattle.fast.specs.Calls as FastCalls
 use Rattle.fast.specs.Sending as FastSending
@@ -27,6 +29,7 @@ use Rattle.capture.specs.Laws as Capture
 use Rattle.network.specs.Laws as Network
 use Rattle.network.specs.Listener as NetworkListener
 use Rattle.demands.specs.EveryCall.{EveryCall}
+use Rattle.demands.specs.Numbers.{inTable, EveryNumber}
 use Rattle.demands.specs.EveryLaw.{EveryLaw}
 use Rattle.demands.specs.BusyBus.{BusyBus, OpenOnBus, ToldOnBus, NoPlaceFree, PauseCount, SumsOfPauses, StartKept}
 use Rattle.demands.specs.BusyBus.{RulesKept, EveryRunRuns, NoPlaceFreeAt, PauseCountAt}
@@ -42,6 +45,7 @@ use Rattle.examples.specs.Examples.{slideAcknowledged, table, AllAsPrinted}
 
 pub record FieldsOfOne : Type 2 where
   pub calls : EveryCall
+  pub numbers : EveryNumber
   pub frame : Frame.RefusedKeeps
   pub hear : Message.RefusedKeeps
   pub ten-closes : Message.TenCloses
@@ -89,6 +93,12 @@ pub record FieldsOfTwo : Type 0 where
   pub no-third-state : Catalogue.NoThirdState
   pub splitter-announces : Message.SplitterAnnounces
   pub splitter-splits : Message.SplitterSplits
+  pub fits-exactly : MessagePacketCount.FitsExactly
+  pub announcement-fits : MessagePacketCount.AnnouncementFits
+  pub packet-fits : MessagePacketCount.PacketFits
+  pub never-fourteen : MessagePacketCount.NeverFourteen
+  pub announcement-as-before : MessagePacketCount.AnnouncementAsBefore
+  pub packet-as-before : MessagePacketCount.PacketAsBefore
   pub split-and-join : SplitAndJoin
   pub joined-by-rules : JoinedByRules
   pub fast-splitter-splits : Fast.SplitterSplits
@@ -214,6 +224,7 @@ pub record Ledger : Type 2 where
   pub two : FieldsOfTwo
   pub three : FieldsOfThree
   pub pauses : FieldsOfPauses
+  pub retired : inTable 14 ≡ false
   pub every-law : EveryLaw
   pub lines : LinesOfTable
   pub as-printed : AllAsPrinted

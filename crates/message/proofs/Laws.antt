@@ -11,7 +11,6 @@ use lib.ListN.{length, drop, getD, set, length-drop}
 use lib.Seq.{getD-drop}
 use Rattle.words.specs.Words.{if_then_else_, _=?_, _<?_, Told, refused, gives, numberIn}
 use Rattle.words.specs.Lists.{count, first}
-use Rattle.frame.specs.Identifier.{greatestDgn}
 use Rattle.frame.specs.Frame.{frameBytes}
 use Rattle.frame.specs.Promises.{refusalOf}
 use Rattle.frame.specs.declared.BadFrame as Frames
@@ -26,13 +25,13 @@ use Rattle.frame.specs.Standard.{bytesIn}
 use Rattle.places.specs.Places.{placeCount}
 use Rattle.places.proofs.Stretch.{copy-keeps, copy-writes}
 use Rattle.places.specs.Telling.{Outcome, nothingToDo, opened, stored, finished}
-use Rattle.message.specs.LongMessage.{shortest, longest, packetBytes, packetsOf, needed, Meaning, other}
+use Rattle.message.specs.LongMessage.{longest, packetBytes, packetsOf, needed, Meaning, other}
 use Rattle.message.specs.LongMessage.{announcement, PacketFrom, packet, meaningOf}
 use Rattle.message.specs.Receiver.{room, freePlace, isOpenBy, keepsRules}
 use Rattle.message.specs.Receiver.{After, leaves, placeFor, openedAt, hearsAnnouncement}
 use Rattle.message.specs.Receiver.{keptAt, packetAt, carries, byMeaning, heard, pausedPlaces, pausedAnswer}
 use Rattle.message.specs.Receiver as Receiver
-use Rattle.message.specs.Splitter.{mostPackets, splits, numbered}
+use Rattle.message.specs.Splitter.{numbered}
 use Rattle.message.specs.Promises.{toldAnswer, toldPausing, announcingNumber, splittingNumber}
 use Rattle.message.specs.Laws.{ToldAnswerSame, ToldPausingSame, AnnouncingNumberSame, SplittingNumberSame}
 use Rattle.message.specs.Laws.{NewOnly, HearOnly, PauseOnly, MessageOnly, AnnouncementOnly, PacketOnly}
@@ -49,7 +48,7 @@ use Rattle.message.specs.declared.Answer.the-variants.{UnexpectedPacket,
 use Rattle.message.specs.declared.Pausing.{Pausing}
 use Rattle.message.specs.declared.Pausing.the-variants as Pausing
 use Rattle.message.specs.declared.Unsplittable.{Unsplittable}
-use Rattle.message.specs.declared.Unsplittable.the-variants.{NoCode, LengthNotSplit, TooManyPackets}
+use Rattle.message.specs.declared.Unsplittable.the-variants.{NoCode, LengthNotSplit}
 use Rattle.message.specs.declared.Announcing.{Announcing}
 use Rattle.message.specs.declared.Announcing.the-variants as Announcing
 use Rattle.message.specs.declared.Splitting.{Splitting}
@@ -58,6 +57,7 @@ use Rattle.message.proofs.Frames.{Known, meaning-known}
 use Rattle.message.proofs.Steps.{found-below, OpenRules, rules-at, announcing-at, announcing-nowhere}
 use Rattle.message.proofs.Steps.{advanced-last, advanced-next, advanced-storage, packet-expected, packet-other}
 use Rattle.message.proofs.Steps.{carries-at, carries-nowhere, heard-short, heard-broken, heard-kept}
+use Rattle.message.proofs.Packets.{splits-above, splits-outside, splits-within}
 use Rattle.message.proofs.Packets.{announcement-refused, announcement-given, packet-refused, packet-numbered}
 use Rattle.message.proofs.Packets.{numbered-zero, numbered-above, numbered-given}
 
@@ -114,7 +114,7 @@ pub told-pausing-same : ToldPausingSame
 told-pausing-same r s e = sym (pausing-back r) ∙ ap pausingBack e ∙ pausing-back s
 
 whyBack : ℕ → Unsplittable
-whyBack n = if n =? 12 then NoCode else if n =? 13 then LengthNotSplit else TooManyPackets
+whyBack n = if n =? 12 then NoCode else LengthNotSplit
 
 announcingBack : ℕ → Announcing
 announcingBack n = if n =? 0 then Announcing.Bytes else Announcing.Refused (whyBack n)
@@ -124,7 +124,6 @@ unfolding announcingBack whyBack
 announcing-back Announcing.Bytes = refl
 announcing-back (Announcing.Refused NoCode) = refl
 announcing-back (Announcing.Refused LengthNotSplit) = refl
-announcing-back (Announcing.Refused TooManyPackets) = refl
 
 pub announcing-number-same : AnnouncingNumberSame
 announcing-number-same r s e = sym (announcing-back r) ∙ ap announcingBack e ∙ announcing-back s
@@ -140,7 +139,6 @@ unfolding splittingBack whyBack
 splitting-back Splitting.Bytes = refl
 splitting-back (Splitting.Refused NoCode) = refl
 splitting-back (Splitting.Refused LengthNotSplit) = refl
-splitting-back (Splitting.Refused TooManyPackets) = refl
 splitting-back Splitting.NoSuchPacket = refl
 
 pub splitting-number-same : SplittingNumberSame
@@ -361,22 +359,7 @@ writes-its-own id bytes ps s r exit k eight h beside =
 pub not-beyond : NotBeyond
 not-beyond p i k one most own = omega (arith, own .below)
 
--- What the splitter says of a length and a DGN. The laws add that no length which it takes has more than 255 packets.
-
-module _ (size dgn : ℕ) where
-  splits-above : greatestDgn < dgn → splits size dgn ≡ refused 12
-  unfolding splits
-  splits-above d = search tests
-
-  splits-outside : dgn ≤ greatestDgn → (size < shortest) ⊎ (longest < size) → splits size dgn ≡ refused 13
-  unfolding splits
-  splits-outside d (inl h) = search tests
-  splits-outside d (inr h) = let l : shortest ≤ size = omega arith in search tests
-
-  splits-within : dgn ≤ greatestDgn → shortest ≤ size → size ≤ longest → packetsOf size ≤ mostPackets
-      → splits size dgn ≡ gives (packetsOf size)
-  unfolding splits
-  splits-within d l h few = search tests
+-- what the splitter answers
 
 pub splitter-announces : SplitterAnnounces
 splitter-announces message dgn r p =
@@ -385,7 +368,7 @@ splitter-announces message dgn r p =
       twelve = λ d. p .number ∙ ap numberIn (announcement-refused message dgn (splits-above size dgn d));
       thirteen = λ d h. p .number ∙ ap numberIn (announcement-refused message dgn (splits-outside size dgn d h));
       given = λ d l h.
-          let e = announcement-given message dgn (splits-within size dgn d l h (omega arith)) in
+          let e = announcement-given message dgn (splits-within size dgn d l h) in
           (announcing-number-same (r .answer) Announcing.Bytes (p .number ∙ ap numberIn e), p .bytes ∙ ap bytesIn e);
     }
 
@@ -396,10 +379,10 @@ splitter-splits message dgn number r p =
       twelve = λ d. p .number ∙ ap numberIn (packet-refused message dgn number (splits-above size dgn d));
       thirteen = λ d h. p .number ∙ ap numberIn (packet-refused message dgn number (splits-outside size dgn d h));
       fifteen = λ d l h n.
-          let e = packet-numbered message dgn number (splits-within size dgn d l h (omega arith)) in
+          let e = packet-numbered message dgn number (splits-within size dgn d l h) in
           p .number ∙ ap numberIn (e ∙ numbered-outside n);
       given = λ d l h one most.
-          let e = packet-numbered message dgn number (splits-within size dgn d l h (omega arith)) in
+          let e = packet-numbered message dgn number (splits-within size dgn d l h) in
           let g = e ∙ numbered-given message number (packetsOf size) (λ z. omega arith) most in
           (splitting-number-same (r .answer) Splitting.Bytes (p .number ∙ ap numberIn g), p .bytes ∙ ap bytesIn g);
     }

@@ -4,3 +4,4 @@ pub mod Pauses
 pub mod Frames
 pub mod Packets
 pub mod Laws
+pub mod PacketCount

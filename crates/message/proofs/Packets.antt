@@ -2,23 +2,53 @@
 -- Assumes nothing.
 use mathlib.Core.Path.{_≡_, sym, ap, _∙_}
 use mathlib.Core.List.{List, _∷_, _++_}
+use mathlib.Core.Logic.{_⊎_, inl, inr}
 use Prim.Native.Nat.{ℕ, suc, _+_, _-_, _*_, _≤_, _<_, min}
 use native.Mathlib.Omega.{arith}
-use borrow.Author.Tests.{eq-eqb, ne-eqb, lt-ltb, le-ltb, ltb-false}
+use borrow.Author.Tests.{eq-eqb, ne-eqb, lt-ltb, le-ltb, ltb-true, ltb-false}
 use lib.ListN.{length, take, drop, replicate, length-drop}
 use lib.Seq.{paste}
 use Rattle.words.specs.Words.{_<?_, Told, refused, gives}
 use Rattle.frame.specs.Frame.{frameBytes}
 use Rattle.frame.specs.Identifier.{greatestDgn}
 use Rattle.frame.specs.Standard.{unused}
-use Rattle.words.proofs.Words.{past-refusal, gives-same}
+use Rattle.words.proofs.Words.{refused-gives, gives-same, by-test}
+use Rattle.words.proofs.Tests.{tests}
 use Rattle.words.proofs.Lists.{filled}
 use Rattle.message.specs.LongMessage.{shortest, longest, packetBytes, packetsOf}
-use Rattle.message.specs.Splitter.{mostPackets, splits, numbered, announcementBytes, packetBytesOf}
+use Rattle.message.specs.Splitter.{splits, numbered, announcementBytes, packetBytesOf}
 use Rattle.message.specs.Splitter.{announcementOf, packetOf}
 use Rattle.message.specs.Promises.{SplitBy, splittingNumber}
 use Rattle.message.specs.declared.Splitting.{Splitting}
 use Rattle.message.specs.declared.Split.{Split}
+
+-- What the splitter says of a length and a DGN, case by case.
+
+module _ (size dgn : ℕ) where
+  pub splits-within : dgn ≤ greatestDgn → shortest ≤ size → size ≤ longest → splits size dgn ≡ gives (packetsOf size)
+  unfolding splits
+  splits-within d l h = search tests
+
+  pub splits-above : greatestDgn < dgn → splits size dgn ≡ refused 12
+  unfolding splits
+  splits-above d = search tests
+
+  pub splits-outside : dgn ≤ greatestDgn → (size < shortest) ⊎ (longest < size) → splits size dgn ≡ refused 13
+  unfolding splits
+  splits-outside d (inl h) = search tests
+  splits-outside d (inr h) = let l : shortest ≤ size = omega arith in search tests
+
+  -- there is no other case
+  pub by-limits : {P : Type 0} → (greatestDgn < dgn → P)
+      → (dgn ≤ greatestDgn → (size < shortest) ⊎ (longest < size) → P)
+      → (dgn ≤ greatestDgn → shortest ≤ size → size ≤ longest → P) → P
+  by-limits above outside within =
+      by-test (greatestDgn <? dgn) (λ t. above (ltb-true greatestDgn dgn t))
+      (λ t.
+      let d = ltb-false greatestDgn dgn t in
+      by-test (size <? shortest) (λ u. outside d (inl (ltb-true size shortest u)))
+      (λ u. by-test (longest <? size) (λ v. outside d (inr (ltb-true longest size v)))
+      (λ v. within d (ltb-false size shortest u) (ltb-false longest size v))))
 
 -- a message that is split keeps its limits, and the count is that of its packets
 pub record Splittable (size dgn count : ℕ) : Type 0 where
@@ -28,18 +58,11 @@ pub record Splittable (size dgn count : ℕ) : Type 0 where
   pub about : dgn ≤ greatestDgn
 
 pub splits-given : (size dgn count : ℕ) → splits size dgn ≡ gives count → Splittable size dgn count
-unfolding splits
 splits-given size dgn count e =
-    let r₁ = past-refusal (greatestDgn <? dgn) 12 _ e in
-    let r₂ = past-refusal (size <? shortest) 13 _ (r₁ .1) in
-    let r₃ = past-refusal (longest <? size) 13 _ (r₂ .1) in
-    let r₄ = past-refusal (mostPackets <? packetsOf size) 14 _ (r₃ .1) in
-    record {
-      counted = sym (gives-same (r₄ .1));
-      long = ltb-false _ _ (r₂ .0);
-      short = ltb-false _ _ (r₃ .0);
-      about = ltb-false _ _ (r₁ .0);
-    }
+    by-limits size dgn
+    (λ d. refused-gives (sym (splits-above size dgn d) ∙ e))
+    (λ d h. refused-gives (sym (splits-outside size dgn d h) ∙ e))
+    (λ d l h. record { counted = gives-same (sym e ∙ splits-within size dgn d l h); long = l; short = h; about = d })
 
 module _ (message : List ℕ) (dgn : ℕ) where
   pub announcement-refused : {n : ℕ} → splits (length message) dgn ≡ refused n → announcementOf message dgn ≡ refused n

@@ -7,4 +7,5 @@ pub mod Promises
 pub mod Private
 pub mod Calls
 pub mod Laws
+pub mod PacketCount
 pub mod Pauses

@@ -24,7 +24,7 @@ use Rattle.message.specs.declared.Pausing.{Pausing}
 use Rattle.message.specs.declared.Pausing.the-variants as Pausing
 use Rattle.message.specs.declared.Paused.{Paused}
 use Rattle.message.specs.declared.Unsplittable.{Unsplittable}
-use Rattle.message.specs.declared.Unsplittable.the-variants.{NoCode, LengthNotSplit, TooManyPackets}
+use Rattle.message.specs.declared.Unsplittable.the-variants.{NoCode, LengthNotSplit}
 use Rattle.message.specs.declared.Announcing.{Announcing}
 use Rattle.message.specs.declared.Announcing.the-variants as Announcing
 use Rattle.message.specs.declared.Announced.{Announced}
@@ -92,7 +92,6 @@ pub record Message (storage : List ℕ) (answer : Answer) (r : List ℕ) : Type 
 abbrev pub refusalWhy : Unsplittable → ℕ
 refusalWhy NoCode = 12
 refusalWhy LengthNotSplit = 13
-refusalWhy TooManyPackets = 14
 
 pub record UnsplittableRefusal (why : Unsplittable) (r : ℕ) : Type 0 where
   pub number : r ≡ refusalWhy why

@@ -8,16 +8,12 @@ use Rattle.frame.specs.Identifier.{greatestDgn}
 use Rattle.frame.specs.Standard.{unused}
 use Rattle.message.specs.LongMessage.{shortest, longest, packetBytes, packetsOf, toAll}
 
-abbrev pub mostPackets : ℕ
-mostPackets = 255
-
 -- the number of packets of a message that can be split
 unfoldable pub splits : ℕ → ℕ → Told ℕ
 splits size dgn =
     if greatestDgn <? dgn then refused 12 else
     if size <? shortest then refused 13 else
     if longest <? size then refused 13 else
-    if mostPackets <? packetsOf size then refused 14 else
     gives (packetsOf size)
 
 -- the announcement's eight bytes

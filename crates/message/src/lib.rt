@@ -66,12 +66,11 @@ pub struct Paused {
     pub answer: Pausing,
 }
 
-// Why a message cannot be split: a DGN above 1FFFFh has no code in the announcement (12), the message has not 9 to 1785
-// bytes (13), or it needs more than 255 packets (14, which no such length does).
+// Why a message cannot be split: a DGN above 1FFFFh has no code in the announcement (12), or the message has not 9 to
+// 1785 bytes (13). The packets of any other can be numbered in a byte: 1785 bytes make 255.
 pub enum Unsplittable {
     NoCode,
     LengthNotSplit,
-    TooManyPackets,
 }
 
 // The announcement is given, or why not.
@@ -148,7 +147,6 @@ impl Unsplittable {
         match why {
             Unsplittable::NoCode => 12,
             Unsplittable::LengthNotSplit => 13,
-            Unsplittable::TooManyPackets => 14,
         }
     }
 }
@@ -242,7 +240,7 @@ pub fn message(storage: &[u8], answer: Answer) -> &[u8]
     }
 }
 
-// The announcement of a message, to be sent to all as DGN ECFFh before its packets. Refusals 12 to 14.
+// The announcement of a message, to be sent to all as DGN ECFFh before its packets. Refusals 12 and 13.
 pub fn announcement(message: &[u8], dgn: u32) -> Announced
     ensures { λ r. ⌜ Announcement (now (message .entry)) dgn r ⌝ }
 {
@@ -258,8 +256,8 @@ pub fn announcement(message: &[u8], dgn: u32) -> Announced
     }
 }
 
-// Any one data packet of a message, by its number from 1, to be sent to all as DGN EBFFh. Refusals 12 to 15. Byte 3 of
-// the announcement says how many packets there are; send them in their order.
+// Any one data packet of a message, by its number from 1, to be sent to all as DGN EBFFh. Refusals 12, 13 and 15. Byte
+// 3 of the announcement says how many packets there are; send them in their order.
 pub fn packet(message: &[u8], dgn: u32, number: u32) -> Split
     ensures { λ r. ⌜ Packet (now (message .entry)) dgn number r ⌝ }
 {

@@ -5,10 +5,8 @@ pub const SHORTEST: u16 = 9;
 
 pub const LONGEST: u16 = 1785;
 
-// A packet carries seven bytes of its message, and a message has at most 255 packets.
+// A packet carries seven bytes of its message.
 pub const PACKET_BYTES: usize = 7;
-
-pub const MOST_PACKETS: usize = 255;
 
 // A message whose frames pause for longer, in milliseconds, is closed.
 pub const IDLE_LIMIT: u16 = 750;

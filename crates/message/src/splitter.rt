@@ -11,7 +11,6 @@ use crate::Split;
 use crate::Splitting;
 use crate::Unsplittable;
 use crate::limits::LONGEST;
-use crate::limits::MOST_PACKETS;
 use crate::limits::PACKET_BYTES;
 use crate::limits::SHORTEST;
 use crate::limits::TO_ALL;
@@ -37,9 +36,6 @@ pub fn splittable(size: usize, dgn: u32) -> Splits
         return Splits::Refused(Unsplittable::LengthNotSplit);
     }
     let count = (size + 6) / 7;
-    if MOST_PACKETS < count {
-        return Splits::Refused(Unsplittable::TooManyPackets);
-    }
     Splits::Into(count as u8)
 }
 

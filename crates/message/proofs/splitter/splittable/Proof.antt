@@ -26,18 +26,14 @@ returns-3 c = search tests
 add-count : tie.Need-add-count
 add-count c = search needs
 
+cast-t9 : tie.Need-cast-t9
+cast-t9 c = search needs
+
 returns-4 : tie.Need-returns-4
 unfolding splits
 returns-4 c = search tests
 
-cast-t10 : tie.Need-cast-t10
-cast-t10 c = search needs
-
-returns-5 : tie.Need-returns-5
-unfolding splits
-returns-5 c = search tests
-
 pub splittable-spec : {M : Type 1} → statement M
 splittable-spec =
     tie.close
-    (tie.spec returns cast-if2 returns-2 cast-if3 returns-3 add-count returns-4 cast-t10 returns-5)
+    (tie.spec returns cast-if2 returns-2 cast-if3 returns-3 add-count cast-t9 returns-4)
