@@ -31,6 +31,7 @@ use Rattle.demands.specs.Pauses.{PausesAddUp}
 -- its number (RULES 2.1) and changes nothing lent or held, but 10 closes that sender's message.
 pub record DemandOne : Type 2 where
   pub calls : EveryCall
+  -- the numbers are those of that table, in which 14 is retired
   pub numbers : EveryNumber
   -- zeros, the state that was handed in, and the lent bytes stand beside a refusal
   pub frame : Frame.RefusedKeeps
@@ -89,15 +90,14 @@ pub record DemandTwo : Type 0 where
   -- long messages: every message and DGN within the limits of RULES 5.15 is split
   pub splitter-announces : Message.SplitterAnnounces
   pub splitter-splits : Message.SplitterSplits
-  -- none of them has more packets than a byte numbers, which the splitter asked once: what it answers is what it
-  -- answered then
+  -- none of them has more packets than a byte can number, and the splitter answers as it did when it still asked that
   pub fits-exactly : MessagePacketCount.FitsExactly
   pub announcement-fits : MessagePacketCount.AnnouncementFits
   pub packet-fits : MessagePacketCount.PacketFits
   pub never-fourteen : MessagePacketCount.NeverFourteen
   pub announcement-as-before : MessagePacketCount.AnnouncementAsBefore
   pub packet-as-before : MessagePacketCount.PacketAsBefore
-  -- and it is joined again in any run of calls
+  -- what is split is joined again in any run of calls
   pub split-and-join : SplitAndJoin
   pub joined-by-rules : JoinedByRules
   -- fast packets: every message of 1 to 223 bytes, in every sequence, is split, and is joined again in any run of calls

@@ -14,7 +14,7 @@ use Rattle.command.specs.Promises as Command
 use Rattle.faults.specs.Promises as Faults
 use Rattle.capture.specs.Promises as Capture
 
--- the numbers of that table, and 0, which is none of a refusal
+-- the numbers of that table, and 0, which is no refusal
 abbrev pub inTable : ℕ → Bool
 inTable n = (n ≤? 13) or ((15 ≤? n) and (n ≤? 22))
 

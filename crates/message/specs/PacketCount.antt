@@ -1,6 +1,6 @@
--- How many packets a message has (RULES 5.16 and 5.17, request #110): a message that is split has no more than a byte
--- can number, so that no refusal is needed for one that has; and the splitter, which had such a refusal once, answers
--- what it answered then. proofs/PacketCount.antt has a proof of each statement, under the same name written small.
+-- How many packets a message has (RULES 5.16 and 5.17, request #110). One that is split has no more than a byte can
+-- number; so no refusal is needed for that. The splitter, which had one, answers what it answered then.
+-- proofs/PacketCount.antt has a proof of each statement, under the same name written small.
 use mathlib.Core.Path.{_≡_}
 use mathlib.Core.List.{List}
 use mathlib.Core.Logic.{_≢_, _⊎_}
@@ -17,11 +17,11 @@ use Rattle.message.specs.declared.Announced.{Announced}
 use Rattle.message.specs.declared.Splitting.the-variants as Splitting
 use Rattle.message.specs.declared.Split.{Split}
 
--- so many packets can be counted in byte 3 of an announcement, and numbered from 1 in byte 0 of each
+-- as many as can be counted in byte 3 of an announcement, and numbered from 1 on in byte 0 of a packet
 abbrev pub mostPackets : ℕ
 mostPackets = 255
 
--- So many packets hold every length up to the longest, and no other.
+-- They hold every length up to the longest, and no other.
 pub record Fits (size : ℕ) : Type 0 where
   pub holds : size ≤ longest → packetsOf size ≤ mostPackets
   pub no-other : packetsOf size ≤ mostPackets → size ≤ longest
@@ -65,7 +65,7 @@ TooManyToSplit =
     (message : List ℕ) (dgn number : ℕ) (r : Split) → Packet message dgn number r → dgn ≤ greatestDgn
     → mostPackets < packetsOf (length message) → splittingNumber (r .answer) ≡ 13
 
--- The splitter as it was: behind the length it asked for the number of packets, and refused more than 255 with 14.
+-- The splitter as it was: after the length it judged the number of packets, and refused more than 255 with 14.
 
 unfoldable pub formerSplits : ℕ → ℕ → Told ℕ
 formerSplits size dgn =
