@@ -1,0 +1,11 @@
+pub mod Letters
+pub mod Zeros
+pub mod Parts
+pub mod Spelling
+pub mod Bytes
+pub mod MendingLaws
+pub mod Again
+pub mod Finding
+pub mod Putting
+pub mod Reading
+pub mod Laws
