@@ -3,29 +3,25 @@
 -- Assumes nothing.
 use mathlib.Core.Path.{_≡_, refl, sym, ap, _∙_}
 use mathlib.Core.Bool.{Bool, true, false}
-use mathlib.Core.List.{List, [], _∷_, map}
-use Prim.Native.Nat.{ℕ, zero, suc, _+_, _-_, _≤_, _<_}
+use mathlib.Core.List.{List, [], _∷_}
+use Prim.Native.Nat.{ℕ, suc, _+_, _-_, _≤_, _<_}
 use native.Mathlib.Nat.{add-zero}
 use native.Mathlib.Numerals.{add-one}
 use native.Mathlib.Omega.{arith}
 use borrow.Author.Tests.{leb-true, ltb-true, ltb-false, lt-ltb, le-ltb, eq-eqb, ne-eqb}
 use lib.ListN.{length, getD, take, drop, drop-of-length-le, length-take, length-drop}
 use lib.Seq.{drop-cons, drop-drop}
-use Rattle.words.specs.Words.{if_then_else_, given_then_, _<?_, _≤?_, _=?_, _and_, Told, refused, gives}
+use Rattle.words.specs.Words.{_<?_, _≤?_, _=?_, _and_, _or_, refused, gives}
 use Rattle.words.specs.Lists.{any}
-use Rattle.words.specs.declared.Found.{Found}
 use Rattle.words.specs.declared.Found.the-variants.{At, Nowhere}
 use Rattle.words.proofs.Words.{by-test, true-false, both-true}
 use Rattle.text.specs.Text.{digit0}
 use Rattle.capture.specs.Digits.{valueOf}
 use Rattle.capture.specs.Line.{gapKey, idKey, dataKey, beginsWith}
-use Rattle.mend.specs.Mending.{isSmall, capital, ahead, Field, fieldOf, carriageReturn, returnIn, Parts, partsIn, withoutZeros}
-use Rattle.mend.specs.Places.{part, fieldAt, FieldFound, toldTail, partsAt, toldFields, PlacesFit, FieldsFound}
+use Rattle.mend.specs.Mending.{isSmall, capital, ahead, fieldOf, carriageReturn, returnIn, Parts, partsIn, withoutZeros, actionsOf}
+use Rattle.mend.specs.Places.{part, FieldFound, partsAt, PlacesFit, FieldsFound}
 use Rattle.mend.specs.declared.fields.Places.{Places}
-use Rattle.mend.specs.declared.fields.Fields.{Fields}
 use Rattle.mend.specs.declared.fields.Fields.the-variants.{Whole, Broken}
-use Rattle.mend.specs.declared.fields.Tail.{Tail}
-use Rattle.mend.specs.declared.fields.Tail.the-variants.{Nothing, Return, Other}
 
 -- Keys: none stands where too little is left.
 
@@ -228,3 +224,14 @@ module _ (line : List ℕ) where
 pub id-length : (line : List ℕ) (p : Places) → PlacesFit line p → length (partsAt line p .id) ≡ p .«id_to» - (p .«gap_to» + 4)
 unfolding partsAt
 id-length line p f = length-part line (p .«gap_to» + 4) (p .«id_to») (f .id) (omega (arith, f .bytes, f .within))
+
+-- Which mendings change a line.
+
+pub either-same : {a a′ b b′ : Bool} → a ≡ a′ → b ≡ b′ → (a or b) ≡ (a′ or b′)
+either-same e f = rw (e, f)
+
+pub actions-same : (p : Parts) {letters zeros few : Bool} → letters ≡ (any isSmall (p .id) or any isSmall (p .bytes))
+    → zeros ≡ (length (withoutZeros (p .gap)) <? length (p .gap)) → few ≡ (length (p .id) <? 8)
+    → record { cr = p .returns; case = letters; gap = zeros; id = few } ≡ actionsOf p
+unfolding actionsOf
+actions-same p c g i = rw (c, g, i)

@@ -1,5 +1,4 @@
--- What the two passes write: the statement about whole files of specs/Laws.antt, proved. Those about a line are in
--- MendingLaws, those about what was written, read again, in Again.
+-- What the two passes write: the statements of specs/Laws.antt about the calls, proved.
 -- Assumes nothing.
 use mathlib.Core.Path.{_≡_, sym, ap, _∙_}
 use mathlib.Core.List.{List, [], _++_, append-nil}
@@ -17,6 +16,7 @@ use Rattle.mend.specs.Reader.{say, close}
 use Rattle.mend.specs.Laws as Laws
 use Rattle.mend.specs.declared.reader.Pass.{Pass}
 use Rattle.mend.specs.declared.reader.Pass.the-variants.{Capture, Report}
+use Rattle.mend.proofs.Again.{mended-once}
 use Rattle.mend.proofs.Reading.{capture-join, report-join, ran-lines}
 
 in-turn : (pass : Pass) (before pieces more : List Piece)
@@ -58,3 +58,12 @@ pub mending-written : Laws.MendingWritten
 unfolding captureOf reportIn
 mending-written file once again words more a b p q =
     rw (pass-written Capture once words p, pass-written Report again more q, a, b)
+
+pub written-stays : Laws.WrittenStays
+unfolding captureOf reportIn
+written-stays once again next words same said w a v b r =
+    let e : words ≡ captureOf (joined once) = pass-written Capture once words w in
+    let m = mended-once (joined once) in
+    let f : same ≡ captureOf words = pass-written Capture again same v ∙ ap captureOf a in
+    let g : said ≡ reportIn words = pass-written Report next said r ∙ ap reportIn b in
+    (f ∙ ap captureOf e ∙ m .0 ∙ sym e, g ∙ ap reportIn e ∙ m .1)

@@ -104,6 +104,9 @@ id-put {n = n} part e p h w =
     let t = behind u w in
     (rw (append-assoc idKey (zeros (8 - length (capitals part))) (capitals part)) at t, omega (arith, v .1, w .next, l))
 
+pub key-room : {a b key : List ℕ} {at m : ℕ} (part : List ℕ) → Put a at key m b → at + length key + length part ≤ length a → m + length part ≤ length b
+key-room part p h = let w = fits-wrote p (omega arith) in omega (arith, w .next, w .room)
+
 pub data-put : {a b c : List ℕ} {at m r : ℕ} (part : List ℕ) → Put a at dataKey m b → at + 6 + length part ≤ length a → Wrote b m (capitals part) c r
     → Wrote a at (dataKey ++ capitals part) c r × (r ≤ at + 6 + length part)
 data-put part p h w =

@@ -1,14 +1,15 @@
--- The laws of this program (RULES 17), each a named statement. proofs/Laws.antt has a proof of each, under the same
--- name written small.
+-- The laws of this program (RULES 17.14 to 17.17), each a named statement. proofs/ has a proof of each under the same
+-- name written small: those about a line in MendingLaws.antt, those about what was written and is read again in
+-- Again.antt, and those about the calls in Laws.antt.
 use mathlib.Core.Path.{_≡_}
 use mathlib.Core.Bool.{false}
-use mathlib.Core.List.{List, [], _∷_, _++_, map}
+use mathlib.Core.List.{List, [], _∷_, _++_}
 use mathlib.Core.Logic.{_↔_}
-use Prim.Native.Nat.{ℕ, _+_, _≤_, _<_}
+use Prim.Native.Nat.{ℕ, _+_, _<_}
 use lib.ListN.{length, take}
 use Rattle.words.specs.Words.{refused, gives}
 use Rattle.capture.specs.Line.{Frame, IsLineOf}
-use Rattle.capture.specs.Stream.{longestLine, mostLines, pieceOf, linesOf}
+use Rattle.capture.specs.Stream.{longestLine, pieceOf}
 use Rattle.capture.specs.Cutter.{fresh}
 use Rattle.capture.specs.Feeding.{joined, Place, between, inside}
 use Rattle.capture.specs.declared.Cutter.{Cutter}
@@ -93,3 +94,12 @@ LongDropped = (line : List ℕ) → longestLine < length line → pieceMended (p
 -- What was written is a sound capture: mended again, it stays as it is, and nothing is said of it.
 abbrev pub MendedOnce : Type 0
 MendedOnce = (stream : List ℕ) → (captureOf (captureOf stream) ≡ captureOf stream) × (reportIn (captureOf stream) ≡ [])
+
+-- And so it is with the calls: whoever reads what the first pass wrote, in whatever blocks, writes the same, and reports
+-- nothing.
+abbrev pub WrittenStays : Type 0
+WrittenStays =
+    (once again next : List (List ℕ)) (words same said : List ℕ) → Writes Capture fresh between once words
+    → joined again ≡ words → Writes Capture fresh between again same → joined next ≡ words
+    → Writes Report fresh between next said
+    → (same ≡ words) × (said ≡ [])

@@ -1,6 +1,7 @@
--- A line mended (RULES 17.3 to 17.9): its fields as they stand, the four mendings, and what becomes of the line.
+-- A line mended (RULES 17.3 to 17.8 and 17.10; 17.15 and 17.16 for the second half): its fields as they stand, the four
+-- mendings, and what becomes of the line.
 use mathlib.Core.Path.{_≡_}
-use mathlib.Core.Bool.{Bool, true, false, not}
+use mathlib.Core.Bool.{Bool, true, false}
 use mathlib.Core.List.{List, [], _∷_, _++_, map}
 use Prim.Native.Nat.{ℕ, _-_, _≤_}
 use lib.ListN.{length, drop, replicate}

@@ -9,7 +9,7 @@ use Rattle.words.specs.declared.Found.{Found}
 use Rattle.words.specs.declared.Found.the-variants.{At, Nowhere}
 use Rattle.text.specs.Text.{text}
 use Rattle.text.specs.Pieces.{Wrote}
-use Rattle.mend.specs.Mending.{Parts, Field, fieldOf, partsIn, Mended, mended}
+use Rattle.mend.specs.Mending.{Parts, Field, fieldOf, partsIn, mended}
 use Rattle.mend.specs.Report.{actionsText, anyAction, actionLine}
 use Rattle.mend.specs.declared.fields.Places.{Places}
 use Rattle.mend.specs.declared.fields.Fields.{Fields}

@@ -1,5 +1,5 @@
 -- The lines of a block taken one after the other, and the end of the capture, in either pass: what the reader promises
--- (RULES 17.1, 17.2 and 17.14).
+-- (RULES 17.14).
 use mathlib.Core.Path.{_≡_}
 use mathlib.Core.List.{List, []}
 use Prim.Native.Nat.{ℕ, _+_, _≤_, _<_}

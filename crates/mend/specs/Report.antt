@@ -1,5 +1,5 @@
--- What the program writes of a capture (RULES 17.1, 17.2 and 17.10 to 17.13): the mended lines, and behind them a line
--- for each that was changed or dropped. Everything is text, as the list of its bytes.
+-- What the program writes of a capture (RULES 17.1, 17.2, 17.9 and 17.11 to 17.13): the mended lines, and behind them
+-- a line for each that was changed or dropped. Everything is text, as the list of its bytes.
 use mathlib.Core.Bool.{Bool, false}
 use mathlib.Core.List.{List, [], _∷_, _++_}
 use Prim.Native.Nat.{ℕ, _+_}

@@ -124,8 +124,8 @@ fn put_data(out: &mut [u8], at: usize, part: &[u8]) -> usize
         Wrote (now (out .entry)) at (dataKey ++ capitals (now (part .entry))) (now (out .exit)) r
         × (r ≤ at + 6 + length (now (part .entry))) ⌝ }
 {
-    let from = text::put(out, at, b" data=");
-    put_capitals(out, from, part)
+    let key_end = text::put(out, at, b" data=");
+    put_capitals(out, key_end, part)
 }
 
 // Digits in capitals.

@@ -3,7 +3,7 @@ ghost use mathlib.Core.Path.{_≡_};
 ghost use Prim.Native.Nat.{_+_, _≤_};
 ghost use lib.ListN.{length};
 ghost use Rattle.text.specs.Pieces.{Wrote};
-ghost use Rattle.capture.specs.Stream.{whole, tooLong, mostLines};
+ghost use Rattle.capture.specs.Stream.{whole, tooLong};
 ghost use Rattle.mend.specs.Reader.{half, outRoom, pieceText, leftAt, Turned, Runs, Finished};
 use crate::report;
 use capture::Cutter;

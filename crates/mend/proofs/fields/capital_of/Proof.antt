@@ -1,10 +1,8 @@
 -- `mend::fields::capital_of` meets its contract. Assumes nothing.
-use mathlib.Core.Path.{_≡_, sym, _∙_}
-use mathlib.Core.Bool.{true, false}
-use Prim.Native.Nat.{_≤_}
+use mathlib.Core.Path.{sym, _∙_}
 use native.Mathlib.Omega.{arith}
 use borrow.Author.Needs.{needs}
-use Rattle.mend.specs.Mending.{isSmall, capital}
+use Rattle.mend.specs.Mending.{capital}
 use Rattle.mend.proofs.Finding.{small-least}
 use Rattle.mend.proofs.fields.capital_of.Statement.{statement}
 use Rattle.mend.proofs.fields.capital_of.Tie as tie

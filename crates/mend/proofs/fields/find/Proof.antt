@@ -1,6 +1,5 @@
 -- `mend::fields::find` meets its contract. Assumes nothing.
 use mathlib.Core.Bool.{true, false}
-use mathlib.Core.Path.{sym}
 use borrow.Author.Needs.{needs}
 use Rattle.mend.proofs.Finding.{no-gap, gap-room, no-id, id-room, no-data, data-room, no-end, all-there}
 use Rattle.mend.proofs.fields.find.Statement.{statement}

@@ -1,10 +1,11 @@
 -- `mend::line::due` meets its contract. Assumes nothing.
-use Prim.Native.Nat.{_+_}
+use mathlib.Core.Path.{sym, ap, _∙_}
+use Prim.Native.Nat.{ℕ, _+_}
 use native.Mathlib.Omega.{arith}
 use borrow.Author.Needs.{needs}
-use Rattle.mend.specs.Mending.{actionsOf}
+use Rattle.words.specs.Words.{_<?_}
 use Rattle.mend.specs.Places.{partsAt}
-use Rattle.mend.proofs.Finding.{zeros-test, length-part}
+use Rattle.mend.proofs.Finding.{zeros-test, length-part, either-same, actions-same}
 use Rattle.mend.proofs.line.due.Statement.{statement}
 use Rattle.mend.proofs.line.due.Tie as tie
 
@@ -57,7 +58,7 @@ sub-t12 : tie.Need-sub-t12
 sub-t12 c = search needs
 
 returns : tie.Need-returns
-unfolding actionsOf partsAt
+unfolding partsAt
 returns c =
     let z = c .before in
     let s₂ = z .before .before in
@@ -67,7 +68,8 @@ returns c =
     let f = start .pre in
     let t = zeros-test _ (z .leading-zeros .result) (z .leading-zeros .ensures .0) (z .leading-zeros .ensures .1) in
     let l = length-part (a .line .now) (a .places .«gap_to» + 4) (a .places .«id_to») (f .id) (omega (arith, f .bytes, f .within)) in
-    rw (c .either .ensures, s₁ .has-small .ensures, s₂ .has-small2 .ensures, t, l)
+    actions-same (partsAt (a .line .now) (a .places)) (c .either .ensures ∙ either-same (s₁ .has-small .ensures) (s₂ .has-small2 .ensures)) t
+    (ap (λ (n : ℕ). n <? 8) (sym l))
 
 pub due-spec : {M : Type 1} → statement M
 due-spec =

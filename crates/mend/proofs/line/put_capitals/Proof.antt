@@ -1,11 +1,11 @@
 -- `mend::line::put_capitals` meets its contract. Assumes nothing.
-use mathlib.Core.Path.{_≡_, refl, sym, _∙_}
+use mathlib.Core.Path.{_≡_, refl}
 use Prim.Native.Nat.{_≤_, _<_, _+_, _-_}
 use native.Mathlib.Omega.{arith}
 use borrow.Author.Needs.{needs}
-use lib.ListN.{length, getD, length-set, length-map}
+use lib.ListN.{length, length-set}
 use lib.Seq.{paste, paste-zero}
-use Rattle.mend.specs.Mending.{capital, capitals}
+use Rattle.mend.specs.Mending.{capitals}
 use Rattle.mend.proofs.Putting.{capital-turn, capital-end}
 use Rattle.mend.proofs.line.put_capitals.Statement.{statement}
 use Rattle.mend.proofs.line.put_capitals.Tie as tie

@@ -1,9 +1,6 @@
 -- `mend::line::put_data` meets its contract. Assumes nothing.
-use native.Mathlib.Omega.{arith}
 use borrow.Author.Needs.{needs}
-use Rattle.text.specs.Text.{text}
-use Rattle.text.proofs.Pieces.{fits-wrote}
-use Rattle.mend.proofs.Putting.{data-put}
+use Rattle.mend.proofs.Putting.{key-room, data-put}
 use Rattle.mend.proofs.line.put_data.Statement.{statement}
 use Rattle.mend.proofs.line.put_data.Tie as tie
 
@@ -16,8 +13,8 @@ put-requires c κs = search needs
 put-capitals-requires : tie.Need-put-capitals-requires
 put-capitals-requires c κs =
     let q = c .before .before .before in
-    let w = fits-wrote {word = text " data="} (q .put .ensures) (omega arith) in
-    omega (arith, w .next, w .room)
+    let start = q .before .before .before .before .before in
+    key-room (start .args .part .now) (q .put .ensures) (start .pre)
 
 same-length : tie.Need-same-length
 same-length c = search needs

@@ -16,8 +16,8 @@ put-hex-requires c κs = search needs
 put-capitals-requires : tie.Need-put-capitals-requires
 put-capitals-requires c κs =
     let q = c .before .before .before in
-    let start = q .before .before .before .before .before .before in
-    id-room (start .args .part .now) (q .before .lacking .ensures) (q .put-hex .ensures) (start .pre)
+    let begun = q .before .before .before .before .before .before in
+    id-room (begun .args .part .now) (q .before .lacking .ensures) (q .put-hex .ensures) (begun .pre)
 
 same-length : tie.Need-same-length
 same-length c = search needs

@@ -61,21 +61,22 @@ returns c =
     let q₁ = q₂ .before .before .before .before .before in
     let start = q₁ .before .before .before .before .before in
     let a = start .args in
-    let f = start .pre .2 in
-    (tidied-put (partsAt (a .line .now) (a .places)) (q₁ .put-gap .ensures .0) (q₂ .put-id .ensures .0) (q₃ .put-data .ensures .0),
-    omega (
-      arith,
-      q₁ .put-gap .ensures .1,
-      q₂ .put-id .ensures .1,
-      q₃ .put-data .ensures .1,
-      length-part (a .line .now) 4 (a .places .«gap_to») (f .gap) (omega (arith, f .id, f .bytes, f .within)),
-      length-part (a .line .now) (a .places .«gap_to» + 4) (a .places .«id_to») (f .id) (omega (arith, f .bytes, f .within)),
-      length-part (a .line .now) (a .places .«id_to» + 6) (a .places .«data_to») (f .bytes) (f .within),
-      f .gap,
-      f .id,
-      f .bytes,
-      f .within,
-    ))
+    let f = start .pre .2 in (
+      tidied-put (partsAt (a .line .now) (a .places)) (q₁ .put-gap .ensures .0) (q₂ .put-id .ensures .0) (q₃ .put-data .ensures .0),
+      omega (
+        arith,
+        q₁ .put-gap .ensures .1,
+        q₂ .put-id .ensures .1,
+        q₃ .put-data .ensures .1,
+        length-part (a .line .now) 4 (a .places .«gap_to») (f .gap) (omega (arith, f .id, f .bytes, f .within)),
+        length-part (a .line .now) (a .places .«gap_to» + 4) (a .places .«id_to») (f .id) (omega (arith, f .bytes, f .within)),
+        length-part (a .line .now) (a .places .«id_to» + 6) (a .places .«data_to») (f .bytes) (f .within),
+        f .gap,
+        f .id,
+        f .bytes,
+        f .within,
+      ),
+    )
 
 pub put-tidied-spec : {M : Type 1} → statement M
 put-tidied-spec =

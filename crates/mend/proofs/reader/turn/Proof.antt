@@ -1,9 +1,8 @@
 -- `mend::reader::turn` meets its contract. Assumes nothing.
 use mathlib.Core.Path.{_≡_, sym, ap}
-use Prim.Native.Nat.{_≤_}
 use native.Mathlib.Omega.{arith}
 use borrow.Author.Needs.{needs}
-use lib.ListN.{length, take, drop, length-take}
+use lib.ListN.{length, length-take}
 use lib.Seq.{length-take-le}
 use Rattle.capture.specs.Feeding.{yieldIn}
 use Rattle.capture.proofs.Feeding.{within-block, carried-fits}

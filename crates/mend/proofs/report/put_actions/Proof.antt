@@ -46,10 +46,11 @@ returns c =
     let e₁ = q₃ .before .before .before in
     let q₂ = e₁ .before .before .before in
     let q₁ = q₂ .before .before .before .before .before in
-    let a = q₁ .before .before .before .before .args in
-    (actions-put (a .actions) (e₁ .either .ensures) (e₂ .either2 .ensures) (q₁ .put-action .ensures .0) (q₂ .put-action2 .ensures .0)
-    (q₃ .put-action3 .ensures .0) (q₄ .put-action4 .ensures .0),
-    omega (arith, q₁ .put-action .ensures .1, q₂ .put-action2 .ensures .1, q₃ .put-action3 .ensures .1, q₄ .put-action4 .ensures .1))
+    let a = q₁ .before .before .before .before .args in (
+      actions-put (a .actions) (e₁ .either .ensures) (e₂ .either2 .ensures) (q₁ .put-action .ensures .0) (q₂ .put-action2 .ensures .0)
+          (q₃ .put-action3 .ensures .0) (q₄ .put-action4 .ensures .0),
+      omega (arith, q₁ .put-action .ensures .1, q₂ .put-action2 .ensures .1, q₃ .put-action3 .ensures .1, q₄ .put-action4 .ensures .1),
+    )
 
 pub put-actions-spec : {M : Type 1} → statement M
 put-actions-spec =
