@@ -26,10 +26,14 @@ struct Fed {
 }
 
 fn main() {
-    let mut name = io::buffer();
-    let count = os::arg(1, &mut name);
     if os::arg_count() != 2 {
         io::write_all(STDERR_FILENO, b"mend: it takes the name of one file\n");
+        return;
+    }
+    let mut name = io::buffer();
+    let count = os::arg(1, &mut name);
+    if os::errno() != 0 {
+        os::fail(b"mend: the file's name");
         return;
     }
     mend(&name[..count]);
