@@ -1,6 +1,6 @@
 -- `mend::reader::finish` meets its contract. Assumes nothing.
 use mathlib.Core.Path.{_≡_, sym, ap}
-use Prim.Native.Nat.{ℕ}
+use Prim.Native.Nat.{ℕ, _≤_}
 use native.Mathlib.Omega.{arith}
 use borrow.Author.Needs.{needs}
 use lib.ListN.{length, length-take}
@@ -11,6 +11,12 @@ use Rattle.capture.proofs.Runs.{not-ended}
 use Rattle.mend.proofs.Reading.{finished-line, finished-empty}
 use Rattle.mend.proofs.reader.finish.Statement.{statement}
 use Rattle.mend.proofs.reader.finish.Tie as tie
+
+-- a last line has at most 80 bytes
+last-short : (c : tie.After-ending) → c .ending .given .0 .0 ≤ 80
+last-short c =
+    let l = c .before .before in
+    last-fits _ (l .before .before .args .cutter) (l .last .result) (l .last .ensures) (c .ending .given .1)
 
 last-requires : tie.Need-last-requires
 last-requires c κs = search needs
@@ -28,28 +34,21 @@ add-put-whole c =
 
 array-share-prefix-carry : tie.Need-array-share-prefix-carry
 array-share-prefix-carry c =
-    let g = c .before .before .before .ending .given in
-    let l = c .before .before .before .before .before in
-    let s = l .before .before .args .cutter in
-    let n : length (s .carry) ≡ 80 = search needs in
-    let w = last-fits (g .0 .0) s (l .last .result) (l .last .ensures) (g .1) in
+    let n : length (c .before .before .before .before .before .before .before .args .cutter .carry) ≡ 80 = search needs in
+    let w = last-short (c .before .before .before) in
     omega arith
 
 slice-aggregate-put-whole : tie.Need-slice-aggregate-put-whole
 slice-aggregate-put-whole c =
-    let g = c .before .before .before .before .ending .given in
-    let l = c .before .before .before .before .before .before in
-    let s = l .before .before .args .cutter in
-    let n : length (s .carry) ≡ 80 = search needs in
-    let w = last-fits (g .0 .0) s (l .last .result) (l .last .ensures) (g .1) in
-    sym (length-take-le (g .0 .0) (s .carry) (omega arith))
+    let e = c .before .before .before .before in
+    let carry = e .before .before .before .before .args .cutter .carry in
+    let n : length carry ≡ 80 = search needs in
+    let w = last-short e in
+    sym (length-take-le (e .ending .given .0 .0) carry (omega arith))
 
 put-whole-requires : tie.Need-put-whole-requires
 put-whole-requires c κs =
-    let g = c .before .before .before .before .before .ending .given in
-    let l = c .before .before .before .before .before .before .before in
-    let s = l .before .before .args .cutter in
-    let w = last-fits (g .0 .0) s (l .last .result) (l .last .ensures) (g .1) in
+    let w = last-short (c .before .before .before .before .before) in
     (omega arith, rw length-take (omega arith))
 
 enum-told : tie.Need-enum-told
