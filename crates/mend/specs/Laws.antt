@@ -95,8 +95,8 @@ LongDropped = (line : List ℕ) → longestLine < length line → pieceMended (p
 abbrev pub MendedOnce : Type 0
 MendedOnce = (stream : List ℕ) → (captureOf (captureOf stream) ≡ captureOf stream) × (reportIn (captureOf stream) ≡ [])
 
--- And so it is with the calls: whoever reads what the first pass wrote, in whatever blocks, writes the same, and reports
--- nothing.
+-- And so it is with the calls: whoever reads what the first pass wrote, in whatever blocks, writes the same, and
+-- reports nothing.
 abbrev pub WrittenStays : Type 0
 WrittenStays =
     (once again next : List (List ℕ)) (words same said : List ℕ) → Writes Capture fresh between once words

@@ -117,8 +117,8 @@ mended line =
     given lineRead (tidied p) then λ frame.
     gives (record { text = tidied p; actions = actionsOf p })
 
--- The same without a reader: which lines name a frame, and which line is another one mended. A line in its fields, which
--- may hold anything.
+-- The same without a reader: which lines name a frame, and which line is another one mended. A line in its fields,
+-- which may hold anything.
 
 abbrev pub returnText : Bool → List ℕ
 returnText true = carriageReturn ∷ []
