@@ -48,6 +48,7 @@ use Rattle.catalogue.proofs.Classed as Classed
 use Rattle.catalogue.proofs.Classed.{Placed, placed}
 use Rattle.catalogue.proofs.Found as Found
 use Rattle.catalogue.proofs.TwoStates as TwoStates
+use Rattle.catalogue.proofs.Instances as Instances
 use Rattle.catalogue.proofs.Codes.{scaled-of, code-given}
 use Rattle.catalogue.proofs.Found.{given-then, found, found-frame, for-bad, for-sound, read-none, read-row}
 use Rattle.catalogue.proofs.Found.{scaled-none, scaled-row, write-none, write-uncoded}
@@ -145,6 +146,12 @@ rows-in-only table dgn r s p q = p .answer ∙ sym (q .answer)
 
 pub row-of-in-only : Laws.RowOfInOnly
 row-of-in-only table dgn first r s p q = told-looked-same r s (p .answer ∙ sym (q .answer))
+
+pub has-instance-only : Laws.HasInstanceOnly
+has-instance-only dgn r s p q = p .answer ∙ sym (q .answer)
+
+pub steps-in-one-only : Laws.StepsInOneOnly
+steps-in-one-only unit width r s p q = p .answer ∙ sym (q .answer)
 
 pub classify-only : Laws.ClassifyOnly
 classify-only row number r s p q = p .answer ∙ sym (q .answer)
@@ -356,6 +363,39 @@ two-state-count = TwoStates.marked-count
 
 pub no-third-state : Laws.NoThirdState
 no-third-state = TwoStates.never-third
+
+pub instance-row : Laws.InstanceRow
+instance-row = Instances.instance-row
+
+pub instance-count : Laws.InstanceCount
+instance-count = Instances.instance-count
+
+pub scaled-with-instance : Laws.ScaledWithInstance
+scaled-with-instance = Instances.scaled-with-instance
+
+pub scaled-by-unit : Laws.ScaledByUnit
+scaled-by-unit = Instances.scaled-by-unit
+
+pub steps-by-unit : Laws.StepsByUnit
+steps-by-unit = Instances.steps-by-unit
+
+pub scaled-small : Laws.ScaledSmall
+scaled-small = Instances.scaled-small
+
+pub value-small : Laws.ValueSmall
+value-small = Instances.value-small
+
+pub value-of-code : Laws.ValueOfCode
+value-of-code = Instances.value-of-code
+
+pub row-given : Laws.RowGiven
+row-given = Instances.row-given
+
+pub row-refused : Laws.RowRefused
+row-refused = Instances.row-refused
+
+pub scaled-in-frame : Laws.ScaledInFrame
+scaled-in-frame = Instances.scaled-in-frame
 
 pub bit-of-byte : Laws.BitOfByte
 bit-of-byte = Bits.bit-of-byte

@@ -7,4 +7,5 @@ pub mod Scales
 pub mod Codes
 pub mod Found
 pub mod TwoStates
+pub mod Instances
 pub mod Laws

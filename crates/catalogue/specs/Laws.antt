@@ -1,33 +1,38 @@
 -- The laws of this crate (RULES 6 and 7), each a named statement. proofs/Laws.antt has a proof of each, under the same
 -- name written small.
 use mathlib.Core.Path.{_≡_}
-use mathlib.Core.Bool.{true, false}
+use mathlib.Core.Bool.{Bool, true, false, not}
 use mathlib.Core.List.{List}
 use mathlib.Core.Logic.{_↔_, _⊎_}
 use Prim.Native.Nat.{ℕ, _+_, _*_, _-_, _^_, _≤_, _<_}
-use lib.IntN.{pos, negsuc}
+use lib.IntN.{ℤ, pos, negsuc}
+use lib.Signed.{mag}
 use lib.ListN.{length, getD}
-use Rattle.words.specs.Words.{if_then_else_, _<?_, _=?_, _or_, refused, gives}
+use Rattle.words.specs.Words.{if_then_else_, _<?_, _=?_, _and_, _or_, refused, gives}
 use Rattle.words.specs.Lists.{count}
 use Rattle.frame.specs.Bytes.{numberOf, AreBytes}
+use Rattle.frame.specs.Identifier.{catalogueForm}
 use Rattle.frame.specs.Frame.{checkedOf, frameBytes}
 use Rattle.frame.specs.declared.Parts.{Parts}
 use Rattle.catalogue.specs.Rows.{rows, rowCount}
+use Rattle.catalogue.specs.Instances.{instanceDgns, hasInstance}
 use Rattle.catalogue.specs.Table.{nth, rowIn, spanIn, rowWith, liesInFrame, KeepsRule}
 use Rattle.catalogue.specs.Table.{rowAt, rowOf, spanOf}
-use Rattle.catalogue.specs.Packed.{packedRows, tableRows, tableRow, tableRowWith, tableSpan}
+use Rattle.catalogue.specs.Packed.{unitDigit, packedRows, tableRows, tableRow, tableRowWith, tableSpan}
 use Rattle.catalogue.specs.Field.{fieldOf, InFrame}
 use Rattle.catalogue.specs.Classes.{greatestCode, hasThree, classAt, hasTwoStates, errorCode, classIn}
-use Rattle.catalogue.specs.Scale.{scaledOf, valueOf}
+use Rattle.catalogue.specs.Scale.{scaledOf, stepsInOne, valueOf}
 use Rattle.catalogue.specs.Codes.{codeOf}
+use Rattle.catalogue.specs.Catalogue.{fieldIn}
 use Rattle.catalogue.specs.Catalogue.{matching, openedFor, readRowOf, scaledRowOf, writtenRowOf, rowOfDgn, rowFor}
 use Rattle.catalogue.specs.Catalogue.{readOf, scaledReadOf, replaced, writtenOf}
 use Rattle.catalogue.specs.Promises.{toldLooked, toldReading, toldScaled, toldWriting, Rows, RowAt, RowsOf, RowOf}
 use Rattle.catalogue.specs.Promises.{PackedRows, RowIn, RowsIn, RowOfIn, Classify, ReadField, ReadScaled}
 use Rattle.catalogue.specs.Promises.{WriteField, ReadRow, ReadRowScaled, WriteRow, LookedRefusal, ReadingRefusal}
-use Rattle.catalogue.specs.Promises.{ScaledReadingRefusal, WritingRefusal}
+use Rattle.catalogue.specs.Promises.{ScaledReadingRefusal, WritingRefusal, HasInstance, StepsInOne}
 use Rattle.catalogue.specs.declared.Row.{Row}
-use Rattle.catalogue.specs.declared.Unit.the-variants.{Ampere, Celsius}
+use Rattle.catalogue.specs.declared.Unit.{Unit}
+use Rattle.catalogue.specs.declared.Unit.the-variants.{Percent, Celsius, Volt, Ampere, Hertz}
 use Rattle.catalogue.specs.declared.Span.{Span}
 use Rattle.catalogue.specs.declared.Field.{Field}
 use Rattle.catalogue.specs.declared.Class.{Class}
@@ -79,6 +84,12 @@ RowsInOnly = (table : List ℕ) (dgn : ℕ) (r s : Span) → RowsIn table dgn r 
 abbrev pub RowOfInOnly : Type 0
 RowOfInOnly =
     (table : List ℕ) (dgn first : ℕ) (r s : Looked) → RowOfIn table dgn first r → RowOfIn table dgn first s → r ≡ s
+
+abbrev pub HasInstanceOnly : Type 0
+HasInstanceOnly = (dgn : ℕ) (r s : Bool) → HasInstance dgn r → HasInstance dgn s → r ≡ s
+
+abbrev pub StepsInOneOnly : Type 0
+StepsInOneOnly = (unit : Unit) (width r s : ℕ) → StepsInOne unit width r → StepsInOne unit width s → r ≡ s
 
 abbrev pub ClassifyOnly : Type 0
 ClassifyOnly = (row : Row) (number : ℕ) (r s : Field) → Classify row number r → Classify row number s → r ≡ s
@@ -282,6 +293,81 @@ Within = (dgn : ℕ) → spanOf dgn .start + spanOf dgn .count ≤ rowCount
 -- CHARGER_STATUS_3 has three rows.
 abbrev pub ThreeRows : Type 0
 ThreeRows = spanOf 0x1FDCA .count ≡ 3
+
+-- Instances (RULES 6.16): where a DGN has one, byte 0 is one row of eight bits; 59 DGNs have one.
+
+abbrev pub InstanceRow : Type 0
+InstanceRow =
+    (dgn : ℕ) → hasInstance dgn ≡ true
+    → (row : Row) × (rowWith rows (catalogueForm dgn) 0 ≡ gives row) × (row .width ≡ 8)
+
+abbrev pub InstanceCount : Type 0
+InstanceCount = length instanceDgns ≡ 59
+
+-- The rows with a scale and an instance (RULES 18.5): 74, by unit and width.
+
+-- a row whose unit has a scale at its width
+abbrev pub isScaled : Row → Bool
+isScaled row = not (stepsInOne (row .unit) (row .width) =? 0)
+
+abbrev pub ScaledWithInstance : Type 0
+ScaledWithInstance = count (λ r. isScaled r and hasInstance (r .dgn)) rows ≡ 74
+
+-- how many of them have this unit and width
+abbrev pub scaledRows : Unit → ℕ → ℕ
+scaledRows unit width =
+    count
+    (λ r. (unitDigit (r .unit) =? unitDigit unit) and (r .width =? width) and isScaled r and hasInstance (r .dgn))
+    rows
+
+pub record ScaledByUnit : Type 0 where
+  pub percent : scaledRows Percent 8 ≡ 25
+  pub celsius : (scaledRows Celsius 8 ≡ 5) × (scaledRows Celsius 16 ≡ 14)
+  pub volt : scaledRows Volt 16 ≡ 19
+  pub ampere : scaledRows Ampere 16 ≡ 10
+  pub hertz : scaledRows Hertz 16 ≡ 1
+
+-- How many steps make one, at each unit and width that has a scale.
+pub record StepsByUnit : Type 0 where
+  pub percent : stepsInOne Percent 8 ≡ 2
+  pub celsius : (stepsInOne Celsius 8 ≡ 32) × (stepsInOne Celsius 16 ≡ 32)
+  pub volt : stepsInOne Volt 16 ≡ 20
+  pub ampere : stepsInOne Ampere 16 ≡ 20
+  pub hertz : stepsInOne Hertz 16 ≡ 128
+
+-- Where a unit has a scale, a scaled value is small.
+
+abbrev pub ScaledSmall : Type 0
+ScaledSmall =
+    (unit : Unit) (width code : ℕ) → (stepsInOne unit width ≡ 0 → ⊥) → code < 2 ^ width
+    → mag (scaledOf unit width code) < 2 ^ 16
+
+abbrev pub ValueSmall : Type 0
+ValueSmall =
+    (row : Row) (number : ℕ) (v : ℤ) → isScaled row ≡ true → valueOf row (fieldIn row number) ≡ Value.Scaled v
+    → mag v < 2 ^ 16
+
+-- A number that is read is the scaled value of a code, below 2 to the width, that is a number in the row.
+abbrev pub ValueOfCode : Type 0
+ValueOfCode =
+    (row : Row) (number : ℕ) (v : ℤ) → valueOf row (fieldIn row number) ≡ Value.Scaled v
+    → (code : ℕ) × (code < 2 ^ row .width) × (classIn row code ≡ Number)
+    × (v ≡ scaledOf (row .unit) (row .width) code)
+
+-- The row that a number gives is the row at that number, where there is none it is 11, and the value of a row in a
+-- frame of its DGN is read.
+
+abbrev pub RowGiven : Type 0
+RowGiven = (n : ℕ) (row : Row) → rowOf n ≡ gives row → row ≡ rowAt n
+
+abbrev pub RowRefused : Type 0
+RowRefused = (n k : ℕ) → rowOf n ≡ refused k → k ≡ 11
+
+abbrev pub ScaledInFrame : Type 0
+ScaledInFrame =
+    (n id : ℕ) (bytes : List ℕ) (row : Row) (parts : Parts)
+    → rowOf n ≡ gives row → checkedOf id (length bytes) ≡ gives parts → row .dgn ≡ catalogueForm (parts .dgn)
+    → scaledRowOf row id bytes ≡ gives (valueOf row (fieldIn row (numberOf bytes)))
 
 -- The classes, once over the width.
 

@@ -1,5 +1,6 @@
 -- RULES 6 and 7, the catalogue and its fields.
 pub mod Rows
+pub mod Instances
 pub mod Field
 pub mod Table
 pub mod Packed

@@ -1,6 +1,7 @@
 -- What each public call of this crate promises (RULES 6.13, 6.14, 7.7 to 7.12 and 13.7): one proposition over all that
 -- it answers. The answers are read as numbers and values (RULES 2.10).
 use mathlib.Core.Path.{_≡_}
+use mathlib.Core.Bool.{Bool}
 use mathlib.Core.List.{List}
 use Prim.Native.Nat.{ℕ}
 use lib.ListN.{length}
@@ -10,11 +11,14 @@ use Rattle.frame.specs.Identifier.{catalogueForm}
 use Rattle.frame.specs.Frame.{checkedOf}
 use Rattle.frame.specs.Promises.{refusalOf, bytesIf}
 use Rattle.catalogue.specs.Rows.{rows}
+use Rattle.catalogue.specs.Instances.{hasInstance}
 use Rattle.catalogue.specs.Table.{rowWith, rowOf, spanOf}
 use Rattle.catalogue.specs.Packed.{packedRows, tableRow, tableRowWith, tableSpan}
+use Rattle.catalogue.specs.Scale.{stepsInOne}
 use Rattle.catalogue.specs.Catalogue.{fieldIn, openedFor, readRowOf, scaledRowOf, writtenRowOf, readOf}
 use Rattle.catalogue.specs.Catalogue.{scaledReadOf, writtenOf}
 use Rattle.catalogue.specs.declared.Row.{Row}
+use Rattle.catalogue.specs.declared.Unit.{Unit}
 use Rattle.catalogue.specs.declared.Span.{Span}
 use Rattle.catalogue.specs.declared.Field.{Field}
 use Rattle.catalogue.specs.declared.Value.{Value}
@@ -70,6 +74,16 @@ pub record RowsIn (table : List ℕ) (dgn : ℕ) (r : Span) : Type 0 where
 
 pub record RowOfIn (table : List ℕ) (dgn first : ℕ) (r : Looked) : Type 0 where
   pub answer : toldLooked r ≡ tableRowWith table (catalogueForm dgn) first
+
+-- has_instance
+
+pub record HasInstance (dgn : ℕ) (r : Bool) : Type 0 where
+  pub answer : r ≡ hasInstance dgn
+
+-- steps_in_one
+
+pub record StepsInOne (unit : Unit) (width r : ℕ) : Type 0 where
+  pub answer : r ≡ stepsInOne unit width
 
 -- classify
 

@@ -2,7 +2,7 @@
 -- amperes in 1/20, hertz in 1/128; other rows give the code.
 use Prim.Native.Nat.{ℕ}
 use lib.IntN.{ℤ, pos, _-ℤ_, _*ℤ_}
-use Rattle.words.specs.Words.{if_then_else_, _=?_}
+use Rattle.words.specs.Words.{if_then_else_, _=?_, _or_}
 use Rattle.catalogue.specs.declared.Row.{Row}
 use Rattle.catalogue.specs.declared.Unit.{Unit}
 use Rattle.catalogue.specs.declared.Unit.the-variants.{Other, Percent, Celsius, Volt, Ampere, Hertz}
@@ -34,6 +34,16 @@ valueAs Class.Reserved scaled = Value.Reserved
 
 unfoldable pub valueOf : Row → Field → Value
 valueOf row field = valueAs (field .class) (scaledOf (row .unit) (row .width) (field .code))
+
+-- how many of these steps make one of the unit, at the widths that have a scale: halves of a percent, 1/32 °C, 1/20 V and
+-- A, 1/128 Hz; 0 at any other, where the scaled value is the code
+unfoldable pub stepsInOne : Unit → ℕ → ℕ
+stepsInOne Percent width = if width =? 8 then 2 else 0
+stepsInOne Celsius width = if width =? 8 or width =? 16 then 32 else 0
+stepsInOne Volt width = if width =? 16 then 20 else 0
+stepsInOne Ampere width = if width =? 16 then 20 else 0
+stepsInOne Hertz width = if width =? 16 then 128 else 0
+stepsInOne Other width = 0
 
 -- The same scales as a step and an offset: the scaled value is step times code, less the offset.
 

@@ -3,18 +3,22 @@
 mod classes;
 pub mod dgns;
 mod fields;
+mod instance_dgns;
 pub mod names;
 mod packed;
 mod scale;
 mod table;
 
 ghost use mathlib.Core.Path.{_≡_};
+ghost use Rattle.words.specs.Words.{_=?_};
+ghost use Rattle.words.specs.Lists.{any};
+ghost use Rattle.catalogue.specs.Instances.{instanceDgns};
 ghost use Rattle.catalogue.specs.Table.{rowAt};
 ghost use Rattle.catalogue.specs.Catalogue.{matching};
 ghost use Rattle.catalogue.specs.Promises.{Rows, RowAt, RowsOf, RowOf, PackedRows, RowIn, RowsIn, RowOfIn};
 ghost use Rattle.catalogue.specs.Promises.{Classify, ReadField, ReadScaled, WriteField, ReadRow, ReadRowScaled};
 ghost use Rattle.catalogue.specs.Promises.{WriteRow, LookedRefusal, ReadingRefusal, ScaledReadingRefusal};
-ghost use Rattle.catalogue.specs.Promises.{WritingRefusal, Opens, toldOutcome};
+ghost use Rattle.catalogue.specs.Promises.{WritingRefusal, HasInstance, StepsInOne, Opens, toldOutcome};
 
 // What a row's numbers count; `Other` is any unit that has no scale here, or none.
 pub enum Unit {
@@ -210,6 +214,22 @@ pub fn row_of_in(table: &[u64], dgn: u32, first: u8) -> Looked
     table::row_with(table, frame::catalogue_form(dgn), first)
 }
 
+// Whether the standard puts an instance in byte 0 of a DGN of the catalogue, as it stands in a frame. Of a DGN that the
+// catalogue does not have nothing is said: false.
+pub fn has_instance(dgn: u32) -> bool
+    ensures { λ r. ⌜ HasInstance dgn r ⌝ }
+{
+    is_marked(frame::catalogue_form(dgn))
+}
+
+// How many steps of a scaled value make one of a unit, at a width: 2 halves of a percent, 32 of a °C, 20 of a volt or
+// an ampere, 128 of a hertz. 0 where the width has no scale, and a scaled value is the code.
+pub fn steps_in_one(unit: Unit, width: u8) -> u8
+    ensures { λ r. ⌜ StepsInOne unit width r ⌝ }
+{
+    scale::steps_in_one(unit, width)
+}
+
 // A row's field, class and code, in a frame whose eight bytes are this number. It is not asked whether the row is one
 // of that frame's DGN: `read_row` asks.
 pub fn classify(row: Row, number: u64) -> Field
@@ -294,6 +314,21 @@ pub fn write(n: usize, id: u32, bytes: &mut [u8], value: Value) -> Writing
     ensures { λ r. ⌜ WriteField n id (now (bytes .entry)) value r (now (bytes .exit)) ⌝ }
 {
     write_row(nth(n), id, bytes, value)
+}
+
+// Whether a DGN, with 00h for a destination, is marked as one with an instance in byte 0.
+fn is_marked(dgn: u32) -> bool
+    ensures { λ r. ⌜ r ≡ any (_=?_ dgn) instanceDgns ⌝ }
+{
+    let marked = instance_dgns::DGNS;
+    let mut i: usize = 0;
+    while i < instance_dgns::COUNT {
+        if dgn == marked[i] {
+            return true;
+        }
+        i += 1;
+    }
+    false
 }
 
 // The row with this number; past the end one that lies in no frame.

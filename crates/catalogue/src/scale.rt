@@ -2,8 +2,10 @@
 ghost use mathlib.Core.Path.{_≡_};
 ghost use Prim.Native.Nat.{_^_, _<_};
 ghost use lib.IntN.{subℕ};
+ghost use Rattle.words.specs.Words.{if_then_else_, _=?_};
 ghost use Rattle.catalogue.specs.Field.{InFrame};
 ghost use Rattle.catalogue.specs.Scale.{stepsOf, celsiusSteps, ampereSteps, bySteps, scaledOf, valueOf};
+ghost use Rattle.catalogue.specs.Scale.{stepsInOne};
 ghost use Rattle.catalogue.specs.Private.{toldCoded, signOf};
 ghost use Rattle.catalogue.specs.Codes.{codeWhere, steppedCode, scaledCode, classCode, codeOf};
 use crate::Class;
@@ -188,4 +190,33 @@ fn sign_of(value: i64) -> Sign
         return Sign::Below((-1 - value) as u64);
     }
     Sign::From(value as u64)
+}
+
+// How many steps make one of a unit, at a width; 0 where it has no scale.
+pub fn steps_in_one(unit: Unit, width: u8) -> u8
+    ensures { λ r. ⌜ r ≡ stepsInOne unit width ⌝ }
+{
+    match unit {
+        Unit::Percent => steps_at(width, 8, 2),
+        Unit::Celsius => {
+            if width == 8 {
+                return 32;
+            }
+            steps_at(width, 16, 32)
+        }
+        Unit::Volt => steps_at(width, 16, 20),
+        Unit::Ampere => steps_at(width, 16, 20),
+        Unit::Hertz => steps_at(width, 16, 128),
+        Unit::Other => 0,
+    }
+}
+
+// So many steps, at one width.
+fn steps_at(width: u8, scaled: u8, steps: u8) -> u8
+    ensures { λ r. ⌜ r ≡ (if width =? scaled then steps else 0) ⌝ }
+{
+    if width == scaled {
+        return steps;
+    }
+    0
 }

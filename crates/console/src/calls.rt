@@ -22,7 +22,7 @@ pub fn asked(notes: &mut [u64], part: usize) -> usize {
           Receiver::new Receiver::hear Receiver::pause message announcement packet |\
           Receiver::start Receiver::hear Receiver::pause message frame_of |\
           rows row_at row_of rows_of packed_rows row_in row_of_in rows_in read read_scaled classify read_row \
-          read_row_scaled write write_row |\
+          read_row_scaled write write_row has_instance steps_in_one |\
           Claim::start Claim::hear Claim::pause Claim::stands Claim::our_claim Claim::keeps_rules \
           Claim::holds_list |\
           empty hear look_up find_address pause find_challenger |\
@@ -39,7 +39,7 @@ pub fn asked(notes: &mut [u64], part: usize) -> usize {
         b"4 141 4b 4 4 e 8 4 111 |\
           . 4b 2 . b4 b44 |\
           l 4b 2 . b14 |\
-          . 8 41 4 . 8 41 4 84b 84b 8 4b 4b 84bv 4bv |\
+          . 8 41 4 . 8 41 4 84b 84b 8 4b 4b 84bv 4bv 4 u1 |\
           8b 4b 2 . . . . |\
           . 4b 1 8 2 1 |\
           8d 4b 4b 1114 |\

@@ -39,7 +39,7 @@ fn questions(n: usize, notes: &[u64]) {
     }
 }
 
-fn truth(answer: bool) {
+pub fn truth(answer: bool) {
     say::number(b"?\n", answer as u64);
 }
 

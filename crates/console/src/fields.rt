@@ -1,4 +1,5 @@
 // The words of crate `catalogue`: one row, and a lent table of packed rows.
+use crate::claims;
 use crate::frames;
 use crate::notes;
 use crate::notes::field;
@@ -32,7 +33,25 @@ pub fn call(n: usize, notes: &mut [u64], bytes: &mut [u8], packed: &mut [u64]) {
     if n < 13 {
         return read_by(n, notes, bytes);
     }
-    write_by(n, notes, bytes);
+    if n < 15 {
+        return write_by(n, notes, bytes);
+    }
+    tell_of(n, notes);
+}
+
+// What is said of a DGN, or of a unit at a width.
+fn tell_of(n: usize, notes: &[u64]) {
+    match n {
+        15 => claims::truth(catalogue::has_instance(get_u32(notes, notes::FIRST))),
+        16 => steps_in_one(notes),
+        _ => {}
+    }
+}
+
+fn steps_in_one(notes: &[u64]) {
+    let unit = unit_of(get(notes, notes::FIRST));
+    let steps = catalogue::steps_in_one(unit, get_u8(notes, notes::SECOND));
+    say::number(b"#\n", steps as u64);
 }
 
 // Rows of the catalogue.

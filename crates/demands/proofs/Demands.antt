@@ -25,6 +25,7 @@ use Rattle.faults.proofs.Waiting as FaultsWaiting
 use Rattle.faults.proofs.Longest as FaultsLongest
 use Rattle.faults.proofs.Played as FaultsPlayed
 use Rattle.capture.proofs.Laws as Capture
+use Rattle.tiles.proofs.Laws as Tiles
 use Rattle.network.proofs.Laws as Network
 use Rattle.capture.proofs.Feeding as Feeding
 use Rattle.demands.specs.Demands.{DemandOne, DemandTwo, DemandThree}
@@ -67,6 +68,8 @@ demand-one =
       fault-step = Faults.step-refused-keeps;
       fault-request = Faults.request-refused-keeps;
       line = Capture.malformed-keeps;
+      tile-name = Tiles.name-refused-keeps;
+      tile-hear = Tiles.hear-refused-keeps;
     }
 
 pub demand-two : DemandTwo
@@ -156,6 +159,14 @@ demand-two =
       never-cleared = FaultsWaiting.never-cleared;
       faults-every-run-runs = FaultsPlayed.every-run-runs;
       faults-run-sound = Faults.run-sound;
+      tiles-heard-exactly = Tiles.heard-exactly;
+      tiles-named-exactly = Tiles.named-exactly;
+      tiles-exact-for-every-code = Tiles.exact-for-every-code;
+      tiles-reading-exact = Tiles.reading-exact;
+      tiles-latest-shown = Tiles.latest-shown;
+      tiles-shows-one = Tiles.shows-one;
+      tiles-every-run-runs = Tiles.every-run-runs;
+      tiles-run-sound = Tiles.run-sound;
       one-a-step = Faults.one-a-step;
       fault-request-keeps = Faults.request-keeps;
       lowest-answers = FaultsRequests.lowest-answers;

@@ -48,6 +48,8 @@ use Rattle.catalogue.proofs.Laws as Catalogue
 use Rattle.catalogue.proofs.rows.Met as catalogue-rows
 use Rattle.catalogue.proofs.row_at.Met as catalogue-row-at
 use Rattle.catalogue.proofs.rows_of.Met as catalogue-rows-of
+use Rattle.catalogue.proofs.has_instance.Met as catalogue-has-instance
+use Rattle.catalogue.proofs.steps_in_one.Met as catalogue-steps-in-one
 use Rattle.catalogue.proofs.classify.Met as catalogue-classify
 use Rattle.catalogue.proofs.read.Met as catalogue-read
 use Rattle.catalogue.proofs.read_scaled.Met as catalogue-read-scaled
@@ -136,6 +138,15 @@ use Rattle.text.proofs.put_decimal.Met as text-put-decimal
 use Rattle.text.proofs.put_hex.Met as text-put-hex
 use Rattle.text.proofs.put_bytes.Met as text-put-bytes
 use Rattle.text.proofs.decimal_width.Met as text-decimal-width
+use Rattle.tiles.specs.Promises as tiles-promises
+use Rattle.tiles.proofs.Laws as Tiles
+use Rattle.tiles.proofs.Panel.new.Met as tiles-new
+use Rattle.tiles.proofs.Panel.name.Met as tiles-name
+use Rattle.tiles.proofs.Panel.hear.Met as tiles-hear
+use Rattle.tiles.proofs.Panel.reading.Met as tiles-reading
+use Rattle.tiles.proofs.Naming.refusal.Met as tiles-naming-refusal
+use Rattle.tiles.proofs.Hearing.refusal.Met as tiles-hearing-refusal
+use Rattle.tiles.proofs.Asking.refusal.Met as tiles-asking-refusal
 use Rattle.demands.specs.EveryCall.{AsksNothing, EveryCall}
 
 -- What Rattle makes of a contract with no `requires`.
@@ -445,6 +456,22 @@ every-call M =
         promises = λ 𝓤 H A mem run κs a ghost r. refl;
         one-answer = λ κs a r s w v h k. (Catalogue.rows-of-only (a .0) r s h k, refl);
         only = Catalogue.rows-of-only;
+      };
+      catalogue-has-instance = record {
+        meets = catalogue-has-instance.met;
+        asks-nothing = free;
+        Promise = λ κs a r e. catalogue-promises.HasInstance (a .0) r;
+        promises = λ 𝓤 H A mem run κs a ghost r. refl;
+        one-answer = λ κs a r s w v h k. (Catalogue.has-instance-only (a .0) r s h k, refl);
+        only = Catalogue.has-instance-only;
+      };
+      catalogue-steps-in-one = record {
+        meets = catalogue-steps-in-one.met;
+        asks-nothing = free;
+        Promise = λ κs a r e. catalogue-promises.StepsInOne (a .0) (a .1 .0) r;
+        promises = λ 𝓤 H A mem run κs a ghost r. refl;
+        one-answer = λ κs a r s w v h k. (Catalogue.steps-in-one-only (a .0) (a .1 .0) r s h k, refl);
+        only = Catalogue.steps-in-one-only;
       };
       catalogue-classify = record {
         meets = catalogue-classify.met;
@@ -1083,5 +1110,61 @@ every-call M =
         promises = λ 𝓤 H A mem run κs a ghost r. refl;
         one-answer = λ κs a r s w v h k. (Text.decimal-width-only (a .0) r s h k, refl);
         only = Text.decimal-width-only;
+      };
+      tiles-new = record {
+        meets = tiles-new.met;
+        asks-nothing = free;
+        Promise = λ κs a r e. tiles-promises.New r;
+        promises = λ 𝓤 H A mem run κs a ghost r. refl;
+        one-answer = λ κs a r s w v h k. (Tiles.new-only r s h k, refl);
+        only = Tiles.new-only;
+      };
+      tiles-name = record {
+        meets = tiles-name.met;
+        asks-nothing = free;
+        Promise = λ κs a r e. tiles-promises.Name (a .1 .0) (a .1 .1 .0) (a .1 .1 .1 .0) (a .0) r;
+        promises = λ 𝓤 H A mem run κs a ghost r. refl;
+        one-answer = λ κs a r s w v h k. (Tiles.name-only (a .1 .0) (a .1 .1 .0) (a .1 .1 .1 .0) (a .0) r s h k, refl);
+        only = Tiles.name-only;
+      };
+      tiles-hear = record {
+        meets = tiles-hear.met;
+        asks-nothing = free;
+        Promise = λ κs a r e. tiles-promises.Hear (a .1 .0) (now (a .1 .1 .0)) (a .0) r;
+        promises = λ 𝓤 H A mem run κs a ghost r. refl;
+        one-answer = λ κs a r s w v h k. (Tiles.hear-only (a .1 .0) (now (a .1 .1 .0)) (a .0) r s h k, refl);
+        only = Tiles.hear-only;
+      };
+      tiles-reading = record {
+        meets = tiles-reading.met;
+        asks-nothing = free;
+        Promise = λ κs a r e. tiles-promises.ReadTile (a .1 .0) (a .0) r;
+        promises = λ 𝓤 H A mem run κs a ghost r. refl;
+        one-answer = λ κs a r s w v h k. (Tiles.read-tile-only (a .1 .0) (a .0) r s h k, refl);
+        only = Tiles.read-tile-only;
+      };
+      tiles-naming-refusal = record {
+        meets = tiles-naming-refusal.met;
+        asks-nothing = free;
+        Promise = λ κs a r e. tiles-promises.NamingRefusal (a .0) r;
+        promises = λ 𝓤 H A mem run κs a ghost r. refl;
+        one-answer = λ κs a r s w v h k. (Tiles.naming-refusal-only (a .0) r s h k, refl);
+        only = Tiles.naming-refusal-only;
+      };
+      tiles-hearing-refusal = record {
+        meets = tiles-hearing-refusal.met;
+        asks-nothing = free;
+        Promise = λ κs a r e. tiles-promises.HearingRefusal (a .0) r;
+        promises = λ 𝓤 H A mem run κs a ghost r. refl;
+        one-answer = λ κs a r s w v h k. (Tiles.hearing-refusal-only (a .0) r s h k, refl);
+        only = Tiles.hearing-refusal-only;
+      };
+      tiles-asking-refusal = record {
+        meets = tiles-asking-refusal.met;
+        asks-nothing = free;
+        Promise = λ κs a r e. tiles-promises.AskingRefusal (a .0) r;
+        promises = λ 𝓤 H A mem run κs a ghost r. refl;
+        one-answer = λ κs a r s w v h k. (Tiles.asking-refusal-only (a .0) r s h k, refl);
+        only = Tiles.asking-refusal-only;
       };
     }

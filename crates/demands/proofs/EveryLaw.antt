@@ -47,10 +47,11 @@ use Rattle.capture.proofs.Feeding as CaptureFeeding
 use Rattle.capture.proofs.Laws as Capture
 use Rattle.capture.proofs.Runs as CaptureRuns
 use Rattle.text.proofs.Laws as Text
+use Rattle.tiles.proofs.Laws as Tiles
 use Rattle.network.proofs.Laws as Network
 use Rattle.demands.specs.EveryLaw.{EveryLaw, WordsLaws, FrameLaws, FormatLaws, CallLaws, PlacesLaws, MessageLaws}
 use Rattle.demands.specs.EveryLaw.{FastLaws, CatalogueLaws, ClaimLaws, NodesLaws, CommandLaws, FaultsLaws}
-use Rattle.demands.specs.EveryLaw.{CaptureLaws, TextLaws, NetworkLaws}
+use Rattle.demands.specs.EveryLaw.{CaptureLaws, TextLaws, NetworkLaws, TilesLaws}
 
 words-laws : WordsLaws
 words-laws =
@@ -91,6 +92,7 @@ frame-laws =
       no-frame-refused = Frame.no-frame-refused;
       example-one = Frame.example-one;
       lowest-wins = Frame.lowest-wins;
+      refused-for-reason = Frame.refused-for-reason;
     }
 
 format-laws : (𝓕 : Format) → FormatLaws 𝓕
@@ -237,6 +239,8 @@ catalogue-laws =
       row-in-only = Catalogue.row-in-only;
       rows-in-only = Catalogue.rows-in-only;
       row-of-in-only = Catalogue.row-of-in-only;
+      has-instance-only = Catalogue.has-instance-only;
+      steps-in-one-only = Catalogue.steps-in-one-only;
       classify-only = Catalogue.classify-only;
       read-only = Catalogue.read-only;
       read-scaled-only = Catalogue.read-scaled-only;
@@ -303,6 +307,17 @@ catalogue-laws =
       example-ten = Catalogue.example-ten;
       row-lowest-wins = Catalogue.row-lowest-wins;
       lowest-wins = Catalogue.lowest-wins;
+      instance-row = Catalogue.instance-row;
+      instance-count = Catalogue.instance-count;
+      scaled-with-instance = Catalogue.scaled-with-instance;
+      scaled-by-unit = Catalogue.scaled-by-unit;
+      steps-by-unit = Catalogue.steps-by-unit;
+      scaled-small = Catalogue.scaled-small;
+      value-small = Catalogue.value-small;
+      value-of-code = Catalogue.value-of-code;
+      row-given = Catalogue.row-given;
+      row-refused = Catalogue.row-refused;
+      scaled-in-frame = Catalogue.scaled-in-frame;
     }
 
 claim-laws : ClaimLaws
@@ -628,6 +643,38 @@ network-laws =
       own-order = Network.own-order;
     }
 
+tiles-laws : TilesLaws
+tiles-laws =
+    record {
+      told-naming-same = Tiles.told-naming-same;
+      told-hearing-same = Tiles.told-hearing-same;
+      told-asking-same = Tiles.told-asking-same;
+      new-only = Tiles.new-only;
+      name-only = Tiles.name-only;
+      hear-only = Tiles.hear-only;
+      read-tile-only = Tiles.read-tile-only;
+      naming-refusal-only = Tiles.naming-refusal-only;
+      hearing-refusal-only = Tiles.hearing-refusal-only;
+      asking-refusal-only = Tiles.asking-refusal-only;
+      name-refused-keeps = Tiles.name-refused-keeps;
+      hear-refused-keeps = Tiles.hear-refused-keeps;
+      name-lowest = Tiles.name-lowest;
+      hear-lowest = Tiles.hear-lowest;
+      reading-lowest = Tiles.reading-lowest;
+      accepted-rows = Tiles.accepted-rows;
+      matches-exactly = Tiles.matches-exactly;
+      zero-is-not-all = Tiles.zero-is-not-all;
+      heard-exactly = Tiles.heard-exactly;
+      named-exactly = Tiles.named-exactly;
+      priority-ignored = Tiles.priority-ignored;
+      exact-for-every-code = Tiles.exact-for-every-code;
+      reading-exact = Tiles.reading-exact;
+      run-sound = Tiles.run-sound;
+      latest-shown = Tiles.latest-shown;
+      shows-one = Tiles.shows-one;
+      every-run-runs = Tiles.every-run-runs;
+    }
+
 pub every-law : EveryLaw
 every-law =
     record {
@@ -644,4 +691,5 @@ every-law =
       capture = capture-laws;
       text = text-laws;
       network = network-laws;
+      tiles = tiles-laws;
     }

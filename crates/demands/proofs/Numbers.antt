@@ -44,6 +44,9 @@ use Rattle.faults.specs.declared.Clearing.the-variants as FaultsClearing
 use Rattle.faults.specs.declared.Stepping.the-variants as FaultsStepping
 use Rattle.faults.specs.declared.Requesting.the-variants as FaultsRequesting
 use Rattle.capture.specs.declared.Reading.the-variants as CaptureReading
+use Rattle.tiles.specs.declared.Naming.the-variants as TilesNaming
+use Rattle.tiles.specs.declared.Hearing.the-variants as TilesHearing
+use Rattle.tiles.specs.declared.Asking.the-variants as TilesAsking
 use Rattle.demands.specs.Numbers.{inTable, EveryNumber}
 
 listed : {n r : ℕ} → r ≡ n → inTable n ≡ true → inTable r ≡ true
@@ -289,4 +292,24 @@ every-number =
           ]);
       capture-reading = λ answer r p. listed (p .number)
           (elim answer [ CaptureReading.Sound ↦ refl | CaptureReading.Malformed ↦ refl ]);
+      tiles-naming = λ answer r p. listed (p .number)
+          (elim answer [
+            | TilesNaming.Named ↦ refl
+            | TilesNaming.BrokenState ↦ refl
+            | TilesNaming.NoSuchRow ↦ refl
+            | TilesNaming.NoSuchTile ↦ refl
+            | TilesNaming.RowNotAccepted ↦ refl
+          ]);
+      tiles-hearing = λ answer r p. listed (p .number)
+          (elim answer [
+            | TilesHearing.Heard mask ↦ refl
+            | TilesHearing.BrokenState ↦ refl
+            | TilesHearing.BadFrame why ↦ bad why
+          ]);
+      tiles-asking = λ answer r p. listed (p .number)
+          (elim answer [
+            | TilesAsking.Is reading ↦ refl
+            | TilesAsking.BrokenState ↦ refl
+            | TilesAsking.NoSuchTile ↦ refl
+          ]);
     }

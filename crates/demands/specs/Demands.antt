@@ -15,6 +15,8 @@ use Rattle.faults.specs.FieldLaws as FaultsFields
 use Rattle.faults.specs.Laws as Faults
 use Rattle.faults.specs.Runs as FaultsRuns
 use Rattle.capture.specs.Laws as Capture
+use Rattle.tiles.specs.Laws as Tiles
+use Rattle.tiles.specs.Runs as TilesRuns
 use Rattle.network.specs.Laws as Network
 use Rattle.network.specs.Listener as NetworkListener
 use Rattle.demands.specs.EveryCall.{EveryCall}
@@ -60,6 +62,8 @@ pub record DemandOne : Type 2 where
   pub fault-step : Faults.StepRefusedKeeps
   pub fault-request : Faults.RequestRefusedKeeps
   pub line : Capture.MalformedKeeps
+  pub tile-name : Tiles.NameRefusedKeeps
+  pub tile-hear : Tiles.HearRefusedKeeps
 
 -- 2. Frames, fields and long messages are read and written as RV-C and J1939 define them; what the splitter splits, the
 -- receiver joins to the same bytes. The promises of demand 1 say that the calls read and write what the definitions
@@ -173,6 +177,16 @@ pub record DemandTwo : Type 0 where
   pub never-cleared : FaultsRuns.NeverCleared
   pub faults-every-run-runs : FaultsRuns.EveryRunRuns
   pub faults-run-sound : Faults.RunSound
+  -- the wall panel above the library: a frame alters just the tiles that it is for, all of 32; in every run of calls a
+  -- tile shows what the latest frame for it said since it was named; and what it shows is the scaled value, exactly
+  pub tiles-heard-exactly : Tiles.HeardExactly
+  pub tiles-named-exactly : Tiles.NamedExactly
+  pub tiles-exact-for-every-code : Tiles.ExactForEveryCode
+  pub tiles-reading-exact : Tiles.ReadingExact
+  pub tiles-latest-shown : Tiles.LatestShown
+  pub tiles-shows-one : Tiles.ShowsOne
+  pub tiles-every-run-runs : TilesRuns.EveryRunRuns
+  pub tiles-run-sound : Tiles.RunSound
   pub one-a-step : Faults.OneAStep
   -- a request for DM_RV gets the lowest active place, changes nothing, and is never refused on the bus by the host
   pub fault-request-keeps : Faults.RequestKeeps

@@ -58,6 +58,8 @@ use Rattle.catalogue.specs.Laws as Catalogue
 use Rattle.catalogue.proofs.rows as catalogue-rows
 use Rattle.catalogue.proofs.row_at as catalogue-row-at
 use Rattle.catalogue.proofs.rows_of as catalogue-rows-of
+use Rattle.catalogue.proofs.has_instance as catalogue-has-instance
+use Rattle.catalogue.proofs.steps_in_one as catalogue-steps-in-one
 use Rattle.catalogue.proofs.classify as catalogue-classify
 use Rattle.catalogue.proofs.read as catalogue-read
 use Rattle.catalogue.proofs.read_scaled as catalogue-read-scaled
@@ -139,6 +141,14 @@ use Rattle.text.proofs.put_decimal as text-put-decimal
 use Rattle.text.proofs.put_hex as text-put-hex
 use Rattle.text.proofs.put_bytes as text-put-bytes
 use Rattle.text.proofs.decimal_width as text-decimal-width
+use Rattle.tiles.specs.Laws as Tiles
+use Rattle.tiles.proofs.Panel.new as tiles-new
+use Rattle.tiles.proofs.Panel.name as tiles-name
+use Rattle.tiles.proofs.Panel.hear as tiles-hear
+use Rattle.tiles.proofs.Panel.reading as tiles-reading
+use Rattle.tiles.proofs.Naming.refusal as tiles-naming-refusal
+use Rattle.tiles.proofs.Hearing.refusal as tiles-hearing-refusal
+use Rattle.tiles.proofs.Asking.refusal as tiles-asking-refusal
 
 -- A contract's `requires` asks nothing of a caller: there is a value of what the contract binds, and at each it is ⊤ₛ.
 pub record AsksNothing {M : Type 1} (𝓤 : URA M) {Ghost : Type 0} (requires : Ghost → SProp 𝓤) : Type 2 where
@@ -268,6 +278,12 @@ module _ (M : Type 1) where
         Answers catalogue-row-at.ended catalogue-row-at.Symbol.routine catalogue-row-at.spec Catalogue.RowAtOnly
     pub catalogue-rows-of :
         Answers catalogue-rows-of.ended catalogue-rows-of.Symbol.routine catalogue-rows-of.spec Catalogue.RowsOfOnly
+    pub catalogue-has-instance :
+        Answers catalogue-has-instance.ended catalogue-has-instance.Symbol.routine catalogue-has-instance.spec
+        Catalogue.HasInstanceOnly
+    pub catalogue-steps-in-one :
+        Answers catalogue-steps-in-one.ended catalogue-steps-in-one.Symbol.routine catalogue-steps-in-one.spec
+        Catalogue.StepsInOneOnly
     pub catalogue-classify :
         Answers catalogue-classify.ended catalogue-classify.Symbol.routine catalogue-classify.spec
         Catalogue.ClassifyOnly
@@ -448,6 +464,24 @@ module _ (M : Type 1) where
     pub text-decimal-width :
         Answers text-decimal-width.ended text-decimal-width.Symbol.routine text-decimal-width.spec
         Text.DecimalWidthOnly
+    -- The wall panel, above the library
+    pub tiles-new :
+        Answers tiles-new.ended tiles-new.Symbol.routine tiles-new.spec Tiles.NewOnly
+    pub tiles-name :
+        Answers tiles-name.ended tiles-name.Symbol.routine tiles-name.spec Tiles.NameOnly
+    pub tiles-hear :
+        Answers tiles-hear.ended tiles-hear.Symbol.routine tiles-hear.spec Tiles.HearOnly
+    pub tiles-reading :
+        Answers tiles-reading.ended tiles-reading.Symbol.routine tiles-reading.spec Tiles.ReadTileOnly
+    pub tiles-naming-refusal :
+        Answers tiles-naming-refusal.ended tiles-naming-refusal.Symbol.routine tiles-naming-refusal.spec
+        Tiles.NamingRefusalOnly
+    pub tiles-hearing-refusal :
+        Answers tiles-hearing-refusal.ended tiles-hearing-refusal.Symbol.routine tiles-hearing-refusal.spec
+        Tiles.HearingRefusalOnly
+    pub tiles-asking-refusal :
+        Answers tiles-asking-refusal.ended tiles-asking-refusal.Symbol.routine tiles-asking-refusal.spec
+        Tiles.AskingRefusalOnly
 
 abbrev pub EveryCall : Type 2
 EveryCall = (M : Type 1) → EveryCallOver M

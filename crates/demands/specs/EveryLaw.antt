@@ -32,6 +32,8 @@ use Rattle.faults.specs.Runs as FaultsRuns
 use Rattle.capture.specs.Laws as Capture
 use Rattle.capture.specs.Runs as CaptureRuns
 use Rattle.text.specs.Laws as Text
+use Rattle.tiles.specs.Laws as Tiles
+use Rattle.tiles.specs.Runs as TilesRuns
 use Rattle.network.specs.Laws as Network
 use Rattle.network.specs.AnyOrder as NetworkAnyOrder
 use Rattle.network.specs.Listener as NetworkListener
@@ -78,6 +80,7 @@ pub record FrameLaws : Type 0 where
   pub no-frame-refused : Frame.NoFrameRefused
   pub example-one : Frame.ExampleOne
   pub lowest-wins : (id size : ℕ) → Frame.LowestWins id size
+  pub refused-for-reason : Frame.RefusedForReason
 
 -- Of `places`: over any format,
 pub record FormatLaws (𝓕 : Format) : Type 1 where
@@ -209,6 +212,8 @@ pub record CatalogueLaws : Type 0 where
   pub row-in-only : Catalogue.RowInOnly
   pub rows-in-only : Catalogue.RowsInOnly
   pub row-of-in-only : Catalogue.RowOfInOnly
+  pub has-instance-only : Catalogue.HasInstanceOnly
+  pub steps-in-one-only : Catalogue.StepsInOneOnly
   pub classify-only : Catalogue.ClassifyOnly
   pub read-only : Catalogue.ReadOnly
   pub read-scaled-only : Catalogue.ReadScaledOnly
@@ -276,6 +281,17 @@ pub record CatalogueLaws : Type 0 where
   pub row-lowest-wins :
       (row : Row) (id : ℕ) (bytes : List ℕ) (value : Value) → Catalogue.RowLowestWins row id bytes value
   pub lowest-wins : (n id : ℕ) (bytes : List ℕ) (value : Value) → Catalogue.LowestWins n id bytes value
+  pub instance-row : Catalogue.InstanceRow
+  pub instance-count : Catalogue.InstanceCount
+  pub scaled-with-instance : Catalogue.ScaledWithInstance
+  pub scaled-by-unit : Catalogue.ScaledByUnit
+  pub steps-by-unit : Catalogue.StepsByUnit
+  pub scaled-small : Catalogue.ScaledSmall
+  pub value-small : Catalogue.ValueSmall
+  pub value-of-code : Catalogue.ValueOfCode
+  pub row-given : Catalogue.RowGiven
+  pub row-refused : Catalogue.RowRefused
+  pub scaled-in-frame : Catalogue.ScaledInFrame
 
 pub record ClaimLaws : Type 0 where
   pub told-starting-same : Claims.ToldStartingSame
@@ -581,6 +597,35 @@ pub record NetworkLaws : Type 0 where
   pub one-order : NetworkNeeded.OneOrder
   pub own-order : NetworkNeeded.OwnOrder
 
+pub record TilesLaws : Type 0 where
+  pub told-naming-same : Tiles.ToldNamingSame
+  pub told-hearing-same : Tiles.ToldHearingSame
+  pub told-asking-same : Tiles.ToldAskingSame
+  pub new-only : Tiles.NewOnly
+  pub name-only : Tiles.NameOnly
+  pub hear-only : Tiles.HearOnly
+  pub read-tile-only : Tiles.ReadTileOnly
+  pub naming-refusal-only : Tiles.NamingRefusalOnly
+  pub hearing-refusal-only : Tiles.HearingRefusalOnly
+  pub asking-refusal-only : Tiles.AskingRefusalOnly
+  pub name-refused-keeps : Tiles.NameRefusedKeeps
+  pub hear-refused-keeps : Tiles.HearRefusedKeeps
+  pub name-lowest : Tiles.NameLowest
+  pub hear-lowest : Tiles.HearLowest
+  pub reading-lowest : Tiles.ReadingLowest
+  pub accepted-rows : Tiles.AcceptedRows
+  pub matches-exactly : Tiles.MatchesExactly
+  pub zero-is-not-all : Tiles.ZeroIsNotAll
+  pub heard-exactly : Tiles.HeardExactly
+  pub named-exactly : Tiles.NamedExactly
+  pub priority-ignored : Tiles.PriorityIgnored
+  pub exact-for-every-code : Tiles.ExactForEveryCode
+  pub reading-exact : Tiles.ReadingExact
+  pub run-sound : Tiles.RunSound
+  pub latest-shown : Tiles.LatestShown
+  pub shows-one : Tiles.ShowsOne
+  pub every-run-runs : TilesRuns.EveryRunRuns
+
 pub record EveryLaw : Type 1 where
   pub words : WordsLaws
   pub frame : FrameLaws
@@ -595,3 +640,4 @@ pub record EveryLaw : Type 1 where
   pub capture : CaptureLaws
   pub text : TextLaws
   pub network : NetworkLaws
+  pub tiles : TilesLaws

@@ -13,10 +13,11 @@ use Rattle.nodes.specs.Promises as Nodes
 use Rattle.command.specs.Promises as Command
 use Rattle.faults.specs.Promises as Faults
 use Rattle.capture.specs.Promises as Capture
+use Rattle.tiles.specs.Promises as Tiles
 
 -- the numbers of that table, and 0, which is no refusal
 abbrev pub inTable : ℕ → Bool
-inTable n = (n ≤? 13) or ((15 ≤? n) and (n ≤? 22))
+inTable n = (n ≤? 13) or ((15 ≤? n) and (n ≤? 24))
 
 -- whatever the answer is, its method `refusal` gives one of these
 abbrev pub Numbered : {A : Type 0} → (A → ℕ → Type 0) → Type 0
@@ -62,3 +63,6 @@ pub record EveryNumber : Type 0 where
   pub faults-stepping : Numbered Faults.SteppingRefusal
   pub faults-requesting : Numbered Faults.RequestingRefusal
   pub capture-reading : Numbered Capture.ReadingRefusal
+  pub tiles-naming : Numbered Tiles.NamingRefusal
+  pub tiles-hearing : Numbered Tiles.HearingRefusal
+  pub tiles-asking : Numbered Tiles.AskingRefusal

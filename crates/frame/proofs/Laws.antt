@@ -16,7 +16,7 @@ use Rattle.frame.specs.Laws.{ToldApartSame, ToldFormedSame, ToldVerdictS
 use Rattle.frame.specs.Laws.{DestinationOfOnly, CatalogueFormOnly, NumberOfOnly, BytesOfOnly, DgnBytesOnly}
 use Rattle.frame.specs.Laws.{DgnOfOnly, ApartRefusalOnly, FormedRefusalOnly, BadFrameRefusalOnly}
 use Rattle.frame.specs.Laws.{VerdictRefusalOnly, DgnBack, NoFrameRefused, RefusedKeeps, PartsBack, IdentifierBack}
-use Rattle.frame.specs.Laws.{LowestWins, toldButPriority, PriorityIgnored, NumberBack, BytesBack, ExampleOne}
+use Rattle.frame.specs.Laws.{LowestWins, RefusedForReason, toldButPriority, PriorityIgnored, NumberBack, BytesBack, ExampleOne}
 use Rattle.frame.specs.declared.Parts.{Parts}
 use Rattle.frame.specs.declared.Apart.{Apart}
 use Rattle.frame.specs.declared.Apart.the-variants as Apart
@@ -27,7 +27,7 @@ use Rattle.frame.specs.declared.BadFrame.the-variants.{IdentifierTooLarg
 use Rattle.frame.specs.declared.BadFrame.the-variants.{SourceNotAllowed}
 use Rattle.frame.specs.declared.Verdict.{Verdict}
 use Rattle.frame.specs.declared.Verdict.the-variants.{Sound, Bad}
-use Rattle.words.proofs.Words.{past-refusal, gives-same}
+use Rattle.words.proofs.Words.{by-test, past-refusal, gives-same, refused-same, refused-gives}
 use Rattle.frame.proofs.Bytes.{number-of-bytes, bytes-of-number}
 
 -- an answer is read back from what it tells
@@ -176,6 +176,15 @@ lowest-wins id size =
       six = λ h s r a. rw (lt-leb _ _ h, eq-eqb _ _ s, r, a);
       sound = λ h s r a. rw (lt-leb _ _ h, eq-eqb _ _ s, r, a);
     }
+
+pub refused-for-reason : RefusedForReason
+unfolding checkedOf
+refused-for-reason id size n e =
+    by-test (identifiers ≤? id) (λ t. (IdentifierTooLarge, refused-same (rw t at e)))
+    (λ t. by-test (not (size =? frameBytes)) (λ u. (NotEightBytes, refused-same (rw (t, u) at e)))
+    (λ u. by-test (reservedOf id =? 1) (λ v. (ReservedBitSet, refused-same (rw (t, u, v) at e)))
+    (λ v. by-test (sourceAllowed (sourceOf id) (dgnOf id)) (λ w. refused-gives (sym (rw (t, u, v, w) at e)))
+    (λ w. (SourceNotAllowed, refused-same (rw (t, u, v, w) at e))))))
 
 checked-below : (id size : ℕ) → id < identifiers
     → toldButPriority (checkedOf id size)

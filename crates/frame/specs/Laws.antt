@@ -10,7 +10,8 @@ use Rattle.frame.specs.Bytes.{numberOf, bytesOf, AreBytes}
 use Rattle.frame.specs.Identifier.{reservedOf, dgnOf, sourceOf, partsOf, identifiers, greatestDgn}
 use Rattle.frame.specs.Frame.{frameBytes, sourceAllowed, apartOf, formedOf, checkedOf}
 use Rattle.frame.specs.Standard.{noFrame, dgnBytes}
-use Rattle.frame.specs.Promises.{toldApart, toldFormed, toldVerdict, TakeApart, Form, Check, DestinationOf}
+use Rattle.frame.specs.Promises.{refusalOf, toldApart, toldFormed, toldVerdict, TakeApart, Form, Check}
+use Rattle.frame.specs.Promises.{DestinationOf}
 use Rattle.frame.specs.Promises.{CatalogueForm, NumberOf, BytesOf, DgnBytes, DgnOf, ApartRefusal, FormedRefusal}
 use Rattle.frame.specs.Promises.{BadFrameRefusal, VerdictRefusal}
 use Rattle.frame.specs.declared.Parts.{Parts}
@@ -102,6 +103,10 @@ pub record LowestWins (id size : ℕ) : Type 0 where
   pub sound :
       id < identifiers → size ≡ frameBytes → reservedOf id ≡ 0 → sourceAllowed (sourceOf id) (dgnOf id) ≡ true
       → checkedOf id size ≡ gives (partsOf id)
+
+-- A frame that is refused is so for one of the four reasons.
+abbrev pub RefusedForReason : Type 0
+RefusedForReason = (id size n : ℕ) → checkedOf id size ≡ refused n → (why : BadFrame) × (refusalOf why ≡ n)
 
 -- The priority makes no difference (RULES 3.3): identifiers that differ only above bit 25 meet the same refusal, or
 -- have the same DGN and source.

@@ -42,6 +42,8 @@ fields-of-one =
       fault-step = demand-one .fault-step;
       fault-request = demand-one .fault-request;
       line = demand-one .line;
+      tile-name = demand-one .tile-name;
+      tile-hear = demand-one .tile-hear;
     }
 
 fields-of-two : FieldsOfTwo
@@ -131,6 +133,14 @@ fields-of-two =
       never-cleared = demand-two .never-cleared;
       faults-every-run-runs = demand-two .faults-every-run-runs;
       faults-run-sound = demand-two .faults-run-sound;
+      tiles-heard-exactly = demand-two .tiles-heard-exactly;
+      tiles-named-exactly = demand-two .tiles-named-exactly;
+      tiles-exact-for-every-code = demand-two .tiles-exact-for-every-code;
+      tiles-reading-exact = demand-two .tiles-reading-exact;
+      tiles-latest-shown = demand-two .tiles-latest-shown;
+      tiles-shows-one = demand-two .tiles-shows-one;
+      tiles-every-run-runs = demand-two .tiles-every-run-runs;
+      tiles-run-sound = demand-two .tiles-run-sound;
       one-a-step = demand-two .one-a-step;
       fault-request-keeps = demand-two .fault-request-keeps;
       lowest-answers = demand-two .lowest-answers;

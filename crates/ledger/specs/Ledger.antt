@@ -26,6 +26,8 @@ use Rattle.faults.specs.FieldLaws as FaultsFields
 use Rattle.faults.specs.Laws as Faults
 use Rattle.faults.specs.Runs as FaultsRuns
 use Rattle.capture.specs.Laws as Capture
+use Rattle.tiles.specs.Laws as Tiles
+use Rattle.tiles.specs.Runs as TilesRuns
 use Rattle.network.specs.Laws as Network
 use Rattle.network.specs.Listener as NetworkListener
 use Rattle.demands.specs.EveryCall.{EveryCall}
@@ -72,6 +74,8 @@ pub record FieldsOfOne : Type 2 where
   pub fault-step : Faults.StepRefusedKeeps
   pub fault-request : Faults.RequestRefusedKeeps
   pub line : Capture.MalformedKeeps
+  pub tile-name : Tiles.NameRefusedKeeps
+  pub tile-hear : Tiles.HearRefusedKeeps
 
 pub record FieldsOfTwo : Type 0 where
   pub parts-back : Frame.PartsBack
@@ -158,6 +162,14 @@ pub record FieldsOfTwo : Type 0 where
   pub never-cleared : FaultsRuns.NeverCleared
   pub faults-every-run-runs : FaultsRuns.EveryRunRuns
   pub faults-run-sound : Faults.RunSound
+  pub tiles-heard-exactly : Tiles.HeardExactly
+  pub tiles-named-exactly : Tiles.NamedExactly
+  pub tiles-exact-for-every-code : Tiles.ExactForEveryCode
+  pub tiles-reading-exact : Tiles.ReadingExact
+  pub tiles-latest-shown : Tiles.LatestShown
+  pub tiles-shows-one : Tiles.ShowsOne
+  pub tiles-every-run-runs : TilesRuns.EveryRunRuns
+  pub tiles-run-sound : Tiles.RunSound
   pub one-a-step : Faults.OneAStep
   pub fault-request-keeps : Faults.RequestKeeps
   pub lowest-answers : Faults.LowestAnswers
