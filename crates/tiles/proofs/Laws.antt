@@ -48,7 +48,7 @@ use Rattle.tiles.specs.declared.Hearing.the-variants as Hearing
 use Rattle.tiles.specs.declared.Asking.{Asking}
 use Rattle.tiles.specs.declared.Asking.the-variants as Asking
 use Rattle.tiles.proofs.Exact.{nearest-exact}
-use Rattle.tiles.proofs.OneFrame.{Says, says, is-for, for-tile, other-instance, mask-below, mask-given}
+use Rattle.tiles.proofs.OneFrame.{Says, says, meant-for, for-tile, other-instance, mask-below, mask-given}
 use Rattle.tiles.proofs.OneFrame.{sound-given, after-sound, heard-at}
 use Rattle.tiles.proofs.Running.{named-so, ran-sound, ran-tile, tile-shows, shows-tile, every-run}
 
@@ -183,7 +183,7 @@ accepted-rows = catalogue-laws.scaled-with-instance
 -- which frames are for a tile
 
 pub matches-exactly : Laws.MatchesExactly
-matches-exactly dgn instance t = (is-for dgn instance t, for-tile dgn instance t)
+matches-exactly dgn instance t = (meant-for dgn instance t, for-tile dgn instance t)
 
 pub zero-is-not-all : Laws.ZeroIsNotAll
 zero-is-not-all dgn t n = other-instance dgn 0 t n

@@ -109,9 +109,9 @@ unfolding ofDgn
 of-dgn (refused n) dgn e = true-false (sym e)
 of-dgn (gives row) dgn e = (row, refl, eqb-true (row .dgn) dgn e)
 
-pub is-for : (dgn instance : ℕ) (t : Tile) → matches dgn instance t ≡ true → IsFor dgn instance t
+pub meant-for : (dgn instance : ℕ) (t : Tile) → matches dgn instance t ≡ true → IsFor dgn instance t
 unfolding matches
-is-for dgn instance t e =
+meant-for dgn instance t e =
     let a = both-true (not (isBlank t)) _ e in
     let b = both-true (t .instance =? instance) _ (a .1) in
     let o = of-dgn (rowOf (t .row)) dgn (b .1) in
@@ -182,7 +182,7 @@ pub heard-keeps : (dgn : ℕ) (bytes : List ℕ) (t : Tile) → tileKeepsRules t
     → tileKeepsRules (heardBy dgn bytes t) ≡ true
 heard-keeps dgn bytes t k =
     by-test (matches dgn (byte0 bytes) t)
-    (λ e. let f = is-for dgn (byte0 bytes) t e in
+    (λ e. let f = meant-for dgn (byte0 bytes) t e in
     ap tileKeepsRules (heard-matching dgn bytes t (f .row) e (f .of-tile))
     ∙ heard-as t (f .row) bytes (f .of-tile) (row-accepted t (f .row) (f .not-blank) (f .of-tile) k))
     (λ e. ap tileKeepsRules (heard-other dgn bytes t e) ∙ k)

@@ -32,7 +32,7 @@ use Rattle.tiles.specs.declared.Naming.{Naming}
 use Rattle.tiles.specs.declared.Naming.the-variants as Naming
 use Rattle.tiles.specs.declared.Hearing.{Hearing}
 use Rattle.tiles.specs.declared.Hearing.the-variants as Hearing
-use Rattle.tiles.proofs.OneFrame.{reading-shows, is-for, and-false, heard-other, heard-matching, heard-blank}
+use Rattle.tiles.proofs.OneFrame.{reading-shows, meant-for, and-false, heard-other, heard-matching, heard-blank}
 use Rattle.tiles.proofs.OneFrame.{fresh-keeps, blank-keeps, heard-keeps, after-sound, after-refused, tile-heard}
 
 -- ---- The panel that a call leaves.
@@ -265,7 +265,7 @@ saying t bytes = record { row = t .row; instance = t .instance; reading = saysOf
 heard-saying : (dgn : ℕ) (bytes : List ℕ) (t : Tile) → matches dgn (byte0 bytes) t ≡ true
     → heardBy dgn bytes t ≡ saying t bytes
 heard-saying dgn bytes t e =
-    let f = is-for dgn (byte0 bytes) t e in
+    let f = meant-for dgn (byte0 bytes) t e in
     heard-matching dgn bytes t (f .row) e (f .of-tile)
     ∙ ap (λ (told : Told Row). record { row = t .row; instance = t .instance; reading = saysOf told bytes })
     (sym (f .of-tile))

@@ -182,10 +182,10 @@ module _ (dgn instance id : ℕ) (bytes : List ℕ) (t : Tile) (s : IsSound id b
   heard-as row reading m e f = rw f (sym (rw (sym same-test ∙ m, e)))
 
   -- the row of a tile that the frame is for has a scale, and is read
-  pub reads-of : (row : Row) → tileKeepsRules t ≡ true → matches dgn instance t ≡ true → rowOf (t .row) ≡ gives row
+  pub row-is-read : (row : Row) → tileKeepsRules t ≡ true → matches dgn instance t ≡ true → rowOf (t .row) ≡ gives row
       → ReadsOf row id bytes
   unfolding tileKeepsRules matches isNamed isAccepted ofDgn
-  reads-of row k m e =
+  row-is-read row k m e =
       let b = both-true (not (isBlank t)) _ m in
       let o = both-true (t .instance =? instance) _ (b .1) in
       let d = eqb-true (row .dgn) dgn (subst (λ (x : Told Row). ofDgn x dgn ≡ true) e (o .1)) in
@@ -312,9 +312,9 @@ module _ (id : ℕ) (bytes : List ℕ) (p : Panel) where
     pub frame-bad : (why : BadFrame) → r .verdict ≡ Bad why → checkedOf id (length bytes) ≡ refused (refusalOf why)
     frame-bad why e = sym (c .answer) ∙ ap toldVerdict e
 
-    pub is-sound : (parts : Parts) → r .verdict ≡ Sound parts
+    pub sound-frame : (parts : Parts) → r .verdict ≡ Sound parts
         → IsSound id bytes (catalogueForm (parts .dgn)) (getD (r .bytes) 0 0)
-    is-sound parts e =
+    sound-frame parts e =
         record {
           parts = parts;
           sound = frame-sound parts e;
@@ -334,6 +334,6 @@ module _ (tile : ℕ) (p : Panel) where
   unfolding readingOf
   read-no-tile k h = record { answer = sym (rw (k, le-ltb tile 32 h)) }
 
-  pub read-tile : keepsRules p ≡ true → tile < 32 → ReadTile tile p (Asking.Is (tileAt tile p .reading))
+  pub read-shown : keepsRules p ≡ true → tile < 32 → ReadTile tile p (Asking.Is (tileAt tile p .reading))
   unfolding readingOf
-  read-tile k h = record { answer = sym (rw (k, lt-ltb tile 32 h)) }
+  read-shown k h = record { answer = sym (rw (k, lt-ltb tile 32 h)) }

@@ -2,7 +2,7 @@
 use mathlib.Core.Path.{refl, sym, _∙_}
 use borrow.Author.Tests.{not-true, not-false}
 use Rattle.tiles.specs.declared.Hearing.the-variants as Hearing
-use Rattle.tiles.proofs.Steps.{hear-refused, hear-done, unsound, sound-as, frame-sound, frame-bad, is-sound}
+use Rattle.tiles.proofs.Steps.{hear-refused, hear-done, unsound, sound-as, frame-sound, frame-bad, sound-frame}
 use borrow.Author.Needs.{needs}
 use Rattle.tiles.proofs.Panel.hear.Statement.{statement}
 use Rattle.tiles.proofs.Panel.hear.Tie as tie
@@ -39,7 +39,7 @@ hear-requires c κs =
     let h = c .before .before .before .before in
     let a = h .before .before .before .before .args in
     let k = sym (h .before .before .keep-rules .ensures) ∙ not-false _ (h .before .if1 .left) in
-    (is-sound (a .id) (a .bytes .now) (a .self) _ (h .check .ensures) _ (c .before .verdict2 .given .1), k)
+    (sound-frame (a .id) (a .bytes .now) (a .self) _ (h .check .ensures) _ (c .before .verdict2 .given .1), k)
 
 returns-2 : tie.Need-returns-2
 returns-2 c =

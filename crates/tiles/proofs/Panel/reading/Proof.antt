@@ -1,7 +1,7 @@
 -- `tiles::Panel::reading` meets its contract. Assumes nothing.
 use mathlib.Core.Path.{sym, _∙_}
 use borrow.Author.Tests.{not-true, not-false}
-use Rattle.tiles.proofs.Steps.{read-broken, read-no-tile, read-tile}
+use Rattle.tiles.proofs.Steps.{read-broken, read-no-tile, read-shown}
 use borrow.Author.Needs.{needs}
 use Rattle.tiles.proofs.Panel.reading.Statement.{statement}
 use Rattle.tiles.proofs.Panel.reading.Tie as tie
@@ -26,7 +26,7 @@ element-copy-out-t c = search needs
 returns-3 : tie.Need-returns-3
 returns-3 c =
     let a = c .before .before .before .before .args in
-    read-tile (a .tile) (a .t1) (sym (c .before .before .before .keep-rules .ensures) ∙ not-false _ (c .before .before .if1 .left)) (c .before .if2 .left)
+    read-shown (a .tile) (a .t1) (sym (c .before .before .before .keep-rules .ensures) ∙ not-false _ (c .before .before .if1 .left)) (c .before .if2 .left)
 
 pub reading-spec : {M : Type 1} → statement M
 reading-spec =

@@ -2,7 +2,7 @@
 use mathlib.Core.Path.{sym, ap, _∙_}
 use borrow.Author.Tests.{not-true, not-false}
 use Rattle.catalogue.specs.Promises.{toldLooked}
-use Rattle.tiles.proofs.Steps.{looked-row, heard-not, heard-none, heard-as, reads-of}
+use Rattle.tiles.proofs.Steps.{looked-row, heard-not, heard-none, heard-as, row-is-read}
 use borrow.Author.Needs.{needs}
 use Rattle.tiles.proofs.frames.heard_by.Statement.{statement}
 use Rattle.tiles.proofs.frames.heard_by.Tie as tie
@@ -32,7 +32,7 @@ reading-in-requires c κs =
     let r = c .before .before .before in
     let l = looked-row (a .table .now) (a .t .row) _ (s .pre .0) (r .row-in .ensures) in
     let m = sym (r .before .before .matches .ensures) ∙ not-false _ (r .before .if1 .left) in
-    reads-of (a .dgn) (a .instance) (a .id) (a .bytes .now) (a .t) (s .pre .1 .0) _ (s .pre .1 .1) m (sym l ∙ ap toldLooked (c .before .looked .given .1))
+    row-is-read (a .dgn) (a .instance) (a .id) (a .bytes .now) (a .t) (s .pre .1 .0) _ (s .pre .1 .1) m (sym l ∙ ap toldLooked (c .before .looked .given .1))
 
 returns-2 : tie.Need-returns-2
 returns-2 c =
