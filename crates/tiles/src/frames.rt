@@ -79,11 +79,14 @@ fn heard_by(table: &[u64], dgn: u32, instance: u8, id: u32, bytes: &[u8], t: Til
     let looked = rvc::fields::row_in(table, t.row);
     match looked {
         Looked::NoSuchRow => t,
-        Looked::Is(row) => Tile {
-            row: t.row,
-            instance: t.instance,
-            reading: reading_in(row, id, bytes),
-        },
+        Looked::Is(row) => {
+            let reading = reading_in(row, id, bytes);
+            Tile {
+                row: t.row,
+                instance: t.instance,
+                reading,
+            }
+        }
     }
 }
 
