@@ -73,23 +73,27 @@ among test k (n ∷ ns) a e =
 
 pub instance-row : Laws.InstanceRow
 unfolding hasInstance
-instance-row dgn e = is-byte (rowWith rows (catalogueForm dgn) 0) (among (λ d. isByte (rowWith rows d 0)) (catalogueForm dgn) instanceDgns all-bytes e)
+instance-row dgn e = is-byte (rowWith rows (catalogueForm dgn) 0)
+    (among (λ d. isByte (rowWith rows d 0)) (catalogueForm dgn) instanceDgns all-bytes e)
 
 -- small values
 
 small-sub : (a b : ℕ) → a < 2 ^ 16 → b < 2 ^ 16 → mag (subℕ a b) < 2 ^ 16
 small-sub a b h g =
-    by-test (a <? b) (λ t. let l = ltb-true a b t in rw t (omega arith)) (λ t. let l = ltb-false a b t in rw t (omega arith))
+    by-test (a <? b) (λ t. let l = ltb-true a b t in rw t (omega arith))
+    (λ t. let l = ltb-false a b t in rw t (omega arith))
 
 -- a code of so many bits, where the width is tested for them
 of-width : (w k c : ℕ) → (w =? k) ≡ true → c < 2 ^ w → c < 2 ^ k
 of-width w k c t h = subst (λ (m : ℕ). c < 2 ^ m) (eqb-true w k t) h
 
-ampere : (w c : ℕ) → (w =? 16) ≡ true → c < 2 ^ 16 → mag (subℕ (stepsOf Ampere w .step * c) (stepsOf Ampere w .offset)) < 2 ^ 16
+ampere : (w c : ℕ) → (w =? 16) ≡ true → c < 2 ^ 16 → mag (subℕ (stepsOf Ampere w .step * c) (stepsOf Ampere w .offset))
+    < 2 ^ 16
 unfolding stepsOf ampereSteps
 ampere w c t h = rw t (small-sub (1 * c) 32000 (omega arith) (omega arith))
 
-celsius-8 : (w c : ℕ) → (w =? 8) ≡ true → c < 2 ^ 8 → mag (subℕ (stepsOf Celsius w .step * c) (stepsOf Celsius w .offset)) < 2 ^ 16
+celsius-8 : (w c : ℕ) → (w =? 8) ≡ true → c < 2 ^ 8 → mag
+    (subℕ (stepsOf Celsius w .step * c) (stepsOf Celsius w .offset)) < 2 ^ 16
 unfolding stepsOf celsiusSteps
 celsius-8 w c t h = rw t (small-sub (32 * c) 1280 (omega arith) (omega arith))
 
@@ -107,10 +111,12 @@ scaled-small Volt w c n h =
 scaled-small Hertz w c n h =
     by-test (w =? 16) (λ t. let g = of-width w 16 c t h in omega arith) (λ t. absurd (n (rw t refl)))
 scaled-small Ampere w c n h =
-    by-test (w =? 16) (λ t. let g = of-width w 16 c t h in rw (scaled-is Ampere w c) (ampere w c t g)) (λ t. absurd (n (rw t refl)))
+    by-test (w =? 16) (λ t. let g = of-width w 16 c t h in rw (scaled-is Ampere w c) (ampere w c t g))
+    (λ t. absurd (n (rw t refl)))
 scaled-small Celsius w c n h =
     by-test (w =? 8) (λ t. let g = of-width w 8 c t h in rw (scaled-is Celsius w c) (celsius-8 w c t g))
-    (λ f. by-test (w =? 16) (λ t. let g = of-width w 16 c t h in rw (scaled-is Celsius w c) (celsius-16 w c f t g)) (λ t. absurd (n (rw (f, t) refl))))
+    (λ f. by-test (w =? 16) (λ t. let g = of-width w 16 c t h in rw (scaled-is Celsius w c) (celsius-16 w c f t g))
+    (λ t. absurd (n (rw (f, t) refl))))
 scaled-small Other w c n h = absurd (n refl)
 
 -- a value that is read
@@ -156,7 +162,8 @@ given-lies : (n : ℕ) (row : Row) → rowOf n ≡ gives row → liesInFrame row
 unfolding rowOf rowIn
 given-lies n row e =
     let b = before-refusal (n <? length rows) 11 (gives (nth rows n)) e in
-    subst (λ (r : Row). liesInFrame r ≡ true) (gives-same (b .1)) (lies-at rows whole n (ltb-true n (length rows) (b .0)))
+    subst (λ (r : Row). liesInFrame r ≡ true) (gives-same (b .1))
+    (lies-at rows whole n (ltb-true n (length rows) (b .0)))
 
 pub scaled-in-frame : Laws.ScaledInFrame
 scaled-in-frame n id bytes row parts e s d =

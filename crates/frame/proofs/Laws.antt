@@ -16,7 +16,8 @@ use Rattle.frame.specs.Laws.{ToldApartSame, ToldFormedSame, ToldVerdictS
 use Rattle.frame.specs.Laws.{DestinationOfOnly, CatalogueFormOnly, NumberOfOnly, BytesOfOnly, DgnBytesOnly}
 use Rattle.frame.specs.Laws.{DgnOfOnly, ApartRefusalOnly, FormedRefusalOnly, BadFrameRefusalOnly}
 use Rattle.frame.specs.Laws.{VerdictRefusalOnly, DgnBack, NoFrameRefused, RefusedKeeps, PartsBack, IdentifierBack}
-use Rattle.frame.specs.Laws.{LowestWins, RefusedForReason, toldButPriority, PriorityIgnored, NumberBack, BytesBack, ExampleOne}
+use Rattle.frame.specs.Laws.{LowestWins, RefusedForReason, toldButPriority, PriorityIgnored, NumberBack}
+use Rattle.frame.specs.Laws.{BytesBack, ExampleOne}
 use Rattle.frame.specs.declared.Parts.{Parts}
 use Rattle.frame.specs.declared.Apart.{Apart}
 use Rattle.frame.specs.declared.Apart.the-variants as Apart

@@ -189,7 +189,8 @@ module _ (dgn instance id : ℕ) (bytes : List ℕ) (t : Tile) (s : IsSound id b
       let b = both-true (not (isBlank t)) _ m in
       let o = both-true (t .instance =? instance) _ (b .1) in
       let d = eqb-true (row .dgn) dgn (subst (λ (x : Told Row). ofDgn x dgn ≡ true) e (o .1)) in
-      let n = subst (λ (x : Bool). (if x then isZero t else isNamed (rowOf (t .row)) (t .reading)) ≡ true) (not-true (isBlank t) (b .0)) k in
+      let n = subst (λ (x : Bool). (if x then isZero t else isNamed (rowOf (t .row)) (t .reading)) ≡ true)
+      (not-true (isBlank t) (b .0)) k in
       let a = both-true (isAccepted row) _ (subst (λ (x : Told Row). isNamed x (t .reading) ≡ true) e n) in
       record {
         scaled = both-true (isScaled row) _ (a .0) .0;

@@ -48,7 +48,11 @@ returns-2 c = rw (c .before .enum-told .given .1) (c .steps-at .ensures)
 
 returns-3 : tie.Need-returns-3
 unfolding stepsInOne
-returns-3 c = rw (c .before .before .enum-told2 .given .1, ne-eqb (c .before .before .before .before .args .width) 8 (c .before .if1 .left)) (c .steps-at2 .ensures)
+returns-3 c = rw (
+  c .before .before .enum-told2 .given .1,
+  ne-eqb (c .before .before .before .before .args .width) 8
+      (c .before .if1 .left),
+) (c .steps-at2 .ensures)
 
 returns-4 : tie.Need-returns-4
 unfolding stepsInOne

@@ -17,7 +17,8 @@ returns : tie.Need-returns
 returns c =
     let a = c .before .before .before .before .args in
     let k = sym (c .before .before .keep-rules .ensures) ∙ not-true _ (c .before .if1 .taken) in
-    hear-refused (a .id) (a .bytes .now) (a .self) Hearing.BrokenState 2 _ refl (unsound (a .id) (a .bytes .now) (a .self) k) (c .unheard .ensures)
+    hear-refused (a .id) (a .bytes .now) (a .self) Hearing.BrokenState 2 _ refl
+    (unsound (a .id) (a .bytes .now) (a .self) k) (c .unheard .ensures)
 
 check-requires : tie.Need-check-requires
 check-requires c κs = search needs
@@ -46,16 +47,20 @@ returns-2 c =
     let h = c .before .before .before .before .before in
     let a = h .before .before .before .before .args in
     let k = sym (h .before .before .keep-rules .ensures) ∙ not-false _ (h .before .if1 .left) in
-    let e = frame-bad (a .id) (a .bytes .now) (a .self) _ (h .check .ensures) _ (c .before .before .verdict .given .1) in
-    hear-refused (a .id) (a .bytes .now) (a .self) _ _ _ refl (sound-as (a .id) (a .bytes .now) (a .self) _ k e) (c .unheard2 .ensures)
+    let e = frame-bad (a .id) (a .bytes .now) (a .self) _ (h .check .ensures) _ (c .before .before .verdict .given .1)
+    in
+    hear-refused (a .id) (a .bytes .now) (a .self) _ _ _ refl (sound-as (a .id) (a .bytes .now) (a .self) _ k e)
+    (c .unheard2 .ensures)
 
 returns-3 : tie.Need-returns-3
 returns-3 c =
     let h = c .before .before .before .before .before in
     let a = h .before .before .before .before .args in
     let k = sym (h .before .before .keep-rules .ensures) ∙ not-false _ (h .before .if1 .left) in
-    let e = frame-sound (a .id) (a .bytes .now) (a .self) _ (h .check .ensures) _ (c .before .before .verdict2 .given .1) in
-    hear-done (a .id) (a .bytes .now) (a .self) _ _ (sound-as (a .id) (a .bytes .now) (a .self) _ k e) (c .hear .ensures)
+    let e = frame-sound (a .id) (a .bytes .now) (a .self) _ (h .check .ensures) _
+    (c .before .before .verdict2 .given .1) in
+    hear-done (a .id) (a .bytes .now) (a .self) _ _ (sound-as (a .id) (a .bytes .now) (a .self) _ k e)
+    (c .hear .ensures)
 
 pub hear-spec : {M : Type 1} → statement M
 hear-spec =

@@ -19,7 +19,8 @@ returns c =
     let s = c .before .before .before in
     let a = s .args in
     let k = sym (c .before .before .keep-rules .ensures) ∙ not-true _ (c .before .if1 .taken) in
-    name-refused (a .tile) (a .row) (a .instance) (a .self) Naming.BrokenState 2 _ refl (broken (a .tile) (a .row) (a .instance) (a .self) k) (c .unnamed .ensures)
+    name-refused (a .tile) (a .row) (a .instance) (a .self) Naming.BrokenState 2 _ refl
+    (broken (a .tile) (a .row) (a .instance) (a .self) k) (c .unnamed .ensures)
 
 row-at-requires : tie.Need-row-at-requires
 row-at-requires c κs = search needs
@@ -39,7 +40,8 @@ returns-2 c =
     let a = l .before .before .before .args in
     let k = sym (l .before .before .keep-rules .ensures) ∙ not-false _ (l .before .if1 .left) in
     let e = sym (l .row-at .ensures .answer) ∙ ap toldLooked (c .before .enum-told .given .1) in
-    name-refused (a .tile) (a .row) (a .instance) (a .self) Naming.NoSuchRow 11 _ refl (no-row (a .tile) (a .row) (a .instance) (a .self) 11 k e) (c .unnamed2 .ensures)
+    name-refused (a .tile) (a .row) (a .instance) (a .self) Naming.NoSuchRow 11 _ refl
+    (no-row (a .tile) (a .row) (a .instance) (a .self) 11 k e) (c .unnamed2 .ensures)
 
 unnamed-requires-3 : tie.Need-unnamed-requires-3
 unnamed-requires-3 c κs = search needs
@@ -50,7 +52,8 @@ returns-3 c =
     let a = l .before .before .before .args in
     let k = sym (l .before .before .keep-rules .ensures) ∙ not-false _ (l .before .if1 .left) in
     let e = sym (l .row-at .ensures .answer) ∙ ap toldLooked (c .before .before .before .looked .given .1) in
-    name-refused (a .tile) (a .row) (a .instance) (a .self) Naming.NoSuchTile 23 _ refl (no-tile (a .tile) (a .row) (a .instance) (a .self) _ k e (c .before .if2 .taken)) (c .unnamed3 .ensures)
+    name-refused (a .tile) (a .row) (a .instance) (a .self) Naming.NoSuchTile 23 _ refl
+    (no-tile (a .tile) (a .row) (a .instance) (a .self) _ k e (c .before .if2 .taken)) (c .unnamed3 .ensures)
 
 is-accepted-requires : tie.Need-is-accepted-requires
 is-accepted-requires c κs = search needs
@@ -63,10 +66,12 @@ returns-4 c =
     let l = c .before .before .before .before .before .before .before in
     let a = l .before .before .before .args in
     let k = sym (l .before .before .keep-rules .ensures) ∙ not-false _ (l .before .if1 .left) in
-    let e = sym (l .row-at .ensures .answer) ∙ ap toldLooked (c .before .before .before .before .before .looked .given .1) in
+    let e = sym (l .row-at .ensures .answer) ∙ ap toldLooked
+    (c .before .before .before .before .before .looked .given .1) in
     let n = sym (c .before .before .is-accepted .ensures) ∙ not-true _ (c .before .if3 .taken) in
     name-refused (a .tile) (a .row) (a .instance) (a .self) Naming.RowNotAccepted 24 _ refl
-    (not-accepted (a .tile) (a .row) (a .instance) (a .self) _ k e (c .before .before .before .if2 .left) n) (c .unnamed4 .ensures)
+    (not-accepted (a .tile) (a .row) (a .instance) (a .self) _ k e (c .before .before .before .if2 .left) n)
+    (c .unnamed4 .ensures)
 
 fresh-requires : tie.Need-fresh-requires
 fresh-requires c κs = search needs
@@ -79,7 +84,8 @@ returns-5 c =
     let l = c .before .before .before .before .before .before .before .before in
     let a = l .before .before .before .args in
     let k = sym (l .before .before .keep-rules .ensures) ∙ not-false _ (l .before .if1 .left) in
-    let e = sym (l .row-at .ensures .answer) ∙ ap toldLooked (c .before .before .before .before .before .before .looked .given .1) in
+    let e = sym (l .row-at .ensures .answer) ∙ ap toldLooked
+    (c .before .before .before .before .before .before .looked .given .1) in
     let n = sym (c .before .before .before .is-accepted .ensures) ∙ not-false _ (c .before .before .if3 .left) in
     name-done (a .tile) (a .row) (a .instance) (a .self) _
     (is-named (a .tile) (a .row) (a .instance) (a .self) _ k e (c .before .before .before .before .if2 .left) n)

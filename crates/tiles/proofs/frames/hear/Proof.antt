@@ -28,7 +28,8 @@ heard-by-all-requires c κs =
     let a = s .args in (
       c .before .before .before .before .packed-rows .ensures .answer,
       (
-        subst (λ (d : ℕ). IsSound (a .id) (a .bytes .now) d (a .instance)) (sym (c .before .before .before .catalogue-form .ensures .answer)) (s .pre .0),
+        subst (λ (d : ℕ). IsSound (a .id) (a .bytes .now) d (a .instance))
+            (sym (c .before .before .before .catalogue-form .ensures .answer)) (s .pre .0),
         s .pre .1,
       ),
     )
@@ -37,7 +38,9 @@ returns : tie.Need-returns
 returns c =
     let s = c .before .before .before .before .before .before .before in
     let a = s .args in
-    all-heard _ _ (a .instance) _ (a .bytes .now) (a .p) _ (c .before .before .before .before .catalogue-form .ensures .answer) (s .pre .0 .of-instance) (c .heard-by-all .ensures) (c .before .before .mask .ensures)
+    all-heard _ _ (a .instance) _ (a .bytes .now) (a .p) _
+    (c .before .before .before .before .catalogue-form .ensures .answer) (s .pre .0 .of-instance)
+    (c .heard-by-all .ensures) (c .before .before .mask .ensures)
 
 pub hear-spec : {M : Type 1} → statement M
 hear-spec =

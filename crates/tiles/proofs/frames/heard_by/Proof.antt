@@ -14,7 +14,8 @@ returns : tie.Need-returns
 returns c =
     let s = c .before .before .before .before in
     let a = s .args in
-    heard-not (a .dgn) (a .instance) (a .id) (a .bytes .now) (a .t) (s .pre .1 .0) (sym (c .before .matches .ensures) ∙ not-true _ (c .if1 .taken))
+    heard-not (a .dgn) (a .instance) (a .id) (a .bytes .now) (a .t) (s .pre .1 .0)
+    (sym (c .before .matches .ensures) ∙ not-true _ (c .if1 .taken))
 
 row-in-requires : tie.Need-row-in-requires
 row-in-requires c κs = search needs
@@ -32,7 +33,8 @@ reading-in-requires c κs =
     let r = c .before .before .before in
     let l = looked-row (a .table .now) (a .t .row) _ (s .pre .0) (r .row-in .ensures) in
     let m = sym (r .before .before .matches .ensures) ∙ not-false _ (r .before .if1 .left) in
-    row-is-read (a .dgn) (a .instance) (a .id) (a .bytes .now) (a .t) (s .pre .1 .0) _ (s .pre .1 .1) m (sym l ∙ ap toldLooked (c .before .looked .given .1))
+    row-is-read (a .dgn) (a .instance) (a .id) (a .bytes .now) (a .t) (s .pre .1 .0) _ (s .pre .1 .1) m
+    (sym l ∙ ap toldLooked (c .before .looked .given .1))
 
 returns-2 : tie.Need-returns-2
 returns-2 c =
@@ -41,7 +43,8 @@ returns-2 c =
     let a = s .args in
     let l = looked-row (a .table .now) (a .t .row) _ (s .pre .0) (r .row-in .ensures) in
     let m = sym (r .before .before .matches .ensures) ∙ not-false _ (r .before .if1 .left) in
-    heard-none (a .dgn) (a .instance) (a .id) (a .bytes .now) (a .t) (s .pre .1 .0) _ m (sym l ∙ ap toldLooked (c .enum-told .given .1))
+    heard-none (a .dgn) (a .instance) (a .id) (a .bytes .now) (a .t) (s .pre .1 .0) _ m
+    (sym l ∙ ap toldLooked (c .enum-told .given .1))
 
 returns-3 : tie.Need-returns-3
 returns-3 c =
@@ -50,7 +53,8 @@ returns-3 c =
     let a = s .args in
     let l = looked-row (a .table .now) (a .t .row) _ (s .pre .0) (r .row-in .ensures) in
     let m = sym (r .before .before .matches .ensures) ∙ not-false _ (r .before .if1 .left) in
-    heard-as (a .dgn) (a .instance) (a .id) (a .bytes .now) (a .t) (s .pre .1 .0) _ _ m (sym l ∙ ap toldLooked (c .before .before .looked .given .1)) (c .reading-in .ensures)
+    heard-as (a .dgn) (a .instance) (a .id) (a .bytes .now) (a .t) (s .pre .1 .0) _ _ m
+    (sym l ∙ ap toldLooked (c .before .before .looked .given .1)) (c .reading-in .ensures)
 
 pub heard-by-spec : {M : Type 1} → statement M
 heard-by-spec =

@@ -42,8 +42,15 @@ heard-by-requires c κs =
     let a = c .before .before .before .before .before .before .args in
     let ts = a .p .tiles in
     let h : l .i < length ts = omega arith in
-    let e = ap (λ (x : List Tile). getD x (l .i) blankTile) (l .inv .5) ∙ map-at (heardBy (a .dgn) (a .bytes .now)) ts (l .i) blankTile h in
-    (l .inv .2, (l .inv .3, subst (λ (x : Tile). tileKeepsRules x ≡ true) (sym e) (every-at tileKeepsRules ts (l .i) blankTile h (l .inv .4))))
+    let e = ap (λ (x : List Tile). getD x (l .i) blankTile) (l .inv .5) ∙ map-at (heardBy (a .dgn) (a .bytes .now)) ts
+    (l .i) blankTile h in (
+      l .inv .2,
+      (
+        l .inv .3,
+        subst (λ (x : Tile). tileKeepsRules x ≡ true) (sym e)
+            (every-at tileKeepsRules ts (l .i) blankTile h (l .inv .4)),
+      ),
+    )
 
 mul-tiles : tie.Need-mul-tiles Inv-loop μ-loop
 mul-tiles c = search needs
@@ -63,7 +70,8 @@ loop-again c =
     let a = c .before .before .before .before .before .before .before .args in
     let ts = a .p .tiles in
     let h : l .i < length ts = omega arith in
-    let t = image-turn (heardBy (a .dgn) (a .bytes .now)) ts (l .tiles) (l .i) blankTile (c .heard-by .result) h (l .inv .5) (c .heard-by .ensures) in
+    let t = image-turn (heardBy (a .dgn) (a .bytes .now)) ts (l .tiles) (l .i) blankTile (c .heard-by .result) h
+    (l .inv .5) (c .heard-by .ensures) in
     (search needs, l .inv .1, l .inv .2, l .inv .3, l .inv .4, t)
 
 returns : tie.Need-returns Inv-loop μ-loop

@@ -14,7 +14,8 @@ use Rattle.tiles.proofs.frames.mask.Tie as tie
 
 abbrev Inv-loop : tie.InvT-loop
 Inv-loop table dgn instance p mask₀ i₀ mask i =
-    (i ≤ 32) × (length (p .tiles) ≡ 32) × (table ≡ packedRows) × (mask ≡ maskOf (matches dgn instance) (drop i (p .tiles)))
+    (i ≤ 32) × (length (p .tiles) ≡ 32) × (table ≡ packedRows) ×
+    (mask ≡ maskOf (matches dgn instance) (drop i (p .tiles)))
 
 abbrev μ-loop : tie.MeasureT-loop
 μ-loop table dgn instance p mask₀ i₀ mask i = i
@@ -41,7 +42,8 @@ with-bit-requires : tie.Need-with-bit-requires Inv-loop μ-loop
 with-bit-requires c κs =
     let a = c .before .before .before .before .before .args in
     let l = c .before .before .before .loop in
-    mask-room (matches (a .dgn) (a .instance)) (a .t4 .tiles) (l .i) (l .mask) (l .inv .1) (omega arith) (l .inv .0) (l .inv .3)
+    mask-room (matches (a .dgn) (a .instance)) (a .t4 .tiles) (l .i) (l .mask) (l .inv .1) (omega arith) (l .inv .0)
+    (l .inv .3)
 
 loop-less : tie.Need-loop-less Inv-loop μ-loop
 loop-less c = search needs
@@ -53,7 +55,8 @@ loop-again c =
       omega arith,
       l .inv .1,
       l .inv .2,
-      mask-turn (matches (a .dgn) (a .instance)) (a .t4 .tiles) (l .i) (l .mask) _ _ (l .inv .1) (omega arith) (l .inv .0) (l .inv .3)
+      mask-turn (matches (a .dgn) (a .instance)) (a .t4 .tiles) (l .i) (l .mask) _ _ (l .inv .1) (omega arith)
+          (l .inv .0) (l .inv .3)
           (c .before .matches .ensures) (c .with-bit .ensures),
     )
 

@@ -18,7 +18,8 @@ shown-requires : tie.Need-shown-requires
 shown-requires c κs =
     let e = c .before .before .before in
     let a = e .before .before .args in
-    read-small (a .row) (a .id) (a .bytes .now) _ (e .before .before .pre) (e .read-row-scaled .ensures) _ (c .before .read .given .1)
+    read-small (a .row) (a .id) (a .bytes .now) _ (e .before .before .pre) (e .read-row-scaled .ensures) _
+    (c .before .read .given .1)
 
 enum-told : tie.Need-enum-told
 enum-told c = search needs
@@ -31,20 +32,23 @@ unfolding readingIn
 returns c =
     let e = c .before .before .before .before in
     let a = e .before .before .args in
-    let v = read-value (a .row) (a .id) (a .bytes .now) _ (e .before .before .pre) (e .read-row-scaled .ensures) _ (c .before .before .read .given .1) in
+    let v = read-value (a .row) (a .id) (a .bytes .now) _ (e .before .before .pre) (e .read-row-scaled .ensures) _
+    (c .before .before .read .given .1) in
     c .shown .ensures ∙ ap (λ (x : Value). shown (a .row .unit) x) v
 
 returns-2 : tie.Need-returns-2
 returns-2 c =
     let e = c .before .before in
     let a = e .before .before .args in
-    read-some (a .row) (a .id) (a .bytes .now) _ (e .before .before .pre) (e .read-row-scaled .ensures) _ (ap toldScaled (c .enum-told .given .1))
+    read-some (a .row) (a .id) (a .bytes .now) _ (e .before .before .pre) (e .read-row-scaled .ensures) _
+    (ap toldScaled (c .enum-told .given .1))
 
 returns-3 : tie.Need-returns-3
 returns-3 c =
     let e = c .before .before in
     let a = e .before .before .args in
-    read-some (a .row) (a .id) (a .bytes .now) _ (e .before .before .pre) (e .read-row-scaled .ensures) _ (ap toldScaled (c .enum-told2 .given .1))
+    read-some (a .row) (a .id) (a .bytes .now) _ (e .before .before .pre) (e .read-row-scaled .ensures) _
+    (ap toldScaled (c .enum-told2 .given .1))
 
 pub reading-in-spec : {M : Type 1} → statement M
 reading-in-spec =

@@ -41,27 +41,32 @@ returns : tie.Need-returns
 unfolding shownNumber
 returns c =
     rw (c .before .enum-told .given .1)
-    (ap Degrees (c .thirty-seconds .ensures ∙ ap (λ (z : ℤ). nearest z 32) (toZ-ofZ w64 (c .before .before .before .args .v) (c .before .before .before .fits .v))))
+    (ap Degrees (c .thirty-seconds .ensures ∙ ap (λ (z : ℤ). nearest z 32)
+    (toZ-ofZ w64 (c .before .before .before .args .v) (c .before .before .before .fits .v))))
 
 returns-2 : tie.Need-returns-2
 unfolding shownNumber
 returns-2 c =
     rw (c .before .enum-told2 .given .1)
-    (ap Percent (c .halves .ensures ∙ ap (λ (z : ℤ). nearest z 2) (toZ-ofZ w64 (c .before .before .before .args .v) (c .before .before .before .fits .v))))
+    (ap Percent (c .halves .ensures ∙ ap (λ (z : ℤ). nearest z 2)
+    (toZ-ofZ w64 (c .before .before .before .args .v) (c .before .before .before .fits .v))))
 
 returns-3 : tie.Need-returns-3
 unfolding shownNumber
 returns-3 c =
     rw (c .before .enum-told3 .given .1)
-    (ap Hertz (c .hundred-twenty-eighths .ensures ∙ ap (λ (z : ℤ). nearest z 128) (toZ-ofZ w64 (c .before .before .before .args .v) (c .before .before .before .fits .v))))
+    (ap Hertz (c .hundred-twenty-eighths .ensures ∙ ap (λ (z : ℤ). nearest z 128)
+    (toZ-ofZ w64 (c .before .before .before .args .v) (c .before .before .before .fits .v))))
 
 returns-4 : tie.Need-returns-4
 unfolding shownNumber
-returns-4 c = rw (c .enum-told4 .given .1) (ap Volts (toZ-ofZ w64 (c .before .before .args .v) (c .before .before .fits .v)))
+returns-4 c = rw (c .enum-told4 .given .1)
+    (ap Volts (toZ-ofZ w64 (c .before .before .args .v) (c .before .before .fits .v)))
 
 returns-5 : tie.Need-returns-5
 unfolding shownNumber
-returns-5 c = rw (c .enum-told5 .given .1) (ap Amperes (toZ-ofZ w64 (c .before .before .args .v) (c .before .before .fits .v)))
+returns-5 c = rw (c .enum-told5 .given .1)
+    (ap Amperes (toZ-ofZ w64 (c .before .before .args .v) (c .before .before .fits .v)))
 
 returns-6 : tie.Need-returns-6
 unfolding shownNumber

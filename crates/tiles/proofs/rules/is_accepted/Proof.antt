@@ -14,7 +14,8 @@ has-instance-requires : tie.Need-has-instance-requires
 has-instance-requires c κs = search needs
 
 returns-2 : tie.Need-returns-2
-returns-2 c = some-steps (c .before .before .before .args .row) _ _ (c .before .before .steps-in-one .ensures .answer) (c .before .if1 .left) (c .has-instance .ensures .answer)
+returns-2 c = some-steps (c .before .before .before .args .row) _ _ (c .before .before .steps-in-one .ensures .answer)
+    (c .before .if1 .left) (c .has-instance .ensures .answer)
 
 pub is-accepted-spec : {M : Type 1} → statement M
 is-accepted-spec =

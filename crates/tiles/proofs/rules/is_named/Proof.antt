@@ -26,12 +26,14 @@ is-of-requires : tie.Need-is-of-requires
 is-of-requires c κs = search needs
 
 returns-2 : tie.Need-returns-2
-returns-2 c = named-nothing (c .before .before .args .looked) (c .before .before .args .reading) (c .enum-told .given .1)
+returns-2 c = named-nothing (c .before .before .args .looked) (c .before .before .args .reading)
+    (c .enum-told .given .1)
 
 returns-3 : tie.Need-returns-3
 returns-3 c =
     let a = c .before .before .before .before .before .before .args in
-    named-as (toldLooked (a .looked)) _ (a .reading) _ (ap toldLooked (c .before .before .before .before .looked .given .1))
+    named-as (toldLooked (a .looked)) _ (a .reading) _
+    (ap toldLooked (c .before .before .before .before .looked .given .1))
     (sym (c .before .before .is-accepted .ensures) ∙ not-false _ (c .before .if1 .left)) (c .is-of .ensures)
 
 pub is-named-spec : {M : Type 1} → statement M

@@ -12,7 +12,8 @@ is-zero-requires : tie.Need-is-zero-requires
 is-zero-requires c κs = search needs
 
 returns : tie.Need-returns
-returns c = keeps-blank (c .before .before .before .before .args .t) _ (sym (c .before .before .is-blank .ensures) ∙ c .before .if1 .taken) (c .is-zero .ensures)
+returns c = keeps-blank (c .before .before .before .before .args .t) _
+    (sym (c .before .before .is-blank .ensures) ∙ c .before .if1 .taken) (c .is-zero .ensures)
 
 row-in-requires : tie.Need-row-in-requires
 row-in-requires c κs = search needs
@@ -23,8 +24,10 @@ is-named-requires c κs = search needs
 returns-2 : tie.Need-returns-2
 returns-2 c =
     let a = c .before .before .before .before .before .args in
-    let l = looked-row (a .table .now) (a .t .row) _ (c .before .before .before .before .before .pre) (c .before .row-in .ensures) in
-    keeps-named (a .t) _ _ (sym (c .before .before .before .is-blank .ensures) ∙ c .before .before .if1 .left) l (c .is-named .ensures)
+    let l = looked-row (a .table .now) (a .t .row) _ (c .before .before .before .before .before .pre)
+    (c .before .row-in .ensures) in
+    keeps-named (a .t) _ _ (sym (c .before .before .before .is-blank .ensures) ∙ c .before .before .if1 .left) l
+    (c .is-named .ensures)
 
 pub tile-keeps-rules-spec : {M : Type 1} → statement M
 tile-keeps-rules-spec =
