@@ -1,5 +1,5 @@
--- The DGNs of the catalogue in which 000 puts an instance in byte 0 (RULES 6.16). Behind each: its name, and the line of
--- byte 0 in 000. (Made by tools/catalogue from docs/catalogue-dgns.tsv.)
+-- The DGNs of the catalogue in which 000 puts an instance in byte 0 (RULES 6.16). Behind each: its name, and the line
+-- of byte 0 in 000. (Made by tools/catalogue from docs/catalogue-dgns.tsv.)
 use mathlib.Core.Bool.{Bool}
 use mathlib.Core.List.{List, [], _∷_}
 use Prim.Native.Nat.{ℕ}

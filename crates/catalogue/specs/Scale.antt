@@ -35,8 +35,8 @@ valueAs Class.Reserved scaled = Value.Reserved
 unfoldable pub valueOf : Row → Field → Value
 valueOf row field = valueAs (field .class) (scaledOf (row .unit) (row .width) (field .code))
 
--- how many of these steps make one of the unit, at the widths that have a scale: halves of a percent, 1/32 °C, 1/20 V and
--- A, 1/128 Hz; 0 at any other, where the scaled value is the code
+-- how many of these steps make one of the unit, at the widths that have a scale: halves of a percent, 1/32 °C, 1/20 V
+-- and A, 1/128 Hz; 0 at any other, where the scaled value is the code
 unfoldable pub stepsInOne : Unit → ℕ → ℕ
 stepsInOne Percent width = if width =? 8 then 2 else 0
 stepsInOne Celsius width = if width =? 8 or width =? 16 then 32 else 0

@@ -139,8 +139,8 @@ MatchesExactly = (dgn instance : ℕ) (t : Tile) → (matches dgn instance t ≡
 abbrev pub ZeroIsNotAll : Type 0
 ZeroIsNotAll = (dgn : ℕ) (t : Tile) → (t .instance ≡ 0 → ⊥) → matches dgn 0 t ≡ false
 
--- A frame alters just the tiles that it is for, and answers just these. Of each of the 32 tiles: if the frame is for it,
--- its bit is set and it shows what the frame says of its row; if not, its bit is not set and it is as it was.
+-- A frame alters just the tiles that it is for, and answers just these. Of each of the 32 tiles: if the frame is for
+-- it, its bit is set and it shows what the frame says of its row; if not, its bit is not set and it is as it was.
 
 pub record HeardAt (dgn : ℕ) (bytes : List ℕ) (mask : ℕ) (old new : Tile) (k : ℕ) : Type 0 where
   pub for-it : (row : Row) → matches dgn (byte0 bytes) old ≡ true → rowOf (old .row) ≡ gives row
@@ -176,7 +176,8 @@ PriorityIgnored =
 
 abbrev pub IsExact : Unit → ℕ → ℕ → Type 0
 IsExact unit width steps =
-    (code : ℕ) → code < 2 ^ width → IsExactly (nearest (scaledOf unit width code) steps) (scaledOf unit width code) steps
+    (code : ℕ) → code < 2 ^ width
+    → IsExactly (nearest (scaledOf unit width code) steps) (scaledOf unit width code) steps
 
 pub record ExactForEveryCode : Type 0 where
   pub percent : IsExact Unit.Percent 8 2

@@ -51,4 +51,5 @@ abbrev pub heardBeside : Panel → Hearing → Heard
 heardBeside p answer = record { panel = p; answer = answer }
 
 abbrev pub heardAs : ℕ → List ℕ → Panel → Heard
-heardAs dgn bytes p = heardBeside (heardByAll dgn bytes p) (Hearing.Heard (maskOf (matches dgn (byte0 bytes)) (p .tiles)))
+heardAs dgn bytes p =
+    heardBeside (heardByAll dgn bytes p) (Hearing.Heard (maskOf (matches dgn (byte0 bytes)) (p .tiles)))

@@ -69,8 +69,8 @@ abbrev pub saysOf : Told Row → List ℕ → Reading
 saysOf (refused n) bytes = NoData
 saysOf (gives row) bytes = readingIn row bytes
 
--- A tile after a run: never named, it is blank. Named, it shows no-data if no frame for it came since, and else what the
--- latest frame for it said. Calls stand with the latest first.
+-- A tile after a run: never named, it is blank. Named, it shows no-data if no frame for it came since, and else what
+-- the latest frame for it said. Calls stand with the latest first.
 pub data Shows (k : ℕ) : List Call → Reading → Type 0 where
   never-named : (calls : List Call) → any (isNaming k) calls ≡ false → Shows k calls Blank
   no-frame-since : (since before : List Call) (row instance : ℕ)

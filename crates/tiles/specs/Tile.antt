@@ -1,5 +1,5 @@
--- One tile of a wall panel (RULES 18.2 to 18.10): the rows that it may name, what it shows of them, which frames are for
--- it, and what they make of it.
+-- One tile of a wall panel (RULES 18.2 to 18.12): the rows that it may name, what it shows of them, which frames are
+-- for it, and what they make of it.
 use mathlib.Core.Bool.{Bool, true, false, not}
 use mathlib.Core.List.{List}
 use Prim.Native.Nat.{ℕ}
@@ -19,8 +19,8 @@ use Rattle.catalogue.specs.declared.Value.{Value}
 use Rattle.catalogue.specs.declared.Value.the-variants as Value
 use Rattle.tiles.specs.Exact.{nearest}
 use Rattle.tiles.specs.declared.Reading.{Reading}
-use Rattle.tiles.specs.declared.Reading.the-variants.{Blank, NoData, OutOfRange, Reserved, Degrees, Percent, Hertz}
-use Rattle.tiles.specs.declared.Reading.the-variants.{Volts, Amperes}
+use Rattle.tiles.specs.declared.Reading.the-variants.{Blank, NoData, OutOfRange, Reserved, Degrees, Percent}
+use Rattle.tiles.specs.declared.Reading.the-variants.{Hertz, Volts, Amperes}
 use Rattle.tiles.specs.declared.Tile.{Tile}
 
 -- a tile may name a row whose unit has a scale at its width, in a DGN with an instance in byte 0
@@ -29,8 +29,8 @@ isAccepted row = isScaled row and hasInstance (row .dgn)
 
 -- What a tile shows.
 
--- so many steps of a unit: °C in 1/32, percent in halves, hertz in 1/128, as numbers; volts and amperes in twentieths. A
--- tile names no row of another unit.
+-- so many steps of a unit: °C in 1/32, percent in halves, hertz in 1/128, as numbers; volts and amperes in twentieths;
+-- a tile names no row of another unit
 unfoldable pub shownNumber : Unit → ℤ → Reading
 shownNumber Unit.Celsius v = Degrees (nearest v 32)
 shownNumber Unit.Percent v = Percent (nearest v 2)

@@ -1,5 +1,5 @@
-// A wall panel of 32 tiles (RULES 18). Each tile names a row of the catalogue and an instance, and keeps what the latest
-// frame said of them. It stands above the library, of which it uses public calls and their promises alone.
+// A wall panel of 32 tiles (RULES 18). Each tile names a row of the catalogue and an instance, and keeps what the
+// latest frame said of them. It stands above the library, of which it uses public calls and their promises alone.
 mod frames;
 mod readings;
 mod rules;
@@ -33,8 +33,8 @@ pub enum Reading {
     Amperes(i64),
 }
 
-// A tile: the row that it names by its number in the catalogue, an instance, and the latest reading. Row and instance of
-// a blank tile are 0.
+// A tile: the row that it names by its number in the catalogue, an instance, and the latest reading. Row and instance
+// of a blank tile are 0.
 pub struct Tile {
     pub row: usize,
     pub instance: u8,

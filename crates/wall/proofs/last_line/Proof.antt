@@ -9,12 +9,14 @@ use borrow.Author.Needs.{needs}
 use Rattle.wall.proofs.last_line.Statement.{statement}
 use Rattle.wall.proofs.last_line.Tie as tie
 
-fits : (c : tie.After-ending) → c .ending .given .0 .0 ≤ length (c .before .before .before .before .before .before .args .listener .cutter .carry)
+fits : (c : tie.After-ending) → c .ending .given .0 .0 ≤ length
+    (c .before .before .before .before .before .before .args .listener .cutter .carry)
 fits c =
     let n = c .before .before in
     let a = n .before .before .before .before .args in
     let l : length (a .listener .cutter .carry) ≡ 80 = search needs in
-    let h = last-fits (c .ending .given .0 .0) (a .listener .cutter) (n .last .result) (n .last .ensures) (c .ending .given .1) in
+    let h = last-fits (c .ending .given .0 .0) (a .listener .cutter) (n .last .result) (n .last .ensures)
+    (c .ending .given .1) in
     omega arith
 
 wrapping-add-u32-requires : tie.Need-wrapping-add-u32-requires
@@ -32,7 +34,8 @@ array-share-prefix-carry c = fits (c .before .before)
 slice-aggregate-hear-line : tie.Need-slice-aggregate-hear-line
 slice-aggregate-hear-line c =
     let f = c .before .before .before in
-    sym (length-take-le (f .ending .given .0 .0) (f .before .before .before .before .before .before .args .listener .cutter .carry) (fits f))
+    sym (length-take-le (f .ending .given .0 .0)
+    (f .before .before .before .before .before .before .args .listener .cutter .carry) (fits f))
 
 hear-line-requires : tie.Need-hear-line-requires
 hear-line-requires c κs = search needs

@@ -12,16 +12,19 @@ use borrow.Author.Needs.{needs}
 use Rattle.wall.proofs.next_line.Statement.{statement}
 use Rattle.wall.proofs.next_line.Tie as tie
 
-fits : (c : tie.After-answer2) → c .answer2 .given .0 .0 ≤ length (c .before .before .before .next .result .cutter .carry)
+fits : (c : tie.After-answer2) → c .answer2 .given .0 .0 ≤ length
+    (c .before .before .before .next .result .cutter .carry)
 fits c =
     let n = c .before .before .before in
     let a = n .before .before .before .before .args in
     let o = n .next .ok in
     let l : length (n .next .result .cutter .carry) ≡ 80 = search (needs, o) in
-    let h = carried-fits (a .block .now) (a .at) (c .answer2 .given .0 .0) (a .listener .cutter) (n .next .result) (n .next .ensures) (c .answer2 .given .1) in
+    let h = carried-fits (a .block .now) (a .at) (c .answer2 .given .0 .0) (a .listener .cutter) (n .next .result)
+    (n .next .ensures) (c .answer2 .given .1) in
     omega arith
 
-advances : (c : tie.After-next) {piece : Piece} → yieldOf (c .before .before .before .before .args .block .now) (c .next .result) ≡ brings piece
+advances : (c : tie.After-next) {piece : Piece} → yieldOf (c .before .before .before .before .args .block .now)
+    (c .next .result) ≡ brings piece
     → c .before .before .before .before .args .at < c .next .result .«read_to»
 advances c {piece} y =
     let a = c .before .before .before .before .args in
@@ -37,21 +40,24 @@ sub-hear-line : tie.Need-sub-hear-line
 sub-hear-line c =
     let n = c .before .before .before .before in
     let a = n .before .before .before .before .args in
-    let w = within-block (a .block .now) (a .at) _ _ (a .listener .cutter) (n .next .result) (n .next .ensures) (c .before .answer .given .1) in
+    let w = within-block (a .block .now) (a .at) _ _ (a .listener .cutter) (n .next .result) (n .next .ensures)
+    (c .before .answer .given .1) in
     search needs
 
 part-hear-line-start : tie.Need-part-hear-line-start
 part-hear-line-start c =
     let n = c .before .before .before .before in
     let a = n .before .before .before .before .args in
-    let w = within-block (a .block .now) (a .at) _ _ (a .listener .cutter) (n .next .result) (n .next .ensures) (c .before .answer .given .1) in
+    let w = within-block (a .block .now) (a .at) _ _ (a .listener .cutter) (n .next .result) (n .next .ensures)
+    (c .before .answer .given .1) in
     search needs
 
 part-hear-line-end : tie.Need-part-hear-line-end
 part-hear-line-end c =
     let n = c .before .before .before .before in
     let a = n .before .before .before .before .args in
-    let w = within-block (a .block .now) (a .at) _ _ (a .listener .cutter) (n .next .result) (n .next .ensures) (c .before .answer .given .1) in
+    let w = within-block (a .block .now) (a .at) _ _ (a .listener .cutter) (n .next .result) (n .next .ensures)
+    (c .before .answer .given .1) in
     search needs
 
 hear-line-requires : tie.Need-hear-line-requires

@@ -31,14 +31,16 @@ mul-value : tie.Need-mul-value Inv-loop μ-loop
 mul-value c =
     let l = c .before .before .before .before .before .loop in
     let a = c .before .before .before .before .before .before .before .args in
-    let r = read-room (a .base) (l .value) (c .before .value-of .result) (l .count) (omega arith) (omega arith) (omega arith) (l .inv .1) in
+    let r = read-room (a .base) (l .value) (c .before .value-of .result) (l .count) (omega arith) (omega arith)
+    (omega arith) (l .inv .1) in
     omega arith
 
 add-value : tie.Need-add-value Inv-loop μ-loop
 add-value c =
     let l = c .before .before .before .before .before .loop in
     let a = c .before .before .before .before .before .before .before .args in
-    let r = read-room (a .base) (l .value) (c .before .value-of .result) (l .count) (omega arith) (omega arith) (omega arith) (l .inv .1) in
+    let r = read-room (a .base) (l .value) (c .before .value-of .result) (l .count) (omega arith) (omega arith)
+    (omega arith) (l .inv .1) in
     omega arith
 
 add-count : tie.Need-add-count Inv-loop μ-loop
@@ -51,7 +53,8 @@ loop-again : tie.Need-loop-again Inv-loop μ-loop
 loop-again c =
     let l = c .before .before .before .before .before .loop in
     let a = c .before .before .before .before .before .before .before .args in
-    let r = read-room (a .base) (l .value) (c .before .value-of .result) (l .count) (omega arith) (omega arith) (omega arith) (l .inv .1) in
+    let r = read-room (a .base) (l .value) (c .before .value-of .result) (l .count) (omega arith) (omega arith)
+    (omega arith) (l .inv .1) in
     (search needs, r .0)
 
 returns-2 : tie.Need-returns-2 Inv-loop μ-loop

@@ -43,7 +43,8 @@ cast-result-2 : tie.Need-cast-result-2
 cast-result-2 c =
     let v = c .before .args .number in
     let b = is-from v (c .before .fits .number) (c .if1 .left) in
-    subst (λ (z : ℤ). T (nonNeg z) × Fits w64 (natAbs z)) (sym (toZ-ofZ w64 v (c .before .fits .number) ∙ b .1)) (tt, omega arith)
+    subst (λ (z : ℤ). T (nonNeg z) × Fits w64 (natAbs z)) (sym (toZ-ofZ w64 v (c .before .fits .number) ∙ b .1))
+    (tt, omega arith)
 
 returns-2 : tie.Need-returns-2
 returns-2 c = search needs

@@ -1,5 +1,6 @@
 -- `wall::values::put_float` is safe and ends. Assumes nothing.
--- The two tests say what the cast asks, once `ofBits` and `neg` are unfolded: the same two numbers stand there by their bits.
+-- The two tests say what the cast asks, once `ofBits` and `neg` are unfolded: the same two numbers stand there by their
+-- bits.
 use mathlib.Core.Path.{sym, subst}
 use lib.Dec.{T}
 use lib.Ieee.{ofBits, neg}
@@ -9,7 +10,8 @@ use Rattle.wall.proofs.values.put_float.Tie as tie
 
 truncating-f32-to-i64-requires : tie.Need-truncating-f32-to-i64-requires
 unfolding ofBits neg
-truncating-f32-to-i64-requires c κs = (subst T (sym (c .before .before .if1 .taken)) tt, subst T (sym (c .before .if2 .taken)) tt)
+truncating-f32-to-i64-requires c κs =
+    (subst T (sym (c .before .before .if1 .taken)) tt, subst T (sym (c .before .if2 .taken)) tt)
 
 put-steps-requires : tie.Need-put-steps-requires
 put-steps-requires c κs = search needs

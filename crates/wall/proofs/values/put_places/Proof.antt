@@ -9,7 +9,8 @@ use Rattle.wall.proofs.values.put_places.Statement.{statement}
 use Rattle.wall.proofs.values.put_places.Tie as tie
 
 abbrev Inv-loop : tie.InvT-loop
-Inv-loop out₀ at fraction end₀ rest₀ places₀ t7 out end rest places = (end ≤ length out) × (length out ≡ length out₀) × (rest < 10000000) × (places ≤ 7)
+Inv-loop out₀ at fraction end₀ rest₀ places₀ t7 out end rest places = (end ≤ length out) × (length out ≡ length out₀) ×
+    (rest < 10000000) × (places ≤ 7)
 
 abbrev μ-loop : tie.MeasureT-loop
 μ-loop out₀ at fraction end₀ rest₀ places₀ t7 out end rest places = 7 - places
