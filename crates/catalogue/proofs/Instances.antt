@@ -19,7 +19,6 @@ use Rattle.catalogue.specs.Rows.{rows}
 use Rattle.catalogue.specs.Instances.{instanceDgns, hasInstance}
 use Rattle.catalogue.specs.Table.{nth, rowIn, rowWith, liesInFrame, rowAt, rowOf}
 use Rattle.catalogue.specs.Field.{fieldOf}
-use Rattle.catalogue.specs.Classes.{classIn}
 use Rattle.catalogue.specs.Scale.{scaledOf, stepsOf, celsiusSteps, ampereSteps, stepsInOne, valueAs, valueOf}
 use Rattle.catalogue.specs.Catalogue.{fieldIn}
 use Rattle.catalogue.specs.Laws as Laws
@@ -44,7 +43,15 @@ scaled-by-unit = record { percent = refl; celsius = (refl, refl); volt = refl; a
 
 pub steps-by-unit : Laws.StepsByUnit
 unfolding stepsInOne
-steps-by-unit = record { percent = refl; celsius = (refl, refl); volt = refl; ampere = refl; hertz = refl }
+steps-by-unit =
+    record {
+      percent = refl;
+      celsius = (refl, refl);
+      volt = refl;
+      ampere = refl;
+      hertz = refl;
+      other = λ width. refl;
+    }
 
 pub instance-count : Laws.InstanceCount
 unfolding instanceDgns
@@ -131,21 +138,26 @@ value-number Class.NoData z v e = let k : _≡_ {A = ℕ} 0 1 = cc in absurd (om
 value-number Class.OutOfRange z v e = let k : _≡_ {A = ℕ} 0 1 = cc in absurd (omega arith)
 value-number Class.Reserved z v e = let k : _≡_ {A = ℕ} 0 1 = cc in absurd (omega arith)
 
-pub value-of-code : Laws.ValueOfCode
-unfolding valueOf fieldIn
-value-of-code row number v e =
-    let c = fieldOf (row .first) (row .width) number in
-    let n = value-number (classIn row c) (scaledOf (row .unit) (row .width) c) v e in
-    (c, field-below (row .first) (row .width) number, n .0, n .1)
+pub code-below : Laws.CodeBelow
+unfolding fieldIn
+code-below row number = field-below (row .first) (row .width) number
+
+pub value-by-class : Laws.ValueByClass
+unfolding valueOf
+value-by-class row field =
+    record { number = λ e. rw e; no-data = λ e. rw e; out-of-range = λ e. rw e; reserved = λ e. rw e }
 
 not-zero : (k : ℕ) → not (k =? 0) ≡ true → k ≡ 0 → ⊥
-not-zero k t e = let z : _≡_ {A = ℕ} (k) 0 = e in true-false (sym (subst (λ (m : ℕ). not (m =? 0) ≡ true) z t))
+not-zero k t e = true-false (sym (subst (λ (m : ℕ). not (m =? 0) ≡ true) e t))
 
 pub value-small : Laws.ValueSmall
+unfolding valueOf
 value-small row number v t e =
-    let o = value-of-code row number v e in
-    subst (λ (z : ℤ). mag z < 2 ^ 16) (sym (o .3))
-    (scaled-small (row .unit) (row .width) (o .0) (not-zero (stepsInOne (row .unit) (row .width)) t) (o .1))
+    let f = fieldIn row number in
+    let n = value-number (f .class) (scaledOf (row .unit) (row .width) (f .code)) v e in
+    subst (λ (z : ℤ). mag z < 2 ^ 16) (sym (n .1))
+    (scaled-small (row .unit) (row .width) (f .code) (not-zero (stepsInOne (row .unit) (row .width)) t)
+    (code-below row number))
 
 -- a row that a number gives
 

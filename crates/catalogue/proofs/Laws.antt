@@ -385,8 +385,11 @@ scaled-small = Instances.scaled-small
 pub value-small : Laws.ValueSmall
 value-small = Instances.value-small
 
-pub value-of-code : Laws.ValueOfCode
-value-of-code = Instances.value-of-code
+pub code-below : Laws.CodeBelow
+code-below = Instances.code-below
+
+pub value-by-class : Laws.ValueByClass
+value-by-class = Instances.value-by-class
 
 pub row-given : Laws.RowGiven
 row-given = Instances.row-given

@@ -32,7 +32,7 @@ use Rattle.catalogue.specs.Promises.{WriteField, ReadRow, ReadRowScaled,
 use Rattle.catalogue.specs.Promises.{ScaledReadingRefusal, WritingRefusal, HasInstance, StepsInOne}
 use Rattle.catalogue.specs.declared.Row.{Row}
 use Rattle.catalogue.specs.declared.Unit.{Unit}
-use Rattle.catalogue.specs.declared.Unit.the-variants.{Percent, Celsius, Volt, Ampere, Hertz}
+use Rattle.catalogue.specs.declared.Unit.the-variants.{Other, Percent, Celsius, Volt, Ampere, Hertz}
 use Rattle.catalogue.specs.declared.Span.{Span}
 use Rattle.catalogue.specs.declared.Field.{Field}
 use Rattle.catalogue.specs.declared.Class.{Class}
@@ -334,6 +334,7 @@ pub record StepsByUnit : Type 0 where
   pub volt : stepsInOne Volt 16 ≡ 20
   pub ampere : stepsInOne Ampere 16 ≡ 20
   pub hertz : stepsInOne Hertz 16 ≡ 128
+  pub other : (width : ℕ) → stepsInOne Other width ≡ 0
 
 -- Where a unit has a scale, a scaled value is small.
 
@@ -347,12 +348,20 @@ ValueSmall =
     (row : Row) (number : ℕ) (v : ℤ) → isScaled row ≡ true → valueOf row (fieldIn row number) ≡ Value.Scaled v
     → mag v < 2 ^ 16
 
--- A number that is read is the scaled value of a code, below 2 to the width, that is a number in the row.
-abbrev pub ValueOfCode : Type 0
-ValueOfCode =
-    (row : Row) (number : ℕ) (v : ℤ) → valueOf row (fieldIn row number) ≡ Value.Scaled v
-    → (code : ℕ) × (code < 2 ^ row .width) × (classIn row code ≡ Number)
-    × (v ≡ scaledOf (row .unit) (row .width) code)
+-- What is read of a row is a code below 2 to the width; and its value goes by its class.
+
+abbrev pub CodeBelow : Type 0
+CodeBelow = (row : Row) (number : ℕ) → fieldIn row number .code < 2 ^ row .width
+
+pub record ValueAnswers (row : Row) (field : Field) : Type 0 where
+  pub number :
+      field .class ≡ Number → valueOf row field ≡ Value.Scaled (scaledOf (row .unit) (row .width) (field .code))
+  pub no-data : field .class ≡ NoData → valueOf row field ≡ Value.NoData
+  pub out-of-range : field .class ≡ OutOfRange → valueOf row field ≡ Value.OutOfRange
+  pub reserved : field .class ≡ Reserved → valueOf row field ≡ Value.Reserved
+
+abbrev pub ValueByClass : Type 0
+ValueByClass = (row : Row) (field : Field) → ValueAnswers row field
 
 -- The row that a number gives is the row at that number, where there is none it is 11, and the value of a row in a
 -- frame of its DGN is read.

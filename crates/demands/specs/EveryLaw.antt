@@ -288,7 +288,8 @@ pub record CatalogueLaws : Type 0 where
   pub steps-by-unit : Catalogue.StepsByUnit
   pub scaled-small : Catalogue.ScaledSmall
   pub value-small : Catalogue.ValueSmall
-  pub value-of-code : Catalogue.ValueOfCode
+  pub code-below : Catalogue.CodeBelow
+  pub value-by-class : Catalogue.ValueByClass
   pub row-given : Catalogue.RowGiven
   pub row-refused : Catalogue.RowRefused
   pub scaled-in-frame : Catalogue.ScaledInFrame

@@ -1,17 +1,16 @@
 -- The statements of specs/Laws.antt, proved.
 -- Assumes nothing.
 use mathlib.Core.Path.{_≡_, refl, sym, ap, _∙_, subst}
-use mathlib.Core.Bool.{true}
+use mathlib.Core.Bool.{true, not}
 use mathlib.Core.List.{List}
 use Prim.Native.Nat.{ℕ, _^_, _≤_, _<_}
 use native.Mathlib.Omega.{arith}
 use borrow.Author.Tests.{ltb-true, lt-ltb}
-use lib.IntN.{ℤ}
 use lib.ListN.{length}
-use lib.Ieee.{Float}
+use lib.Signed.{mag}
 use lib.Seq.{getD-set-same, getD-set-other}
 use Rattle.words.specs.Words.{if_then_else_, given_then_, _=?_, Told, refused, gives, Done, done}
-use Rattle.words.proofs.Words.{by-test, both-true, gives-same}
+use Rattle.words.proofs.Words.{by-test, both-true, true-false, gives-same}
 use Rattle.frame.specs.Bytes.{numberOf}
 use Rattle.frame.specs.Identifier.{catalogueForm}
 use Rattle.frame.specs.Frame.{checkedOf}
@@ -28,11 +27,13 @@ use Rattle.catalogue.specs.Laws.{isScaled}
 use Rattle.catalogue.specs.declared.Row.{Row}
 use Rattle.catalogue.specs.declared.Unit.{Unit as Units}
 use Rattle.catalogue.specs.declared.Unit.the-variants as Unit
+use Rattle.catalogue.specs.declared.Field.{Field}
+use Rattle.catalogue.specs.declared.Class.the-variants as Class
 use Rattle.catalogue.specs.declared.Value.{Value}
 use Rattle.catalogue.specs.declared.Value.the-variants as Value
 use Rattle.catalogue.proofs.Laws as catalogue-laws
 use Rattle.tiles.specs.Exact.{nearest, IsExactly}
-use Rattle.tiles.specs.Tile.{isAccepted, readingIn, blankTile, freshTile, byte0, matches}
+use Rattle.tiles.specs.Tile.{isAccepted, shownNumber, shown, readingIn, blankTile, freshTile, byte0, matches}
 use Rattle.tiles.specs.Panel.{tileCount, keepsRules, tileAt, namedOf, afterName, soundOf, maskOf, tilesFor}
 use Rattle.tiles.specs.Panel.{heardOf, heardByAll, afterSound, afterHear, readingOf}
 use Rattle.tiles.specs.Promises.{toldNaming, toldHearing, toldAsking}
@@ -48,7 +49,7 @@ use Rattle.tiles.specs.declared.Hearing.the-variants as Hearing
 use Rattle.tiles.specs.declared.Asking.{Asking}
 use Rattle.tiles.specs.declared.Asking.the-variants as Asking
 use Rattle.tiles.proofs.Exact.{nearest-exact}
-use Rattle.tiles.proofs.OneFrame.{Says, says, meant-for, for-tile, other-instance, mask-below, mask-given}
+use Rattle.tiles.proofs.OneFrame.{meant-for, for-tile, other-instance, mask-below, mask-given}
 use Rattle.tiles.proofs.OneFrame.{sound-given, after-sound, heard-at}
 use Rattle.tiles.proofs.Running.{named-so, ran-sound, ran-tile, tile-shows, shows-tile, every-run}
 
@@ -277,45 +278,73 @@ exact-for-every-code =
       hertz = exact-at Unit.Hertz 16 7 128 (s .hertz) (omega arith) (omega arith);
     }
 
--- and so is whatever number a frame makes a tile show
+-- what a tile shows of a frame
 
-of-code : (row : Row) (number : ℕ) (v : ℤ) → valueOf row (fieldIn row number) ≡ Value.Scaled v
-    → (code : ℕ) × Laws.OfCode row code v
-of-code row number v e =
-    let o = catalogue-laws.value-of-code row number v e in
-    (o .0, record { below = o .1; number = o .2; is = o .3 })
+some-steps : (k : ℕ) → not (k =? 0) ≡ true → k ≡ 0 → ⊥
+some-steps k t e = true-false (sym (subst (λ (m : ℕ). not (m =? 0) ≡ true) e t))
 
-shown-exact : (row : Row) (number : ℕ) (v : ℤ) (k : ℕ) (x : Float) → isScaled row ≡ true → k ≤ 149
-    → valueOf row (fieldIn row number) ≡ Value.Scaled v → x ≡ nearest v (2 ^ k)
-    → (code : ℕ) × (v : ℤ) × Laws.OfCode row code v × IsExactly x v (2 ^ k)
-shown-exact row number v k x s h e f =
-    let o = of-code row number v e in (
-      o .0,
-      v,
-      o .1,
-      subst (λ (y : Float). IsExactly y v (2 ^ k)) (sym f)
-          (nearest-exact v k (catalogue-laws.value-small row number v s e) h),
-    )
+module _ (row : Row) (bytes : List ℕ) (a : isAccepted row ≡ true) where
+  abbrev number : ℕ
+  number = numberOf bytes
+
+  abbrev field : Field
+  field = fieldIn row number
+
+  has-steps : stepsInOne (row .unit) (row .width) ≡ 0 → ⊥
+  unfolding isAccepted
+  has-steps = some-steps (stepsInOne (row .unit) (row .width)) (both-true (isScaled row) (hasInstance (row .dgn)) a .0)
+
+  -- the number of a unit, and its size
+  number-shown : (unit : Units) → field .class ≡ Class.Number → row .unit ≡ unit
+      → readingIn row bytes ≡ shownNumber unit (scaledOf unit (row .width) (field .code))
+  unfolding readingIn shown
+  number-shown unit n u = rw (catalogue-laws.value-by-class row field .number n, u)
+
+  number-exact : (unit : Units) (k : ℕ) → row .unit ≡ unit → k ≤ 149
+      → IsExactly (nearest (scaledOf unit (row .width) (field .code)) (2 ^ k))
+      (scaledOf unit (row .width) (field .code))
+      (2 ^ k)
+  number-exact unit k u h =
+      let s = catalogue-laws.scaled-small (row .unit) (row .width) (field .code) has-steps
+      (catalogue-laws.code-below row number) in
+      nearest-exact (scaledOf unit (row .width) (field .code)) k
+      (subst (λ (x : Units). mag (scaledOf x (row .width) (field .code)) < 2 ^ 16) u s) h
+
+  class-shown : (value : Value) → valueOf row field ≡ value → readingIn row bytes ≡ shown (row .unit) value
+  unfolding readingIn
+  class-shown value e = rw e
 
 pub reading-exact : Laws.ReadingExact
-unfolding readingIn isAccepted
+unfolding shown shownNumber
 reading-exact row bytes a =
-    let number = numberOf bytes in
-    let value = valueOf row (fieldIn row number) in
-    let s = both-true (isScaled row) (hasInstance (row .dgn)) a .0 in
-    let t = says (row .unit) value in
+    let v = catalogue-laws.value-by-class row (fieldIn row (numberOf bytes)) in
     record {
-      degrees = λ x e.
-          let o = subst (Says value) e t in
-          shown-exact row number (o .0) 5 x s (omega arith) (o .1) (o .2);
-      percent = λ x e.
-          let o = subst (Says value) e t in
-          shown-exact row number (o .0) 1 x s (omega arith) (o .1) (o .2);
-      hertz = λ x e.
-          let o = subst (Says value) e t in
-          shown-exact row number (o .0) 7 x s (omega arith) (o .1) (o .2);
-      volts = λ v e. of-code row number v (subst (Says value) e t);
-      amperes = λ v e. of-code row number v (subst (Says value) e t);
+      has-unit = λ u.
+          has-steps row bytes a
+          (ap (λ (x : Units). stepsInOne x (row .width)) u ∙ catalogue-laws.steps-by-unit .other (row .width));
+      degrees = λ n u. (
+        _,
+        number-shown row bytes a Unit.Celsius n u,
+        number-exact row bytes a Unit.Celsius 5 u
+            (omega arith),
+      );
+      percent = λ n u. (
+        _,
+        number-shown row bytes a Unit.Percent n u,
+        number-exact row bytes a Unit.Percent 1 u
+            (omega arith),
+      );
+      hertz = λ n u. (
+        _,
+        number-shown row bytes a Unit.Hertz n u,
+        number-exact row bytes a Unit.Hertz 7 u
+            (omega arith),
+      );
+      volts = λ n u. number-shown row bytes a Unit.Volt n u;
+      amperes = λ n u. number-shown row bytes a Unit.Ampere n u;
+      no-data = λ n. class-shown row bytes a Value.NoData (v .no-data n);
+      out-of-range = λ n. class-shown row bytes a Value.OutOfRange (v .out-of-range n);
+      reserved = λ n. class-shown row bytes a Value.Reserved (v .reserved n);
     }
 
 -- runs

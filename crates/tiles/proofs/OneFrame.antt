@@ -24,7 +24,6 @@ use Rattle.catalogue.specs.declared.Unit.{Unit as Units}
 use Rattle.catalogue.specs.declared.Unit.the-variants as Unit
 use Rattle.catalogue.specs.declared.Value.{Value}
 use Rattle.catalogue.specs.declared.Value.the-variants as Value
-use Rattle.tiles.specs.Exact.{nearest}
 use Rattle.tiles.specs.Tile.{isAccepted, shownNumber, shown, readingIn, isOf, showsNothing, isBlank, isZero}
 use Rattle.tiles.specs.Tile.{isNamed, tileKeepsRules, blankTile, freshTile, ofDgn, matches, byte0, heardBy}
 use Rattle.tiles.specs.Panel.{keepsRules, tileAt, soundOf, bitOf, maskOf, tilesFor, heardOf, heardByAll}
@@ -36,34 +35,7 @@ use Rattle.tiles.specs.declared.Reading.the-variants.{Hertz, Volts, Ampe
 use Rattle.tiles.specs.declared.Tile.{Tile}
 use Rattle.tiles.specs.declared.Panel.{Panel}
 
--- ---- What is shown of a value: a number comes from a scaled value.
-
-abbrev pub Says : Value → Reading → Type 0
-Says value Blank = ⊥
-Says value NoData = Unit
-Says value OutOfRange = Unit
-Says value Reserved = Unit
-Says value (Degrees x) = (v : ℤ) × (value ≡ Value.Scaled v) × (x ≡ nearest v 32)
-Says value (Percent x) = (v : ℤ) × (value ≡ Value.Scaled v) × (x ≡ nearest v 2)
-Says value (Hertz x) = (v : ℤ) × (value ≡ Value.Scaled v) × (x ≡ nearest v 128)
-Says value (Volts v) = value ≡ Value.Scaled v
-Says value (Amperes v) = value ≡ Value.Scaled v
-
-number-says : (unit : Units) (v : ℤ) → Says (Value.Scaled v) (shownNumber unit v)
-unfolding shownNumber
-number-says Unit.Celsius v = (v, refl, refl)
-number-says Unit.Percent v = (v, refl, refl)
-number-says Unit.Hertz v = (v, refl, refl)
-number-says Unit.Volt v = refl
-number-says Unit.Ampere v = refl
-number-says Unit.Other v = tt
-
-pub says : (unit : Units) (value : Value) → Says value (shown unit value)
-unfolding shown
-says unit (Value.Scaled v) = number-says unit v
-says unit Value.NoData = tt
-says unit Value.OutOfRange = tt
-says unit Value.Reserved = tt
+-- ---- What is shown of a value.
 
 -- a reading is of its row's unit, and so the tile is not blank
 

@@ -5,22 +5,23 @@ use mathlib.Core.Bool.{true, false}
 use mathlib.Core.List.{List}
 use mathlib.Core.Logic.{_↔_}
 use Prim.Native.Nat.{ℕ, _%_, _^_, _<_}
-use lib.IntN.{ℤ}
 use lib.ListN.{length}
 use lib.Ieee.{Float}
 use Rattle.words.specs.Words.{_<?_, bits, refused, gives, done}
 use Rattle.words.specs.Lists.{count}
+use Rattle.frame.specs.Bytes.{numberOf}
 use Rattle.frame.specs.Identifier.{identifiers, catalogueForm}
 use Rattle.frame.specs.Frame.{checkedOf}
 use Rattle.frame.specs.declared.Parts.{Parts}
 use Rattle.catalogue.specs.Rows.{rows}
 use Rattle.catalogue.specs.Table.{rowOf}
-use Rattle.catalogue.specs.Classes.{classIn}
 use Rattle.catalogue.specs.Scale.{scaledOf}
+use Rattle.catalogue.specs.Catalogue.{fieldIn}
 use Rattle.catalogue.specs.declared.Row.{Row}
 use Rattle.catalogue.specs.declared.Unit.{Unit}
 use Rattle.catalogue.specs.declared.Unit.the-variants as Unit
-use Rattle.catalogue.specs.declared.Class.the-variants.{Number}
+use Rattle.catalogue.specs.declared.Field.{Field}
+use Rattle.catalogue.specs.declared.Class.the-variants as Class
 use Rattle.tiles.specs.Exact.{nearest, IsExactly}
 use Rattle.tiles.specs.Tile.{isAccepted, isBlank, freshTile, byte0, matches, readingIn}
 use Rattle.tiles.specs.Panel.{tileCount, keepsRules, tileAt, namedOf, heardOf, afterHear, readingOf}
@@ -28,7 +29,8 @@ use Rattle.tiles.specs.Promises.{toldNaming, toldHearing, toldAsking, Ne
 use Rattle.tiles.specs.Promises.{HearingRefusal, AskingRefusal}
 use Rattle.tiles.specs.Runs.{Call, Ran, Shows}
 use Rattle.tiles.specs.declared.Reading.{Reading}
-use Rattle.tiles.specs.declared.Reading.the-variants.{Degrees, Percent, Hertz, Volts, Amperes}
+use Rattle.tiles.specs.declared.Reading.the-variants.{NoData, OutOfRange, Reserved, Degrees, Percent, Hertz}
+use Rattle.tiles.specs.declared.Reading.the-variants.{Volts, Amperes}
 use Rattle.tiles.specs.declared.Tile.{Tile}
 use Rattle.tiles.specs.declared.Panel.{Panel}
 use Rattle.tiles.specs.declared.Naming.{Naming}
@@ -185,22 +187,29 @@ pub record ExactForEveryCode : Type 0 where
   pub degrees-16 : IsExact Unit.Celsius 16 32
   pub hertz : IsExact Unit.Hertz 16 128
 
--- So whatever number a frame makes a tile show, it is exactly that of a code which is a number in its row.
+-- So it is known of every frame what a tile shows of it, by the class of the field and the unit of the row, which is
+-- one of five: a number is the scaled value of the code that stands in the frame, exactly; a class is itself.
 
-pub record OfCode (row : Row) (code : ℕ) (scaled : ℤ) : Type 0 where
-  pub below : code < 2 ^ row .width
-  pub number : classIn row code ≡ Number
-  pub is : scaled ≡ scaledOf (row .unit) (row .width) code
-
-pub record ShownExactly (row : Row) (reading : Reading) : Type 0 where
-  pub degrees : (x : Float) → reading ≡ Degrees x → (code : ℕ) × (v : ℤ) × OfCode row code v × IsExactly x v 32
-  pub percent : (x : Float) → reading ≡ Percent x → (code : ℕ) × (v : ℤ) × OfCode row code v × IsExactly x v 2
-  pub hertz : (x : Float) → reading ≡ Hertz x → (code : ℕ) × (v : ℤ) × OfCode row code v × IsExactly x v 128
-  pub volts : (v : ℤ) → reading ≡ Volts v → (code : ℕ) × OfCode row code v
-  pub amperes : (v : ℤ) → reading ≡ Amperes v → (code : ℕ) × OfCode row code v
+pub record ShownExactly (row : Row) (field : Field) (reading : Reading) : Type 0 where
+  pub has-unit : row .unit ≡ Unit.Other → ⊥
+  pub degrees : field .class ≡ Class.Number → row .unit ≡ Unit.Celsius
+      → (x : Float) × (reading ≡ Degrees x) × IsExactly x (scaledOf Unit.Celsius (row .width) (field .code)) 32
+  pub percent : field .class ≡ Class.Number → row .unit ≡ Unit.Percent
+      → (x : Float) × (reading ≡ Percent x) × IsExactly x (scaledOf Unit.Percent (row .width) (field .code)) 2
+  pub hertz : field .class ≡ Class.Number → row .unit ≡ Unit.Hertz
+      → (x : Float) × (reading ≡ Hertz x) × IsExactly x (scaledOf Unit.Hertz (row .width) (field .code)) 128
+  pub volts : field .class ≡ Class.Number → row .unit ≡ Unit.Volt
+      → reading ≡ Volts (scaledOf Unit.Volt (row .width) (field .code))
+  pub amperes : field .class ≡ Class.Number → row .unit ≡ Unit.Ampere
+      → reading ≡ Amperes (scaledOf Unit.Ampere (row .width) (field .code))
+  pub no-data : field .class ≡ Class.NoData → reading ≡ NoData
+  pub out-of-range : field .class ≡ Class.OutOfRange → reading ≡ OutOfRange
+  pub reserved : field .class ≡ Class.Reserved → reading ≡ Reserved
 
 abbrev pub ReadingExact : Type 0
-ReadingExact = (row : Row) (bytes : List ℕ) → isAccepted row ≡ true → ShownExactly row (readingIn row bytes)
+ReadingExact =
+    (row : Row) (bytes : List ℕ) → isAccepted row ≡ true
+    → ShownExactly row (fieldIn row (numberOf bytes)) (readingIn row bytes)
 
 -- A run from a new panel leads to one that keeps its rules and has 32 tiles; so nothing in a run is refused with 2.
 abbrev pub RunSound : Type 0
