@@ -29,7 +29,7 @@ use Rattle.catalogue.specs.Scale.{scaledOf}
 use Rattle.message.proofs.Pauses.{paused-places, seat-idled}
 use Rattle.demands.proofs.LongReceiver.{frame-agrees, heardBy, heard-kept-rules, restedBy, rested-kept-rules}
 use Rattle.demands.proofs.LongReceiver.{starts-keep}
-use Rattle.claim.specs.Candidates.{isWellFormed}
+use Rattle.claim.specs.Candidates.{isWellFormed, padded}
 use Rattle.claim.specs.Claim.{keepsRules as keepsClaimRules, holdsList, held, standOf}
 use Rattle.claim.specs.Promises.{isSound}
 use Rattle.command.specs.Acknowledgment.{acknowledgedOf}
@@ -84,11 +84,11 @@ long = refl
 -- example (11)
 
 sound : isSound holding9C ≡ true
-unfolding keepsClaimRules holdsList isWellFormed
+unfolding keepsClaimRules holdsList isWellFormed padded
 sound = refl
 
 holds : standOf holding9C ≡ held 0x9C
-unfolding standOf
+unfolding standOf padded
 holds = refl
 
 eleven : sent (acknowledgedOf holding9C slideReply)

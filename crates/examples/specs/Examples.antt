@@ -2,7 +2,6 @@
 -- definition gives, and what the example's result is, both as numbers: a refusal is its number alone, what is given
 -- begins with 0.
 use mathlib.Core.Path.{_≡_}
-use mathlib.Core.Bool.{false}
 use mathlib.Core.List.{List, [], _∷_, _++_}
 use Prim.Native.Nat.{ℕ, _+_}
 use lib.IntN.{ℤ, pos, negsuc}
@@ -22,6 +21,7 @@ use Rattle.message.specs.Splitter.{announcementOf}
 use Rattle.catalogue.specs.Classes.{classAt, belowGreatest}
 use Rattle.catalogue.specs.Scale.{scaledOf}
 use Rattle.catalogue.specs.declared.Unit.the-variants.{Celsius, Ampere}
+use Rattle.claim.specs.Claim.{heldAfter, begun, waited}
 use Rattle.claim.specs.declared.Claim.{Claim}
 use Rattle.command.specs.Acknowledgment.{acknowledgedOf}
 use Rattle.command.specs.declared.Acknowledgment.{Acknowledgment}
@@ -123,9 +123,9 @@ eightSenders =
     ∷ announcementBy 4 nineBytes ∷ announcementBy 5 nineBytes ∷ announcementBy 6 nineBytes
     ∷ announcementBy 7 nineBytes ∷ announcementBy 8 nineBytes ∷ []
 
--- a node that holds 9Ch
+-- a node that holds 9Ch: it has claimed it and has waited
 abbrev pub holding9C : Claim
-holding9C = record { name = 1; list = 0x9C ∷ replicate 15 0; candidates = 1; position = 0; wait = 250; silent = false }
+holding9C = waited heldAfter (begun 1 (0x9C ∷ []))
 
 -- its answer to 44h about a slide, SLIDE_COMMAND of instance 2, with code 3
 abbrev pub slideReply : Acknowledgment

@@ -17,7 +17,6 @@ use Rattle.catalogue.specs.declared.Looked.{Looked}
 use Rattle.catalogue.specs.declared.Reading.{Reading}
 use Rattle.catalogue.specs.declared.Value.{Value}
 use Rattle.catalogue.specs.declared.Writing.{Writing}
-use Rattle.claim.specs.Candidates.{padded}
 use Rattle.claim.specs.Claim as Claims
 use Rattle.claim.specs.Claim.{holdsList, held, standOf}
 use Rattle.claim.specs.Promises.{isSound}
@@ -294,8 +293,7 @@ DmRvExample = dmRvId 0x54 ≡ 0x19FECA54
 -- Examples: a claim that holds 54h, the DM_RV of no fault, and that of a fault.
 
 abbrev pub holding : Claim
-holding =
-    record { name = 1; list = padded (0x54 ∷ []); candidates = 1; position = 0; wait = 250; silent = false }
+holding = Claims.waited Claims.heldAfter (Claims.begun 1 (0x54 ∷ []))
 
 -- 44h asks for DM_RV
 abbrev pub asking : List ℕ
