@@ -3,7 +3,7 @@
 use mathlib.Core.Path.{_≡_, refl, sym, ap, _∙_}
 use mathlib.Core.Bool.{true, false, not}
 use mathlib.Core.List.{List}
-use Prim.Native.Nat.{ℕ, _<_}
+use Prim.Native.Nat.{ℕ, _≤_, _<_}
 use native.Mathlib.Omega.{arith}
 use borrow.Author.Tests.{eq-eqb, ne-eqb}
 use lib.ListN.{length}
@@ -25,7 +25,7 @@ use Rattle.claim.specs.Private.{metOf}
 use Rattle.claim.specs.declared.Claim.{Claim}
 use Rattle.claim.specs.declared.Hearing.{Hearing}
 use Rattle.claim.specs.declared.Heard.{Heard}
-use Rattle.claim.proofs.Sound.{Rules, rules-of, Holds, holds-of}
+use Rattle.claim.proofs.Sound.{Rules, rules-of, count-bounded, Holds, holds-of}
 use Rattle.claim.proofs.Outcomes.{rules-heard}
 
 -- what is given in the end was given before
@@ -76,6 +76,15 @@ pub met-claim : (parts : Parts) (bytes : List ℕ) (c : Claim) → holdsList c �
     → metOf parts bytes c ≡ gives (outcomeOf (parts .source) (numberOf bytes) c)
 unfolding metOf meetsFrame
 met-claim parts bytes c h d = rw (h, eq-eqb _ _ d)
+
+-- a frame is given by a sound state only
+pub heard-before : (id : ℕ) (bytes : List ℕ) (c : Claim) (o : Outcome) → heardOf id bytes c ≡ gives o
+    → (keepsRules c ≡ true) × (holdsList c ≡ true)
+unfolding heardOf metOf
+heard-before id bytes c o e =
+    let r₂ = past-refusal (not (keepsRules c)) 2 _ e in
+    given-past (checkedOf id (length bytes)) (λ parts. metOf parts bytes c) (r₂ .1)
+    (λ parts p m. (not-flips _ (r₂ .0), not-flips _ (past-refusal (not (holdsList c)) 16 _ m .0)))
 
 -- a frame that is given leaves a state that keeps its rules, with the list that it had
 
@@ -133,6 +142,13 @@ module _ (id : ℕ) (bytes : List ℕ) (c : Claim) (a v : Hearing) (t : toldHear
       let p = ap (λ (x : Claim). x .position) f in
       omega (arith, k .0 .inside, k .1 .few, candidates-after o c)
 
+  pub hear-count : (o : Outcome) → toldHearing v ≡ gives o → c .losses ≤ 16
+  hear-count o g =
+      let k = heard-before id bytes c o (told ∙ g) in
+      let r = rules-of c (k .0) in
+      let l = holds-of c (k .1) in
+      omega (arith, count-bounded c r, l .few)
+
   pub hear-sends : (d : Claim) (r : Heard) → isSentTold (toldHearing v) ≡ true → afterTold (toldHearing v) c ≡ d
       → r ≡ record { claim = d; answer = a; id = claimId d; bytes = claimBytes d } → Hear id bytes c r
   hear-sends d r s f h =
@@ -159,5 +175,5 @@ module _ (id : ℕ) (bytes : List ℕ) (c : Claim) (a v : Hearing) (t : toldHear
 
 -- a state begun with the list filled up
 pub begun-filled : (name : ℕ) (list filled : List ℕ) → filled ≡ padded list
-    → record { name = name; list = filled; candidates = length list; position = 0; wait = 0; silent = false } ≡ begun name list
+    → record { name = name; list = filled; candidates = length list; position = 0; wait = 0; silent = false; losses = 0 } ≡ begun name list
 begun-filled name list filled e = rw e

@@ -309,14 +309,14 @@ frame-is-heard source name c h n s =
 
 -- sound states
 
-start-well : (list : List ℕ) (d : Done) → startedOf list ≡ gives d → isWellFormed list ≡ true
+pub start-well : (list : List ℕ) (d : Done) → startedOf list ≡ gives d → isWellFormed list ≡ true
 unfolding startedOf
 start-well list d e = before-refusal (isWellFormed list) 16 (gives done) e .0
 
 begun-rules : (name : ℕ) (list : List ℕ) → isWellFormed list ≡ true → Rules (begun name list)
 begun-rules name list e =
     let w = well-formed list e in
-    record { inside = w .some-one; short = omega arith; still = λ f. true-false (sym f) }
+    record { inside = w .some-one; short = omega arith; still = λ f. true-false (sym f); count = refl }
 
 begun-holds : (name : ℕ) (list : List ℕ) → isWellFormed list ≡ true → holdsList (begun name list) ≡ true
 unfolding holdsList padded

@@ -5,3 +5,4 @@ pub mod Calls
 pub mod Machine
 pub mod Laws
 pub mod Pauses
+pub mod Moves

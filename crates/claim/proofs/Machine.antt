@@ -186,15 +186,15 @@ wait-run ms c (e ∷ es) w s =
 
 -- where a state stands, in its three cases
 
-stand-silent : (c : Claim) → c .silent ≡ true → standOf c ≡ silent
+pub stand-silent : (c : Claim) → c .silent ≡ true → standOf c ≡ silent
 unfolding standOf
 stand-silent c s = rw s
 
-stand-held : (c : Claim) → c .silent ≡ false → c .wait ≡ heldAfter → standOf c ≡ held (address c)
+pub stand-held : (c : Claim) → c .silent ≡ false → c .wait ≡ heldAfter → standOf c ≡ held (address c)
 unfolding standOf
 stand-held c s w = rw (s, eq-eqb (c .wait) heldAfter w)
 
-stand-claiming : (c : Claim) → c .silent ≡ false → (c .wait ≡ heldAfter → ⊥) → standOf c ≡ claiming (address c)
+pub stand-claiming : (c : Claim) → c .silent ≡ false → (c .wait ≡ heldAfter → ⊥) → standOf c ≡ claiming (address c)
 unfolding standOf
 stand-claiming c s w = rw (s, ne-eqb (c .wait) heldAfter w)
 

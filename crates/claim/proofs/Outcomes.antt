@@ -10,7 +10,7 @@ use Rattle.words.proofs.Words.{true-false, by-test}
 use Rattle.claim.specs.Claim.{address, Outcome, nothingToDo, ownName, repeated, moved, fellSilent, lostBy}
 use Rattle.claim.specs.Claim.{outcomeOf, after, pause}
 use Rattle.claim.specs.declared.Claim.{Claim}
-use Rattle.claim.proofs.Sound.{Rules, pause-silent, pause-awake}
+use Rattle.claim.proofs.Sound.{Rules, count-awake, pause-silent, pause-awake}
 
 pub data Went (source name : ℕ) (c : Claim) : Outcome → Type 0 where
   deaf : c .silent ≡ true → Went source name c nothingToDo
@@ -77,8 +77,15 @@ rules-went source name c o k (deaf s) = k
 rules-went source name c o k (apart s a) = k
 rules-went source name c o k (same s a e) = k
 rules-went source name c o k (wins s a e) = k
-rules-went source name c o k (goes s a e m) = record { inside = m; short = omega arith; still = λ f. true-false (sym f) }
-rules-went source name c o k (ends s a e m) = record { inside = omega arith; short = omega arith; still = λ f. (refl, refl) }
+rules-went source name c o k (goes s a e m) =
+    record { inside = m; short = omega arith; still = λ f. true-false (sym f); count = omega (arith, count-awake c k s) }
+rules-went source name c o k (ends s a e m) =
+    record {
+      inside = omega arith;
+      short = omega arith;
+      still = λ f. (refl, refl);
+      count = omega (arith, count-awake c k s, k .inside);
+    }
 
 pub rules-heard : (source name : ℕ) (c : Claim) → Rules c → Rules (after (outcomeOf source name c) c)
 rules-heard source name c k = rules-went source name c (outcomeOf source name c) k (went source name c)
@@ -87,4 +94,5 @@ pub rules-paused : (ms : ℕ) (c : Claim) → Rules c → Rules (pause ms c)
 rules-paused ms c k =
     by-test (c .silent)
     (λ s. rw (pause-silent ms c s) k)
-    (λ s. rw (pause-awake ms c s) (record { inside = k .inside; short = omega arith; still = λ f. true-false (sym f ∙ s) }))
+    (λ s. rw (pause-awake ms c s)
+    (record { inside = k .inside; short = omega arith; still = λ f. true-false (sym f ∙ s); count = k .count }))

@@ -1,17 +1,17 @@
 -- What a state that keeps its rules and holds its list is, in plain facts; and what the code's tests show of it.
 -- Assumes nothing.
-use mathlib.Core.Path.{_≡_, _∙_}
+use mathlib.Core.Path.{_≡_, sym, _∙_}
 use mathlib.Core.Bool.{Bool, true, false}
 use Prim.Native.Nat.{ℕ, _+_, _-_, _≤_, _<_, min}
 use native.Mathlib.Omega.{arith}
 use borrow.Author.Tests.{eq-eqb, lt-ltb, le-leb, ltb-true, leb-true, eqb-true}
 use lib.ListN.{take}
 use lib.Seq.{getD-take}
-use Rattle.words.specs.Words.{_<?_, _≤?_, _=?_, _and_}
+use Rattle.words.specs.Words.{if_then_else_, _<?_, _≤?_, _=?_, _and_}
 use Rattle.frame.specs.Standard.{greatestAddress}
 use Rattle.words.proofs.Words.{both-true, by-test}
 use Rattle.claim.specs.Candidates.{longestList, isWellFormed}
-use Rattle.claim.specs.Claim.{heldAfter, keepsRules, holdsList, address, waited, pause}
+use Rattle.claim.specs.Claim.{heldAfter, lossesAt, keepsRules, holdsList, address, waited, pause}
 use Rattle.claim.specs.declared.Claim.{Claim}
 use Rattle.claim.proofs.Candidates.{well-formed, address-at}
 
@@ -19,28 +19,59 @@ pub record Rules (c : Claim) : Type 0 where
   pub inside : c .position < c .candidates
   pub short : c .wait ≤ heldAfter
   pub still : c .silent ≡ true → (c .position ≡ 0) × (c .wait ≡ 0)
+  pub count : c .losses ≡ lossesAt c
 
 pub rules-of : (c : Claim) → keepsRules c ≡ true → Rules c
 unfolding keepsRules
 rules-of c e =
     let a = both-true (c .position <? c .candidates) _ e in
     let b = both-true (c .wait ≤? heldAfter) _ (a .1) in
+    let g = both-true (if c .silent then (c .position =? 0) and (c .wait =? 0) else true) _ (b .1) in
     record {
       inside = ltb-true _ _ (a .0);
       short = leb-true _ _ (b .0);
       still = λ s.
-          let d : (c .position =? 0) and (c .wait =? 0) ≡ true = rw s at (b .1) in
+          let d : (c .position =? 0) and (c .wait =? 0) ≡ true = rw s at (g .0) in
           let f = both-true (c .position =? 0) _ d in
           (eqb-true _ _ (f .0), eqb-true _ _ (f .1));
+      count = eqb-true _ _ (g .1);
     }
 
 pub of-rules : (c : Claim) → Rules c → keepsRules c ≡ true
 unfolding keepsRules
 of-rules c k =
-    rw (lt-ltb _ _ (k .inside), le-leb _ _ (k .short))
+    rw (lt-ltb _ _ (k .inside), le-leb _ _ (k .short), eq-eqb _ _ (k .count))
     (by-test (c .silent)
     (λ s. let f = k .still s in rw (s, eq-eqb (c .position) 0 (f .0), eq-eqb (c .wait) 0 (f .1)))
     (λ s. rw s))
+
+-- a state of which some rule does not hold
+pub broken-by : (c : Claim) → (Rules c → ⊥) → false ≡ keepsRules c
+broken-by c broken = by-test (keepsRules c) (λ k. absurd (broken (rules-of c k))) sym
+
+-- the two tests of the count, which are the code's last
+module _ (c : Claim) (b : Bool) (inside : c .position < c .candidates) (short : c .wait ≤ heldAfter) where
+  pub awake-rules : c .silent ≡ false → b ≡ (c .losses =? c .position) → b ≡ keepsRules c
+  unfolding keepsRules
+  awake-rules s e = e ∙ sym (rw (lt-ltb _ _ inside, le-leb _ _ short, s))
+
+  pub silent-rules : c .silent ≡ true → c .position ≡ 0 → c .wait ≡ 0 → b ≡ (c .losses =? c .candidates) → b ≡ keepsRules c
+  unfolding keepsRules
+  silent-rules s p w e = e ∙ sym (rw (lt-ltb _ _ inside, le-leb _ _ short, s, eq-eqb _ _ p, eq-eqb _ _ w))
+
+-- the count of a state that keeps its rules
+
+pub count-awake : (c : Claim) → Rules c → c .silent ≡ false → c .losses ≡ c .position
+count-awake c k s = k .count ∙ rw s
+
+pub count-silent : (c : Claim) → Rules c → c .silent ≡ true → c .losses ≡ c .candidates
+count-silent c k s = k .count ∙ rw s
+
+pub count-bounded : (c : Claim) → Rules c → c .losses ≤ c .candidates
+count-bounded c k =
+    by-test (c .silent)
+    (λ s. omega (arith, count-silent c k s))
+    (λ s. omega (arith, count-awake c k s, k .inside))
 
 pub record Holds (c : Claim) : Type 0 where
   pub few : c .candidates ≤ longestList

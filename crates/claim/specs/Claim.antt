@@ -1,5 +1,5 @@
 -- Claiming an address as a machine on what was heard and waited (RULES 8; J1939-81's contest of NAMEs; 000, 3.3). A
--- state is built in four places only: `begun`, `atNext`, `fallen` and `waited`.
+-- state is built in two places only, `begun` and `placed`.
 use mathlib.Core.Bool.{Bool, true, false, not}
 use mathlib.Core.List.{List}
 use Prim.Native.Nat.{ℕ, _+_, min}
@@ -19,11 +19,15 @@ heldAfter = 250
 abbrev pub claimPriority : ℕ
 claimPriority = 6
 
+-- the addresses that a node has given up where it stands: those before its position, and all of them when silent
+abbrev pub lossesAt : Claim → ℕ
+lossesAt c = if c .silent then c .candidates else c .position
+
 -- a state that breaks its rules is refused with 2 (RULES 8.14)
 unfoldable pub keepsRules : Claim → Bool
 keepsRules c =
     (c .position <? c .candidates) and (c .wait ≤? heldAfter)
-    and (if c .silent then (c .position =? 0) and (c .wait =? 0) else true)
+    and (if c .silent then (c .position =? 0) and (c .wait =? 0) else true) and (c .losses =? lossesAt c)
 
 -- a state whose list is malformed is refused with 16
 unfoldable pub holdsList : Claim → Bool
@@ -63,35 +67,39 @@ standOf c =
 -- starting: the first address is claimed
 abbrev pub begun : ℕ → List ℕ → Claim
 begun name list =
-    record { name = name; list = padded list; candidates = length list; position = 0; wait = 0; silent = false }
-
--- the next address of the list is claimed, and the wait begins anew
-abbrev pub atNext : Claim → Claim
-atNext c =
     record {
-      name = c .name;
-      list = c .list;
-      candidates = c .candidates;
-      position = c .position + 1;
+      name = name;
+      list = padded list;
+      candidates = length list;
+      position = 0;
       wait = 0;
       silent = false;
+      losses = 0;
     }
 
--- no address is left
-abbrev pub fallen : Claim → Claim
-fallen c =
-    record { name = c .name; list = c .list; candidates = c .candidates; position = 0; wait = 0; silent = true }
-
-abbrev pub waited : ℕ → Claim → Claim
-waited wait c =
+-- the same NAME and list, elsewhere: the position, the wait, whether silent, and how many addresses were given up
+abbrev pub placed : ℕ → ℕ → Bool → ℕ → Claim → Claim
+placed position wait isSilent losses c =
     record {
       name = c .name;
       list = c .list;
       candidates = c .candidates;
-      position = c .position;
+      position = position;
       wait = wait;
-      silent = c .silent;
+      silent = isSilent;
+      losses = losses;
     }
+
+-- an address is given up, the next one of the list is claimed, and the wait begins anew
+abbrev pub atNext : Claim → Claim
+atNext c = placed (c .position + 1) 0 false (c .losses + 1) c
+
+-- the last address is given up, and none is left
+abbrev pub fallen : Claim → Claim
+fallen c = placed 0 0 true (c .losses + 1) c
+
+abbrev pub waited : ℕ → Claim → Claim
+waited wait c = placed (c .position) wait (c .silent) (c .losses) c
 
 -- how a claim that we hear ends for us: no contest, an equal NAME, a contest won, or one lost with an address left or
 -- with none

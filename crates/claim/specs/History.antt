@@ -43,3 +43,25 @@ waitedAfter ms (passed more) = ms + more
 abbrev pub waitedSince : ℕ → List Mark → ℕ
 waitedSince ms [] = ms
 waitedSince ms (m ∷ ms′) = waitedSince (waitedAfter ms m) ms′
+
+-- a contest lost gives up one address, whether another is left or none; nothing else does
+unfoldable pub lossOf : Outcome → ℕ
+lossOf nothingToDo = 0
+lossOf ownName = 0
+lossOf repeated = 0
+lossOf moved = 1
+lossOf fellSilent = 1
+
+-- a contest won is one repeat of our claim
+unfoldable pub repeatOf : Outcome → ℕ
+repeatOf nothingToDo = 0
+repeatOf ownName = 0
+repeatOf repeated = 1
+repeatOf moved = 0
+repeatOf fellSilent = 0
+
+-- the contests lost in a history
+abbrev pub lossesIn : List Mark → ℕ
+lossesIn [] = 0
+lossesIn (met outcome ∷ marks) = lossOf outcome + lossesIn marks
+lossesIn (passed ms ∷ marks) = lossesIn marks

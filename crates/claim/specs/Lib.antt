@@ -7,3 +7,4 @@ pub mod Private
 pub mod Calls
 pub mod Laws
 pub mod Pauses
+pub mod Moves

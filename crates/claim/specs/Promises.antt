@@ -39,7 +39,16 @@ frameIf sent c = if sent then claimFrame c else noFrame
 
 -- the all-zero state, beside a refused start
 abbrev pub blank : Claim
-blank = record { name = 0; list = replicate longestList 0; candidates = 0; position = 0; wait = 0; silent = false }
+blank =
+    record {
+      name = 0;
+      list = replicate longestList 0;
+      candidates = 0;
+      position = 0;
+      wait = 0;
+      silent = false;
+      losses = 0;
+    }
 
 abbrev pub toldStarting : Starting → Told Done
 toldStarting Starting.SendClaim = gives done

@@ -16,7 +16,8 @@ pub const CANDIDATES: usize = 16;
 pub const HELD_AFTER: u16 = 250;
 
 // A claim's state: the NAME, the candidate list (`candidates` addresses, then zeros), the position in it of the address
-// that is claimed or held, the milliseconds waited there, up to 250, and whether all addresses are lost.
+// that is claimed or held, the milliseconds waited there, up to 250, whether all addresses are lost, and how many
+// addresses were given up since the start: one for each contest that was lost. A contest that is won gives up nothing.
 pub struct Claim {
     pub name: u64,
     pub list: [u8; CANDIDATES],
@@ -24,6 +25,7 @@ pub struct Claim {
     pub position: usize,
     pub wait: u16,
     pub silent: bool,
+    pub losses: usize,
 }
 
 // Started: our claim is to be sent; or refusal 16.
@@ -198,6 +200,7 @@ impl Claim {
             position: 0,
             wait: 0,
             silent: false,
+            losses: 0,
         };
         Started {
             claim,
@@ -208,8 +211,9 @@ impl Claim {
     }
 
     // Hears one frame. Refusals 2, 3 to 6 and 16 change nothing. A claim at our address with a lower NAME moves us on
-    // to the next address of the list, and where none is left it silences us; nothing else that is heard changes the
-    // state. Keep the state that is handed back, and where the answer begins with `Send`, send the frame beside it.
+    // to the next address of the list, and where none is left it silences us; either way one more address is given up.
+    // Nothing else that is heard changes the state. Keep the state that is handed back, and where the answer begins
+    // with `Send`, send the frame beside it.
     pub fn hear(self, id: u32, bytes: &[u8]) -> Heard
         ensures { λ r. ⌜ Hear id (now (bytes .entry)) self r ⌝ }
     {
@@ -290,7 +294,8 @@ impl Claim {
     }
 
     // Tells whether the state keeps its rules. One that does not is refused with 2 by `hear`, `pause`, `stands` and
-    // `our_claim`. What `start` gave without a refusal, and what `hear` and `pause` made of it, always keeps them.
+    // `our_claim`. What `start` gave without a refusal, and what `hear` and `pause` made of it, always keeps them. The
+    // addresses given up are those before the position, and all of them when silent.
     pub fn keeps_rules(self) -> bool
         ensures { λ r. ⌜ KeepsRules self r ⌝ }
     {
@@ -301,12 +306,15 @@ impl Claim {
             return false;
         }
         if !self.silent {
-            return true;
+            return self.losses == self.position;
         }
         if self.position != 0 {
             return false;
         }
-        self.wait == 0
+        if self.wait != 0 {
+            return false;
+        }
+        self.losses == self.candidates
     }
 
     // Tells whether the list that the state holds is well formed. Where it is not, the same calls refuse with 16,

@@ -5,9 +5,9 @@ use crate::HELD_AFTER;
 use crate::Standing;
 use frame::standard;
 ghost use mathlib.Core.Path.{_≡_};
-ghost use Prim.Native.Nat.{_+_, _<_};
+ghost use Prim.Native.Nat.{_+_, _≤_, _<_};
 ghost use Rattle.words.specs.Words.{gives};
-ghost use Rattle.claim.specs.Claim.{claimSource, claimId, standOf, atNext, fallen, pause};
+ghost use Rattle.claim.specs.Claim.{claimSource, claimId, standOf, placed, atNext, fallen, pause};
 ghost use Rattle.claim.specs.Promises.{blank, toldStanding};
 
 // The identifier of a claim without its source: priority 6, DGN EEFFh.
@@ -24,22 +24,25 @@ pub fn blank() -> Claim
         position: 0,
         wait: 0,
         silent: false,
+        losses: 0,
     }
 }
 
-// The next address of the list, claimed.
+// The next address of the list, claimed; the one before it is given up.
 pub fn at_next(claim: Claim) -> Claim
     requires { ⌜ claim .position < 16 ⌝ }
+    requires { ⌜ claim .losses ≤ 16 ⌝ }
     ensures { λ r. ⌜ r ≡ atNext claim ⌝ }
 {
-    placed(claim, claim.position + 1, 0, false)
+    placed(claim, claim.position + 1, 0, false, claim.losses + 1)
 }
 
-// No address is left.
+// No address is left: the last one is given up too.
 pub fn fallen(claim: Claim) -> Claim
+    requires { ⌜ claim .losses ≤ 16 ⌝ }
     ensures { λ r. ⌜ r ≡ fallen claim ⌝ }
 {
-    placed(claim, 0, 0, true)
+    placed(claim, 0, 0, true, claim.losses + 1)
 }
 
 // After a pause; the sum has room for 250 + 65535.
@@ -51,22 +54,26 @@ pub fn waited(claim: Claim, ms: u16) -> Claim
     }
     let sum = claim.wait as u32 + ms as u32;
     if (HELD_AFTER as u32) < sum {
-        return placed(claim, claim.position, HELD_AFTER, claim.silent);
+        return placed(
+            claim,
+            claim.position,
+            HELD_AFTER,
+            claim.silent,
+            claim.losses,
+        );
     }
-    placed(claim, claim.position, sum as u16, claim.silent)
+    placed(
+        claim,
+        claim.position,
+        sum as u16,
+        claim.silent,
+        claim.losses,
+    )
 }
 
 // The same NAME and list, elsewhere.
-fn placed(claim: Claim, position: usize, wait: u16, silent: bool) -> Claim
-    ensures { λ r. ⌜
-        r ≡ record {
-          name = claim .name;
-          list = claim .list;
-          candidates = claim .candidates;
-          position = position;
-          wait = wait;
-          silent = silent;
-        } ⌝ }
+fn placed(claim: Claim, position: usize, wait: u16, silent: bool, losses: usize) -> Claim
+    ensures { λ r. ⌜ r ≡ placed position wait silent losses claim ⌝ }
 {
     let list = claim.list;
     Claim {
@@ -76,6 +83,7 @@ fn placed(claim: Claim, position: usize, wait: u16, silent: bool) -> Claim
         position,
         wait,
         silent,
+        losses,
     }
 }
 

@@ -148,6 +148,7 @@ pub fn claim(notes: &[u64]) -> Claim {
         position: field(notes, notes::CLAIM, 2) as usize,
         wait: field_u16(notes, notes::CLAIM, 3),
         silent: field(notes, notes::CLAIM, 4) != 0,
+        losses: field(notes, notes::CLAIM, 5) as usize,
     }
 }
 
@@ -169,6 +170,7 @@ fn keep(notes: &mut [u64], claim: Claim) {
         claim.position as u64,
         claim.wait as u64,
         claim.silent as u64,
+        claim.losses as u64,
     ];
     put_all(notes, notes::CLAIM, &fields);
     let list = claim.list;
@@ -192,7 +194,7 @@ pub fn show(notes: &[u64]) {
     let list = list(notes);
     say::bytes(b" claim.list=", &list);
     say::form(
-        b" candidates=# position=# wait=# silent=?\n",
+        b" candidates=# position=# wait=# silent=? losses=#\n",
         notes,
         notes::CLAIM + 1,
     );

@@ -127,21 +127,21 @@ pub const FAULTS_REQUESTING: usize = 67;
 pub const CAPTURE_READING: usize = 68;
 
 // State that is a number each, in the order in which `state` names them: of the receiver of fast packets how many DGNs
-// are named; of the claim its name, candidates, position, wait, silent; of the host how many entries it has, and its
-// edition; of the cutter its length and lines; of the row its dgn, first, width, unit, plain, two_state.
+// are named; of the claim its name, candidates, position, wait, silent, losses; of the host how many entries it has,
+// and its edition; of the cutter its length and lines; of the row its dgn, first, width, unit, plain, two_state.
 pub const SINGLE: usize = 100;
 
 pub const FAST_NAMED: usize = 100;
 
 pub const CLAIM: usize = 101;
 
-pub const HOST_COUNT: usize = 106;
+pub const HOST_COUNT: usize = 107;
 
-pub const HOST_EDITION: usize = 107;
+pub const HOST_EDITION: usize = 108;
 
-pub const CUTTER: usize = 108;
+pub const CUTTER: usize = 109;
 
-pub const ROW: usize = 110;
+pub const ROW: usize = 111;
 
 // The named DGNs, 16; the claim's list of 16 addresses; the 80 characters that the cutter carries.
 pub const FAST_DGNS: usize = 120;

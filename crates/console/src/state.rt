@@ -53,7 +53,7 @@ pub fn set(notes: &mut [u64]) {
     let n = find_state(
         notes,
         b"fast.named \
-          claim.name claim.candidates claim.position claim.wait claim.silent \
+          claim.name claim.candidates claim.position claim.wait claim.silent claim.losses \
           command.host.count command.host.edition \
           capture.cutter.length capture.cutter.lines \
           catalogue.row.dgn catalogue.row.first catalogue.row.width catalogue.row.unit catalogue.row.plain \
@@ -62,7 +62,7 @@ pub fn set(notes: &mut [u64]) {
     if n == NONE {
         return set_lent(notes);
     }
-    let letter = byte_at(b"88882t8d84411utt", n);
+    let letter = byte_at(b"88882t88d84411utt", n);
     set_number(notes, 2, letter, wrapping_add_usize(notes::SINGLE, n));
 }
 

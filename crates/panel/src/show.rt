@@ -34,20 +34,28 @@ pub fn show_panel(panel: Panel) {
     show_slide(4, slides[3]);
 }
 
+// Where the panel stands, and how many addresses it has given up since its start.
 pub fn show_standing(claim: Claim) {
     let standing = claim.stands();
     match standing {
-        Standing::Held(address) => show_address(address, b" held\n"),
-        Standing::Claiming(address) => show_address(address, b" claimed\n"),
-        Standing::Silent => say(b"no address\n"),
+        Standing::Held(address) => show_address(address, b" held", claim.losses),
+        Standing::Claiming(address) => show_address(address, b" claimed", claim.losses),
+        Standing::Silent => show_losses(b"no address", claim.losses),
         Standing::BrokenState | Standing::ListMalformed => refused(standing.refusal()),
     }
 }
 
-fn show_address(address: u8, standing: &[u8]) {
+fn show_address(address: u8, standing: &[u8], losses: usize) {
     say(b"address ");
     hex(address as u64, 2);
+    show_losses(standing, losses);
+}
+
+fn show_losses(standing: &[u8], losses: usize) {
     say(standing);
+    say(b", ");
+    decimal(losses as u64);
+    say(b" given up\n");
 }
 
 // A node, by its address and its NAME.

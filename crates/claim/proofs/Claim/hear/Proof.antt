@@ -3,7 +3,7 @@ use mathlib.Core.Path.{refl, sym}
 use native.Mathlib.Omega.{arith}
 use borrow.Author.Needs.{needs}
 use Rattle.claim.specs.Claim.{repeated, moved, fellSilent, atNext, after, isSent}
-use Rattle.claim.proofs.Calls.{hear-room, hear-sends, hear-keeps}
+use Rattle.claim.proofs.Calls.{hear-room, hear-count, hear-sends, hear-keeps}
 use Rattle.claim.proofs.Claim.hear.Statement.{statement}
 use Rattle.claim.proofs.Claim.hear.Tie as tie
 
@@ -24,7 +24,7 @@ at-next-requires : tie.Need-at-next-requires
 unfolding after
 at-next-requires c κs =
     let h = hear-room _ _ _ _ _ (c .before .before .answer-to .ensures) (c .enum-told2 .given .1) (atNext (c .before .before .before .before .args .self)) moved refl refl in
-    omega arith
+    (omega arith, hear-count _ _ _ _ _ (c .before .before .answer-to .ensures) (c .enum-told2 .given .1) moved refl)
 
 sends-requires-2 : tie.Need-sends-requires-2
 unfolding after
@@ -34,7 +34,7 @@ enum-told-3 : tie.Need-enum-told-3
 enum-told-3 c = search needs
 
 fallen-requires : tie.Need-fallen-requires
-fallen-requires c κs = search needs
+fallen-requires c κs = hear-count _ _ _ _ _ (c .before .before .answer-to .ensures) (c .enum-told3 .given .1) fellSilent refl
 
 sends-requires-3 : tie.Need-sends-requires-3
 unfolding after
@@ -107,29 +107,12 @@ hear-spec =
     tie.close
     (tie.spec
     answer-to-requires
-    enum-told
-    sends-requires
-    enum-told-2
-    at-next-requires
-    sends-requires-2
-    enum-told-3
-    fallen-requires
-    sends-requires-3
-    enum-told-4
-    keeps-requires
-    enum-told-5
-    keeps-requires-2
-    enum-told-6
-    keeps-requires-3
-    enum-told-7
-    keeps-requires-4
-    enum-told-8
-    keeps-requires-5
-    returns
-    returns-2
-    returns-3
-    returns-4
-    returns-5
-    returns-6
-    returns-7
-    returns-8)
+    enum-told sends-requires
+    enum-told-2 at-next-requires sends-requires-2
+    enum-told-3 fallen-requires sends-requires-3
+    enum-told-4 keeps-requires
+    enum-told-5 keeps-requires-2
+    enum-told-6 keeps-requires-3
+    enum-told-7 keeps-requires-4
+    enum-told-8 keeps-requires-5
+    returns returns-2 returns-3 returns-4 returns-5 returns-6 returns-7 returns-8)
