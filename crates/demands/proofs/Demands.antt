@@ -9,6 +9,7 @@ use Rattle.fast.proofs.Joined as FastJoined
 use Rattle.message.proofs.Pauses as MessagePauses
 use Rattle.fast.proofs.Pauses as FastPauses
 use Rattle.claim.proofs.Pauses as ClaimPauses
+use Rattle.claim.proofs.Moves as ClaimMoves
 use Rattle.nodes.proofs.Pauses as NodesPauses
 use Rattle.catalogue.proofs.Laws as Catalogue
 use Rattle.claim.proofs.Laws as Claim
@@ -106,6 +107,12 @@ demand-two =
       fast-split-and-join = FastSplitAndJoin.split-and-join;
       fast-joined-by-rules = FastJoined.joined-by-rules;
       claim-is-heard = ClaimsHeard.claim-is-heard;
+      claim-every-run-runs = ClaimMoves.every-run-runs;
+      losses-exactly = ClaimMoves.losses-exactly;
+      losses-as-told = ClaimMoves.losses-as-told;
+      every-count-reached = ClaimMoves.every-count-reached;
+      repeats-unlimited = ClaimMoves.repeats-unlimited;
+      sent-for-each = ClaimMoves.sent-for-each;
       no-two = Network.no-two;
       last-word = Network.last-word;
       few-claims = Network.few-claims;

@@ -22,6 +22,7 @@ use Rattle.catalogue.proofs.Laws as Catalogue
 use Rattle.claim.proofs.Laws as Claim
 use Rattle.claim.proofs.Machine as ClaimMachine
 use Rattle.claim.proofs.Pauses as ClaimPauses
+use Rattle.claim.proofs.Moves as ClaimMoves
 use Rattle.nodes.proofs.Blank as NodesBlank
 use Rattle.nodes.proofs.Challenge as NodesChallenge
 use Rattle.nodes.proofs.Find as NodesFind
@@ -366,6 +367,13 @@ claim-laws =
       calls-are-events = Claim.calls-are-events;
       lowest-wins = Claim.lowest-wins;
       pauses-add-up = ClaimPauses.pauses-add-up;
+      every-run-runs = ClaimMoves.every-run-runs;
+      losses-exactly = ClaimMoves.losses-exactly;
+      losses-as-told = ClaimMoves.losses-as-told;
+      wrong-count-refused = ClaimMoves.wrong-count-refused;
+      repeats-unlimited = ClaimMoves.repeats-unlimited;
+      every-count-reached = ClaimMoves.every-count-reached;
+      sent-for-each = ClaimMoves.sent-for-each;
     }
 
 nodes-laws : NodesLaws

@@ -7,6 +7,7 @@ use Rattle.fast.specs.Calls as FastCalls
 use Rattle.fast.specs.Sending as FastSending
 use Rattle.catalogue.specs.Laws as Catalogue
 use Rattle.claim.specs.Laws as Claim
+use Rattle.claim.specs.Moves as ClaimMoves
 use Rattle.nodes.specs.Laws as Nodes
 use Rattle.nodes.specs.Runs as NodesRuns
 use Rattle.command.specs.Laws as Command
@@ -110,6 +111,14 @@ pub record DemandTwo : Type 0 where
   pub fast-joined-by-rules : FastSending.JoinedByRules
   -- claims: what one node sends, another's table takes for that claim
   pub claim-is-heard : ClaimIsHeard
+  -- a node gives up an address with each contest that it loses and with nothing else, in every run of calls: all that
+  -- its list has exactly when it is silent, and never more; repeats have no limit; each of the two sends one frame
+  pub claim-every-run-runs : ClaimMoves.EveryRunRuns
+  pub losses-exactly : ClaimMoves.LossesExactly
+  pub losses-as-told : ClaimMoves.LossesAsTold
+  pub every-count-reached : ClaimMoves.EveryCountReached
+  pub repeats-unlimited : ClaimMoves.RepeatsUnlimited
+  pub sent-for-each : ClaimMoves.SentForEach
   -- a network of nodes on one bus: at rest no two have one address, whoever has one having the last word on it; it
   -- comes to rest, and each node then holds an address or is silent; and a listener's table shows just those that have
   -- one

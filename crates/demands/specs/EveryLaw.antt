@@ -21,6 +21,7 @@ use Rattle.fast.specs.Pauses as FastPauses
 use Rattle.catalogue.specs.Laws as Catalogue
 use Rattle.claim.specs.Laws as Claims
 use Rattle.claim.specs.Pauses as ClaimPauses
+use Rattle.claim.specs.Moves as ClaimMoves
 use Rattle.nodes.specs.Laws as Nodes
 use Rattle.nodes.specs.Runs as NodesRuns
 use Rattle.nodes.specs.Pauses as NodesPauses
@@ -337,6 +338,13 @@ pub record ClaimLaws : Type 0 where
   pub calls-are-events : Claims.CallsAreEvents
   pub lowest-wins : (id : ℕ) (bytes : List ℕ) (c : Claim) → Claims.LowestWins id bytes c
   pub pauses-add-up : ClaimPauses.PausesAddUp
+  pub every-run-runs : ClaimMoves.EveryRunRuns
+  pub losses-exactly : ClaimMoves.LossesExactly
+  pub losses-as-told : ClaimMoves.LossesAsTold
+  pub wrong-count-refused : ClaimMoves.WrongCountRefused
+  pub repeats-unlimited : ClaimMoves.RepeatsUnlimited
+  pub every-count-reached : ClaimMoves.EveryCountReached
+  pub sent-for-each : ClaimMoves.SentForEach
 
 pub record NodesLaws : Type 0 where
   pub told-hearing-same : Nodes.ToldHearingSame

@@ -18,6 +18,7 @@ use Rattle.claim.specs.Pauses as ClaimPauses
 use Rattle.nodes.specs.Pauses as NodesPauses
 use Rattle.catalogue.specs.Laws as Catalogue
 use Rattle.claim.specs.Laws as Claim
+use Rattle.claim.specs.Moves as ClaimMoves
 use Rattle.nodes.specs.Laws as Nodes
 use Rattle.nodes.specs.Runs as NodesRuns
 use Rattle.command.specs.Laws as Command
@@ -109,6 +110,12 @@ pub record FieldsOfTwo : Type 0 where
   pub fast-split-and-join : FastSplitAndJoin.SplitAndJoin
   pub fast-joined-by-rules : FastSending.JoinedByRules
   pub claim-is-heard : ClaimIsHeard
+  pub claim-every-run-runs : ClaimMoves.EveryRunRuns
+  pub losses-exactly : ClaimMoves.LossesExactly
+  pub losses-as-told : ClaimMoves.LossesAsTold
+  pub every-count-reached : ClaimMoves.EveryCountReached
+  pub repeats-unlimited : ClaimMoves.RepeatsUnlimited
+  pub sent-for-each : ClaimMoves.SentForEach
   pub no-two : Network.NoTwo
   pub last-word : Network.LastWord
   pub few-claims : Network.FewClaims
