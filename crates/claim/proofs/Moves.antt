@@ -1,13 +1,13 @@
 -- How often a node moves (specs/Moves.antt), proved.
 -- Assumes nothing.
 use mathlib.Core.Path.{_≡_, refl, sym, ap, _∙_}
-use mathlib.Core.Bool.{Bool, true, false}
+use mathlib.Core.Bool.{true, false}
 use mathlib.Core.List.{List, [], _∷_}
-use mathlib.Core.Logic.{_↔_}
-use Prim.Native.Nat.{ℕ, zero, suc, _+_, _≤_, _<_, _^_}
+use mathlib.Core.Logic.{_↔_, inl, inr}
+use Prim.Native.Nat.{ℕ, zero, suc, _+_, _-_, _≤_, _<_, _^_}
 use native.Mathlib.Omega.{arith}
 use borrow.Author.Tests.{ne-eqb, eqb-true, eqb-false, ltb-true, ltb-false}
-use lib.ListN.{length}
+use lib.ListN.{length, getD, replicate, List·getD-append}
 use Rattle.words.specs.Words.{if_then_else_, _<?_, _=?_, Told, refused, gives, given_then_, done}
 use Rattle.frame.specs.Bytes.{bytesOf}
 use Rattle.frame.specs.Identifier.{identifierOf}
@@ -16,7 +16,7 @@ use Rattle.frame.specs.Standard.{claimDgn, noAddress, noFrame}
 use Rattle.frame.specs.declared.Parts.{Parts}
 use Rattle.frame.proofs.Laws.{refused-for-reason}
 use Rattle.words.proofs.Words.{by-test, both-true, true-false, gives-same}
-use Rattle.claim.specs.Candidates.{isWellFormed}
+use Rattle.claim.specs.Candidates.{longestList, isWellFormed, padded}
 use Rattle.claim.specs.Claim.{heldAfter, claimPriority, keepsRules, holdsList, address, claimSource, claimId}
 use Rattle.claim.specs.Claim.{claimBytes, Stand, held, claiming, silent, standOf, begun, atNext, fallen, Outcome}
 use Rattle.claim.specs.Claim.{nothingToDo, ownName, repeated, moved, fellSilent, outcomeOf, after, isSent, pause}
@@ -24,12 +24,11 @@ use Rattle.claim.specs.History.{Event, heard, paused, step, run, markOf,
 use Rattle.claim.specs.Promises.{Hear, Pause, Stands, toldHearing, toldPausing, toldStanding, meetsFrame, heardOf}
 use Rattle.claim.specs.Promises.{afterTold, isSentTold, frameSent, isSound, soundOf}
 use Rattle.claim.specs.Private.{metOf}
-use Rattle.claim.specs.Calls.{Call, hears, pauses, Ran, no-call, a-hear, a-pause, eventsIn, answersIn, lossTold}
-use Rattle.claim.specs.Calls.{lossesTold, repeatTold, repeatsTold, framesSent}
-use Rattle.claim.specs.Moves.{EveryRunRuns, Counts, LossesExactly, LossesAsTold, WrongCountRefused, Repeats, RepeatsUnlimited}
-use Rattle.claim.specs.Moves.{GivesUp, EveryCountReached, SentForEach}
+use Rattle.claim.specs.Calls.{Call, hears, pauses, no-call, a-hear, a-pause, eventsIn, lossTold, repeatTold}
+use Rattle.claim.specs.Laws.{SameNode}
+use Rattle.claim.specs.Moves.{EveryRunRuns, Counts, LossesExactly, LossesAsTold, WrongCountRefused, Repeats}
+use Rattle.claim.specs.Moves.{RepeatsUnlimited, GivesUp, EveryCountReached, SentForEach}
 use Rattle.claim.specs.declared.Claim.{Claim}
-use Rattle.claim.specs.declared.Started.{Started}
 use Rattle.claim.specs.declared.Hearing.{Hearing}
 use Rattle.claim.specs.declared.Hearing.the-variants as Hearing
 use Rattle.claim.specs.declared.Heard.{Heard}
@@ -37,7 +36,7 @@ use Rattle.claim.specs.declared.Pausing.{Pausing}
 use Rattle.claim.specs.declared.Pausing.the-variants as Pausing
 use Rattle.claim.specs.declared.Paused.{Paused}
 use Rattle.claim.specs.declared.Standing.{Standing}
-use Rattle.claim.specs.declared.Standing.the-variants.{Silent}
+use Rattle.claim.specs.declared.Standing.the-variants.{Held, Claiming, Silent}
 use Rattle.claim.proofs.Sound.{Rules, rules-of, count-awake, count-silent, count-bounded, holds-of, address-low}
 use Rattle.claim.proofs.Sound.{pause-silent, pause-awake}
 use Rattle.claim.proofs.Outcomes.{Went, deaf, apart, same, wins, goes, ends, went}
@@ -74,7 +73,9 @@ checked-told (gives parts) id bytes c e = met-told parts bytes c
 hearing-told : (id : ℕ) (bytes : List ℕ) (c : Claim) → (a : Hearing) × (toldHearing a ≡ heardOf id bytes c)
 hearing-told id bytes c =
     by-test (keepsRules c)
-    (λ k. let a = checked-told (checkedOf id (length bytes)) id bytes c refl in (a .0, a .1 ∙ sym (heard-past id bytes c k)))
+    (λ k.
+    let a = checked-told (checkedOf id (length bytes)) id bytes c refl in
+    (a .0, a .1 ∙ sym (heard-past id bytes c k)))
     (λ k. (Hearing.BrokenState, sym (heard-broken id bytes c k)))
 
 some-heard : (id : ℕ) (bytes : List ℕ) (c : Claim) → (r : Heard) × Hear id bytes c r
@@ -168,23 +169,33 @@ stands-so d r s p =
     let b = both-true (keepsRules d) (holdsList d) s in
     p .answer ∙ rw (sound-well d (b .0) (b .1) .0)
 
+not-held : (a : ℕ) → held a ≡ silent → ⊥
+not-held a e = let z : _≡_ {A = ℕ} 0 1 = cc in omega arith
+
+not-claiming : (a : ℕ) → claiming a ≡ silent → ⊥
+not-claiming a e = let z : _≡_ {A = ℕ} 0 1 = cc in omega arith
+
+-- where an awake state stands, it stands at its address
+
+addressIn : Stand → ℕ
+addressIn (held a) = a
+addressIn (claiming a) = a
+addressIn silent = 0
+
+awake-stands : (d : Claim) → d .silent ≡ false → (addressIn (standOf d) ≡ address d) × (standOf d ≡ silent → ⊥)
+unfolding addressIn
+awake-stands d z =
+    by-test (d .wait =? heldAfter)
+    (λ w. let e = stand-held d z (eqb-true _ _ w) in (ap addressIn e, λ f. not-held _ (sym e ∙ f)))
+    (λ w. let e = stand-claiming d z (eqb-false _ _ w) in (ap addressIn e, λ f. not-claiming _ (sym e ∙ f)))
+
 silent-told : (d : Claim) (r : Standing) → isSound d ≡ true → Stands d r → (r ≡ Silent) ↔ (d .silent ≡ true)
 silent-told d r s p = (
-  (λ e. by-test (d .silent) (λ z. z) (λ z. absurd (not-silent z (gives-same (sym (stands-so d r s p) ∙ ap toldStanding e))))),
+  (λ e. by-test (d .silent)
+      (λ z. z)
+      (λ z. absurd (awake-stands d z .1 (gives-same (sym (stands-so d r s p) ∙ ap toldStanding e))))),
   (λ z. told-standing-same r Silent (stands-so d r s p ∙ ap gives (stand-silent d z))),
 )
-  where
-    not-held : held (address d) ≡ silent → ⊥
-    not-held e = let z : _≡_ {A = ℕ} 0 1 = cc in omega arith
-
-    not-claiming : claiming (address d) ≡ silent → ⊥
-    not-claiming e = let z : _≡_ {A = ℕ} 0 1 = cc in omega arith
-
-    not-silent : d .silent ≡ false → standOf d ≡ silent → ⊥
-    not-silent z e =
-        by-test (d .wait =? heldAfter)
-        (λ w. not-held (sym (stand-held d z (eqb-true _ _ w)) ∙ e))
-        (λ w. not-claiming (sym (stand-claiming d z (eqb-false _ _ w)) ∙ e))
 
 all-silent : (d : Claim) (n : ℕ) → Rules d → d .candidates ≡ n → (d .losses ≡ n) ↔ (d .silent ≡ true)
 all-silent d n k e = (
@@ -192,20 +203,46 @@ all-silent d n k e = (
   (λ z. count-silent d k z ∙ e),
 )
 
-counts : (name : ℕ) (list : List ℕ) (calls : List Call) → isSound (begun name list) ≡ true
+-- who stands at an address stands behind those that are counted
+
+behind : (name : ℕ) (list : List ℕ) (d : Claim) → isWellFormed list ≡ true → Rules d → SameNode d (begun name list)
+    → d .silent ≡ false → address d ≡ getD list (d .losses) 0
+unfolding padded
+behind name list d w k n z =
+    let p = count-awake d k z in
+    let i : d .losses < length list = omega (arith, p, k .inside, n .candidates) in
+    ap (λ (l : List ℕ). getD l (d .position) 0) (n .list) ∙ ap (λ (i : ℕ). getD (padded list) i 0) (sym p)
+    ∙ List·getD-append list (replicate (longestList - length list) 0) 0 (d .losses) i
+
+stood : (d : Claim) (s : Stand) → (s ≡ silent → ⊥) → standOf d ≡ s → (d .silent ≡ false) × (addressIn s ≡ address d)
+stood d s f e =
+    by-test (d .silent)
+    (λ z. absurd (f (sym e ∙ stand-silent d z)))
+    (λ z. (z, ap addressIn (sym e) ∙ awake-stands d z .0))
+
+counts : (name : ℕ) (list : List ℕ) (calls : List Call) → isWellFormed list ≡ true → isSound (begun name list) ≡ true
     → Counts name list calls (run (begun name list) (eventsIn calls))
-counts name list calls s =
+unfolding addressIn
+counts name list calls w s =
     let c = begun name list in
     let es = eventsIn calls in
     let k = rules-run c es (rules-of c (both-true (keepsRules c) (holdsList c) s .0)) in
-    let n : run c es .candidates ≡ length list = node-stays c es .candidates in
+    let n = node-stays c es in
+    let at : (a : ℕ) (t : Stand) → (t ≡ silent → ⊥) → addressIn t ≡ a → gives t ≡ gives (standOf (run c es))
+    → a ≡ getD list (run c es .losses) 0 =
+    λ a t f g e. let h = stood (run c es) t f (sym (gives-same e)) in
+    sym g ∙ h .1 ∙ behind name list (run c es) w k n (h .0) in
     record {
       lost = omega (arith, count-run c es);
-      bounded = omega (arith, count-bounded (run c es) k, n);
+      bounded = omega (arith, count-bounded (run c es) k, n .candidates);
       all-when-silent = λ r p.
-          let a = all-silent (run c es) (length list) k n in
+          let a = all-silent (run c es) (length list) k (n .candidates) in
           let b = silent-told (run c es) r (run-sound c es s) p in
           ((λ e. b .1 (a .0 e)), (λ e. a .1 (b .0 e)));
+      next-claimed = λ a p. elim p [
+        | inl q ↦ at a (claiming a) (not-claiming a) refl (stands-so (run c es) (Claiming a) (run-sound c es s) q)
+        | inr q ↦ at a (held a) (not-held a) refl (stands-so (run c es) (Held a) (run-sound c es s) q)
+      ];
     }
 
 pub losses-exactly : LossesExactly
@@ -215,7 +252,7 @@ losses-exactly name list r calls d p e ran =
     let s = start-sound name list r p e in
     let f : d ≡ run (begun name list) (eventsIn calls) =
     calls-are-events (r .claim) d calls s ran ∙ ap (λ (x : Claim). run x (eventsIn calls)) b in
-    rw f (counts name list calls (ap isSound (sym b) ∙ s))
+    rw f (counts name list calls w (ap isSound (sym b) ∙ s))
 
 -- a wrong count is refused with 2
 
@@ -230,6 +267,7 @@ wrong-count-refused c wrong =
       pause = λ ms r p. p .answer ∙ b;
       stands = λ r p. p .answer ∙ rw b;
       our-claim = λ r p. p .answer ∙ b;
+      keeps-rules = λ r p. p .answer ∙ k;
     })
 
 -- a rival claims the address where we stand, with any NAME: the frame, and a call that hears it
@@ -270,14 +308,16 @@ won c name s h = go (outcomeOf (address c) name c) (went (address c) name c)
     go o (goes z a e m) = absurd (omega arith)
     go o (ends z a e m) = absurd (omega arith)
 
-repeats-by : (c : Claim) → Hear (rivalId c) (rivalBytes (c .name + 1)) c (answered Hearing.SendClaimAgain c) → (n : ℕ) → Repeats c n
+repeats-by : (c : Claim) → Hear (rivalId c) (rivalBytes (c .name + 1)) c (answered Hearing.SendClaimAgain c)
+    → (n : ℕ) → Repeats c n
 unfolding lossOf repeatOf
 repeats-by c p zero = record { calls = []; ran = no-call c; repeats = refl; no-loss = refl }
 repeats-by c p (suc n) =
     let more = repeats-by c p n in
+    let bytes = rivalBytes (c .name + 1) in
     record {
-      calls = hears (rivalId c) (rivalBytes (c .name + 1)) ∷ more .calls;
-      ran = a-hear c (rivalId c) (rivalBytes (c .name + 1)) (answered Hearing.SendClaimAgain c) (more .calls) c p (more .ran);
+      calls = hears (rivalId c) bytes ∷ more .calls;
+      ran = a-hear c (rivalId c) bytes (answered Hearing.SendClaimAgain c) (more .calls) c p (more .ran);
       repeats = omega (arith, more .repeats);
       no-loss = omega (arith, more .no-loss);
     }
@@ -285,7 +325,8 @@ repeats-by c p (suc n) =
 pub repeats-unlimited : RepeatsUnlimited
 unfolding after isSent
 repeats-unlimited c s a h n =
-    repeats-by c (heard-so c (c .name + 1) Hearing.SendClaimAgain repeated s h (won c (c .name + 1) a (omega arith)) refl refl) n
+    let o = won c (c .name + 1) a (omega arith) in
+    repeats-by c (heard-so c (c .name + 1) Hearing.SendClaimAgain repeated s h o refl refl) n
 
 -- a lower NAME makes us give up one address after the other
 
@@ -321,21 +362,23 @@ gives-up (suc n) c all s a h l e =
     by-test (c .position + 1 <? c .candidates)
     (λ m.
     let p = heard-so c 0 Hearing.SendNextClaim moved s (omega arith) (lost-next c 0 a h (ltb-true _ _ m)) refl refl in
-    let k = hear-sound (rivalId c) (rivalBytes 0) c (answered Hearing.SendNextClaim (atNext c)) p s in
+    let r = answered Hearing.SendNextClaim (atNext c) in
+    let k = hear-sound (rivalId c) (rivalBytes 0) c r p s in
     let more = gives-up n (atNext c) all k refl h (omega arith) (omega arith) in
     record {
       calls = hears (rivalId c) (rivalBytes 0) ∷ more .calls;
       after = more .after;
-      ran = a-hear c (rivalId c) (rivalBytes 0) (answered Hearing.SendNextClaim (atNext c)) (more .calls) (more .after) p (more .ran);
+      ran = a-hear c (rivalId c) (rivalBytes 0) r (more .calls) (more .after) p (more .ran);
       count = more .count;
     })
     (λ m.
     let f = ltb-false _ _ m in
+    let r = answered Hearing.SendCannotClaim (fallen c) in
     let p = heard-so c 0 Hearing.SendCannotClaim fellSilent s (omega arith) (lost-last c 0 a h f) refl refl in
     record {
       calls = hears (rivalId c) (rivalBytes 0) ∷ [];
       after = fallen c;
-      ran = a-hear c (rivalId c) (rivalBytes 0) (answered Hearing.SendCannotClaim (fallen c)) [] (fallen c) p (no-call (fallen c));
+      ran = a-hear c (rivalId c) (rivalBytes 0) r [] (fallen c) p (no-call (fallen c));
       count = omega (arith, l, f, e);
     })
 

@@ -78,7 +78,12 @@ rules-went source name c o k (apart s a) = k
 rules-went source name c o k (same s a e) = k
 rules-went source name c o k (wins s a e) = k
 rules-went source name c o k (goes s a e m) =
-    record { inside = m; short = omega arith; still = λ f. true-false (sym f); count = omega (arith, count-awake c k s) }
+    record {
+      inside = m;
+      short = omega arith;
+      still = λ f. true-false (sym f);
+      count = omega (arith, count-awake c k s);
+    }
 rules-went source name c o k (ends s a e m) =
     record {
       inside = omega arith;

@@ -55,7 +55,8 @@ module _ (c : Claim) (b : Bool) (inside : c .position < c .candidates) (short : 
   unfolding keepsRules
   awake-rules s e = e ∙ sym (rw (lt-ltb _ _ inside, le-leb _ _ short, s))
 
-  pub silent-rules : c .silent ≡ true → c .position ≡ 0 → c .wait ≡ 0 → b ≡ (c .losses =? c .candidates) → b ≡ keepsRules c
+  pub silent-rules : c .silent ≡ true → c .position ≡ 0 → c .wait ≡ 0 → b ≡ (c .losses =? c .candidates)
+      → b ≡ keepsRules c
   unfolding keepsRules
   silent-rules s p w e = e ∙ sym (rw (lt-ltb _ _ inside, le-leb _ _ short, s, eq-eqb _ _ p, eq-eqb _ _ w))
 

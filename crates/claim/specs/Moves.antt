@@ -1,24 +1,24 @@
 -- How often a node moves (RULES 8.17 to 8.22): the addresses that it has given up since its start, over runs of calls.
 -- proofs/Moves.antt has a proof of each law, under the same name written small.
 use mathlib.Core.Path.{_≡_}
-use mathlib.Core.Bool.{true, false}
+use mathlib.Core.Bool.{Bool, true, false}
 use mathlib.Core.List.{List}
-use mathlib.Core.Logic.{_↔_}
+use mathlib.Core.Logic.{_↔_, _⊎_}
 use Prim.Native.Nat.{ℕ, _+_, _≤_, _<_, _^_}
-use lib.ListN.{length}
+use lib.ListN.{length, getD}
 use Rattle.words.specs.Words.{refused, gives, done}
 use Rattle.frame.specs.Frame.{frameBytes}
 use Rattle.claim.specs.Claim.{lossesAt, begun}
 use Rattle.claim.specs.History.{history, lossesIn}
-use Rattle.claim.specs.Promises.{Start, Hear, Pause, Stands, OurClaim, toldStarting, toldHearing, toldPausing}
-use Rattle.claim.specs.Promises.{toldStanding, toldSending, isSound}
+use Rattle.claim.specs.Promises.{Start, Hear, Pause, Stands, OurClaim, KeepsRules, toldStarting, toldHearing}
+use Rattle.claim.specs.Promises.{toldPausing, toldStanding, toldSending, isSound}
 use Rattle.claim.specs.Calls.{Call, Ran, eventsIn, answersIn, lossesTold, repeatsTold, framesSent}
 use Rattle.claim.specs.declared.Claim.{Claim}
 use Rattle.claim.specs.declared.Started.{Started}
 use Rattle.claim.specs.declared.Heard.{Heard}
 use Rattle.claim.specs.declared.Paused.{Paused}
 use Rattle.claim.specs.declared.Standing.{Standing}
-use Rattle.claim.specs.declared.Standing.the-variants.{Silent}
+use Rattle.claim.specs.declared.Standing.the-variants.{Held, Claiming, Silent}
 use Rattle.claim.specs.declared.ClaimFrame.{ClaimFrame}
 
 -- There is a run for any calls, from any state, since every call answers.
@@ -26,11 +26,13 @@ abbrev pub EveryRunRuns : Type 0
 EveryRunRuns = (c : Claim) (calls : List Call) → (d : Claim) × Ran c calls d
 
 -- Whatever calls follow a start, the count is that of the contests lost in the history of what was heard and waited; it
--- is at most the length of the list, and is that exactly when `stands` answers that the node is silent.
+-- is at most the length of the list, and is that exactly when `stands` answers that the node is silent. What was given
+-- up stands first in the list: where `stands` answers an address, it is the one behind as many as are counted.
 pub record Counts (name : ℕ) (list : List ℕ) (calls : List Call) (d : Claim) : Type 0 where
   pub lost : d .losses ≡ lossesIn (history (begun name list) (eventsIn calls))
   pub bounded : d .losses ≤ length list
   pub all-when-silent : (r : Standing) → Stands d r → (d .losses ≡ length list) ↔ (r ≡ Silent)
+  pub next-claimed : (a : ℕ) → Stands d (Claiming a) ⊎ Stands d (Held a) → a ≡ getD list (d .losses) 0
 
 abbrev pub LossesExactly : Type 0
 LossesExactly =
@@ -44,12 +46,13 @@ LossesAsTold =
     (c d : Claim) (calls : List Call) (ran : Ran c calls d)
     → d .losses ≡ c .losses + lossesTold (answersIn ran)
 
--- A state with another count than that of where it stands is refused with 2 by every call that takes one.
+-- A state with another count than that of where it stands breaks its rules: the calls of this crate refuse it with 2.
 pub record RefusedWithTwo (c : Claim) : Type 0 where
   pub hear : (id : ℕ) (bytes : List ℕ) (r : Heard) → Hear id bytes c r → toldHearing (r .answer) ≡ refused 2
   pub pause : (ms : ℕ) (r : Paused) → Pause ms c r → toldPausing (r .answer) ≡ refused 2
   pub stands : (r : Standing) → Stands c r → toldStanding r ≡ refused 2
   pub our-claim : (r : ClaimFrame) → OurClaim c r → toldSending (r .answer) ≡ refused 2
+  pub keeps-rules : (r : Bool) → KeepsRules c r → r ≡ false
 
 abbrev pub WrongCountRefused : Type 0
 WrongCountRefused = (c : Claim) → (c .losses ≡ lossesAt c → ⊥) → RefusedWithTwo c
@@ -66,8 +69,8 @@ abbrev pub RepeatsUnlimited : Type 0
 RepeatsUnlimited =
     (c : Claim) → isSound c ≡ true → c .silent ≡ false → c .name + 1 < 256 ^ frameBytes → (n : ℕ) → Repeats c n
 
--- The bound is sharp: a node whose NAME is not the lowest of all can be made to give up any number of its addresses, all
--- of them too.
+-- The bound is sharp: a node whose NAME is not the lowest of all can be made to give up any number of its addresses, up
+-- to all of them.
 pub record GivesUp (c : Claim) (n : ℕ) : Type 0 where
   pub calls : List Call
   pub after : Claim
