@@ -1,5 +1,7 @@
 // Reads a capture of the bus from standard input and prints its report to standard output, in blocks and with constant
 // memory (RULES 11.8 to 11.20).
+#![tactic(auto)]
+
 ghost use Rattle.std.specs.Prelude.{◌≡◌, ◌≤◌, length};
 ghost use Rattle.message.specs.Receiver.{room};
 ghost use Rattle.catalogue.specs.Packed.{packed_rows};
@@ -14,7 +16,7 @@ use message::limits::STORAGE_BYTES;
 use reader::{Going, Reader};
 
 // The reader after a block, and whether another is to be read.
-#[derive(Drop)]
+#[derive(Clone, Copy)]
 struct Fed {
     reader: Reader,
     more: bool,

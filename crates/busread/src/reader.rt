@@ -15,7 +15,7 @@ use crate::{report, step};
 use capture::{Cutter, Cutting, Ending};
 use message::Receiver;
 
-#[derive(Drop)]
+#[derive(Clone, Copy)]
 pub struct Reader {
     pub cutter: Cutter,
     pub receiver: Receiver,
@@ -23,7 +23,7 @@ pub struct Reader {
 }
 
 // Whether a run goes on in its block, has used it up, or has read all the lines that are read.
-#[derive(Drop)]
+#[derive(Clone, Copy)]
 pub enum Going {
     On,
     Used,
@@ -31,7 +31,7 @@ pub enum Going {
 }
 
 // Where a run leaves the reader: the position up to which the block was read, and the place behind what was printed.
-#[derive(Drop)]
+#[derive(Clone, Copy)]
 pub struct Run {
     pub reader: Reader,
     pub read_to: usize,

@@ -7,7 +7,7 @@ ghost use Rattle.busread.specs.Report.{place_text, value_text, field_text, closi
 use catalogue::{Class, Field, Row};
 
 // How many lines there were, how many were refused, and how many long messages were finished.
-#[derive(Drop)]
+#[derive(Clone, Copy)]
 pub struct Counts {
     pub frames: u32,
     pub refused: u32,

@@ -20,7 +20,7 @@ use capture::Line;
 use message::{Answer, Receiver};
 
 // What an answer of the receiver prints.
-#[derive(Drop)]
+#[derive(Clone, Copy)]
 pub enum Print {
     Refused(u32),
     Message { sender: u8, dgn: u32 },
@@ -29,7 +29,7 @@ pub enum Print {
 }
 
 // What is kept after a line, and the place behind what it printed.
-#[derive(Drop)]
+#[derive(Clone, Copy)]
 pub struct Step {
     pub receiver: Receiver,
     pub counts: Counts,

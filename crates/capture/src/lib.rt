@@ -1,5 +1,7 @@
 // Captures of the bus as text, one frame a line (RULES 11.1 to 11.7): a line taken apart, the one line of a frame
 // written, and a stream cut into lines.
+#![tactic(auto)]
+
 mod blocks;
 mod spelling;
 
@@ -20,14 +22,14 @@ pub const TEXT_BYTES: usize = 43;
 const KEYS_AND_DIGITS: usize = 38;
 
 // Whether a line is that of a frame; refusal 19 otherwise.
-#[derive(Drop)]
+#[derive(Clone, Copy)]
 pub enum Reading {
     Sound,
     Malformed,
 }
 
 // A line taken apart: the pause before its frame, the identifier and the bytes; zeros where it is malformed.
-#[derive(Drop)]
+#[derive(Clone, Copy)]
 pub struct Line {
     pub answer: Reading,
     pub gap: u16,
@@ -36,7 +38,7 @@ pub struct Line {
 }
 
 // The line of a frame, without its newline: the first `count` bytes. The rest are zeros.
-#[derive(Drop)]
+#[derive(Clone, Copy)]
 pub struct Text {
     pub bytes: [u8; TEXT_BYTES],
     pub count: usize,
@@ -44,7 +46,7 @@ pub struct Text {
 
 // Cuts a stream into lines: how many it has cut, and what the blocks so far hold of a line whose end has not come.
 // A length above 80 means a line that is too long, of which nothing is kept.
-#[derive(Drop)]
+#[derive(Clone, Copy)]
 pub struct Cutter {
     pub carry: [u8; LONGEST_LINE],
     pub length: usize,
@@ -52,7 +54,7 @@ pub struct Cutter {
 }
 
 // What comes next in a block.
-#[derive(Drop)]
+#[derive(Clone, Copy)]
 pub enum Cutting {
     // a line that lies in the block, from `from` to before `to`
     Within { from: usize, to: usize },
@@ -67,7 +69,7 @@ pub enum Cutting {
 }
 
 // The cutter afterwards, the answer, and the position up to which the block was read, at which the next call goes on.
-#[derive(Drop)]
+#[derive(Clone, Copy)]
 pub struct Cut {
     pub cutter: Cutter,
     pub answer: Cutting,
@@ -75,7 +77,7 @@ pub struct Cut {
 }
 
 // What the end of the stream ends.
-#[derive(Drop)]
+#[derive(Clone, Copy)]
 pub enum Ending {
     // a line that has no newline: that many bytes at the start of the cutter's carry
     Carried(usize),

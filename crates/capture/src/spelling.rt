@@ -7,14 +7,14 @@ ghost use Rattle.capture.specs.Private.{told_spelled, told_eight};
 use crate::{KEYS_AND_DIGITS, TEXT_BYTES};
 
 // The number that digits spell, if all are digits.
-#[derive(Drop)]
+#[derive(Clone, Copy)]
 pub enum Spelled {
     Number(u32),
     Malformed,
 }
 
 // The bytes that pairs of digits spell; zeros where one is no digit.
-#[derive(Drop)]
+#[derive(Clone, Copy)]
 pub struct Eight {
     pub sound: bool,
     pub bytes: [u8; 8],

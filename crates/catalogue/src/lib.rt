@@ -1,5 +1,7 @@
 // The field catalogue of RV-C (RULES 6 and 7): its rows, a field's class and code, its scaled value, and a field
 // written.
+#![tactic(auto)]
+
 mod classes;
 pub mod dgns;
 mod fields;
@@ -21,7 +23,7 @@ ghost use Rattle.catalogue.specs.Promises.{WriteRow, LookedRefusal, ReadingRefus
 ghost use Rattle.catalogue.specs.Promises.{WritingRefusal, HasInstance, StepsInOne, Opens, told_outcome};
 
 // What a row's numbers count; `Other` is any unit that has no scale here, or none.
-#[derive(Drop)]
+#[derive(Clone, Copy)]
 pub enum Unit {
     Other,
     Percent,
@@ -33,7 +35,7 @@ pub enum Unit {
 
 // A field of a DGN (RULES 6.1): its bits are counted over the bytes, 8 to each. A plain row is always a number; in a
 // two-state row, which has two bits, 10b is out-of-range (RULES 7.13).
-#[derive(Drop)]
+#[derive(Clone, Copy)]
 pub struct Row {
     pub dgn: u32,
     pub first: u8,
@@ -44,20 +46,20 @@ pub struct Row {
 }
 
 // A row, or refusal 11.
-#[derive(Drop)]
+#[derive(Clone, Copy)]
 pub enum Looked {
     Is(Row),
     NoSuchRow,
 }
 
 // The rows of a DGN: `count` of them, from number `start`.
-#[derive(Drop)]
+#[derive(Clone, Copy)]
 pub struct Span {
     pub start: usize,
     pub count: usize,
 }
 
-#[derive(Drop)]
+#[derive(Clone, Copy)]
 pub enum Class {
     Number,
     NoData,
@@ -66,14 +68,14 @@ pub enum Class {
 }
 
 // What stands in a field.
-#[derive(Drop)]
+#[derive(Clone, Copy)]
 pub struct Field {
     pub class: Class,
     pub code: u64,
 }
 
 // A field read, or refusals 3 to 6, or 11: no such row, or a frame of another DGN.
-#[derive(Drop)]
+#[derive(Clone, Copy)]
 pub enum Reading {
     Is(Field),
     BadFrame(frame::BadFrame),
@@ -81,7 +83,7 @@ pub enum Reading {
 }
 
 // A number of the row's steps, or a class that is none.
-#[derive(Drop)]
+#[derive(Clone, Copy)]
 pub enum Value {
     Scaled(i64),
     NoData,
@@ -90,7 +92,7 @@ pub enum Value {
 }
 
 // A field's value read, or refusals 3 to 6, or 11.
-#[derive(Drop)]
+#[derive(Clone, Copy)]
 pub enum ScaledReading {
     Is(Value),
     BadFrame(frame::BadFrame),
@@ -98,7 +100,7 @@ pub enum ScaledReading {
 }
 
 // A field written, or refusals 3 to 6, 11, 12.
-#[derive(Drop)]
+#[derive(Clone, Copy)]
 pub enum Writing {
     Written,
     BadFrame(frame::BadFrame),
@@ -350,14 +352,14 @@ fn nth(n: usize) -> Row
 }
 
 // A frame of a row's DGN, or why not.
-#[derive(Drop)]
+#[derive(Clone, Copy)]
 enum Outcome {
     At(Row),
     Bad(frame::BadFrame),
     NoSuchRow,
 }
 
-#[derive(Drop)]
+#[derive(Clone, Copy)]
 struct Opened {
     outcome: Outcome,
     number: u64,

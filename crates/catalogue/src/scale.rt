@@ -21,21 +21,21 @@ const CELSIUS_16_OFFSET: u64 = 8736;
 const AMPERE_OFFSET: u64 = 32000;
 
 // The code of a value, or refusal 12.
-#[derive(Drop)]
+#[derive(Clone, Copy)]
 pub enum Coded {
     Code(u64),
     NoCode,
 }
 
 // A scaled value is `step` times the code, less `offset`.
-#[derive(Drop)]
+#[derive(Clone, Copy)]
 struct Steps {
     step: u64,
     offset: u64,
 }
 
 // A signed number: `From` 0 up, or so many `Below` -1.
-#[derive(Drop)]
+#[derive(Clone, Copy)]
 enum Sign {
     From(u64),
     Below(u64),

@@ -1,4 +1,6 @@
 // Claiming an address (RULES 8): the candidate list, the contest of NAMEs, the wait until an address is held.
+#![tactic(auto)]
+
 mod contest;
 mod list;
 mod state;
@@ -18,7 +20,7 @@ pub const HELD_AFTER: u16 = 250;
 // A claim's state: the NAME, the candidate list (`candidates` addresses, then zeros), the position in it of the address
 // that is claimed or held, the milliseconds waited there, up to 250, whether all addresses are lost, and how many
 // addresses were given up since the start: one for each contest that was lost. A contest that is won gives up nothing.
-#[derive(Drop)]
+#[derive(Clone, Copy)]
 pub struct Claim {
     pub name: u64,
     pub list: [u8; CANDIDATES],
@@ -30,14 +32,14 @@ pub struct Claim {
 }
 
 // Started: our claim is to be sent; or refusal 16.
-#[derive(Drop)]
+#[derive(Clone, Copy)]
 pub enum Starting {
     SendClaim,
     ListMalformed,
 }
 
 // The new state, and the frame to send. Where the start is refused, the state is of zeros, and there is no frame.
-#[derive(Drop)]
+#[derive(Clone, Copy)]
 pub struct Started {
     pub claim: Claim,
     pub answer: Starting,
@@ -46,7 +48,7 @@ pub struct Started {
 }
 
 // What a frame heard leads to; or refusal 2, 3 to 6, 16.
-#[derive(Drop)]
+#[derive(Clone, Copy)]
 pub enum Hearing {
     // No claim at our address, or we are silent.
     NothingToDo,
@@ -64,7 +66,7 @@ pub enum Hearing {
 }
 
 // The state, and the frame to send; no frame where nothing is to be sent.
-#[derive(Drop)]
+#[derive(Clone, Copy)]
 pub struct Heard {
     pub claim: Claim,
     pub answer: Hearing,
@@ -73,21 +75,21 @@ pub struct Heard {
 }
 
 // Waited; or refusal 2, 16.
-#[derive(Drop)]
+#[derive(Clone, Copy)]
 pub enum Pausing {
     Waited,
     BrokenState,
     ListMalformed,
 }
 
-#[derive(Drop)]
+#[derive(Clone, Copy)]
 pub struct Paused {
     pub claim: Claim,
     pub answer: Pausing,
 }
 
 // Where a claim stands, and at which address; or refusal 2, 16.
-#[derive(Drop)]
+#[derive(Clone, Copy)]
 pub enum Standing {
     Held(u8),
     Claiming(u8),
@@ -97,7 +99,7 @@ pub enum Standing {
 }
 
 // The frame beside is our claim; or refusal 2, 16.
-#[derive(Drop)]
+#[derive(Clone, Copy)]
 pub enum Sending {
     Frame,
     BrokenState,
@@ -105,7 +107,7 @@ pub enum Sending {
 }
 
 // The frame of our claim; no frame where the state is refused.
-#[derive(Drop)]
+#[derive(Clone, Copy)]
 pub struct ClaimFrame {
     pub answer: Sending,
     pub id: u32,

@@ -6,7 +6,7 @@ ghost use Rattle.command.specs.Private.{stand_at};
 
 use claim::{Claim, Standing};
 
-#[derive(Drop)]
+#[derive(Clone, Copy)]
 pub enum Address {
     Held(u8),
     Claimed(u8),

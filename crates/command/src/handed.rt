@@ -10,7 +10,7 @@ use crate::{Host, hosted};
 use claim::Claim;
 use frame::{BadFrame, Parts, Verdict};
 
-#[derive(Drop)]
+#[derive(Clone, Copy)]
 pub enum Handing {
     Sound(Parts),
     BrokenState,
@@ -19,7 +19,7 @@ pub enum Handing {
 }
 
 // With the frame's bytes; zeros beside a refusal.
-#[derive(Drop)]
+#[derive(Clone, Copy)]
 pub struct Handed {
     pub answer: Handing,
     pub bytes: [u8; 8],

@@ -1,4 +1,6 @@
 // Commands by instance, requests for a DGN, and their replies (RULES 10).
+#![tactic(auto)]
+
 mod acknowledgments;
 mod address;
 mod commands;
@@ -20,7 +22,7 @@ pub const ENTRIES: usize = 16;
 
 // A device that a node answers for: the DGN that commands it, the DGN of its status, its instance, and whether a
 // command to instance 0 is for it too (zero-is-all).
-#[derive(Drop)]
+#[derive(Clone, Copy)]
 pub struct Entry {
     pub command: u32,
     pub status: u32,
@@ -30,14 +32,14 @@ pub struct Entry {
 
 // How requests are read. In edition one a request is for all instances of its DGN. In edition two, which has the
 // acknowledgment rules of 2023, byte 3 names an instance, FFh all of them, and a NAK says of which instance it is.
-#[derive(Drop)]
+#[derive(Clone, Copy)]
 pub enum Edition {
     One,
     Two,
 }
 
 // A host: the hosted list, `count` entries and then entries of zeros, and the edition chosen at its start.
-#[derive(Drop)]
+#[derive(Clone, Copy)]
 pub struct Host {
     pub entries: [Entry; ENTRIES],
     pub count: usize,
@@ -45,28 +47,28 @@ pub struct Host {
 }
 
 // The list is hosted; or refusal 16.
-#[derive(Drop)]
+#[derive(Clone, Copy)]
 pub enum Starting {
     Hosted,
     ListMalformed,
 }
 
 // The new host; one with no entry where the start is refused.
-#[derive(Drop)]
+#[derive(Clone, Copy)]
 pub struct Started {
     pub host: Host,
     pub answer: Starting,
 }
 
 // Positions in the hosted list, rising: `count` of them, then zeros.
-#[derive(Drop)]
+#[derive(Clone, Copy)]
 pub struct Positions {
     pub at: [u8; ENTRIES],
     pub count: usize,
 }
 
 // What a frame comes to as a command; or refusal 2, 3 to 6, 16, 18.
-#[derive(Drop)]
+#[derive(Clone, Copy)]
 pub enum Routing {
     // No command of ours.
     NothingToDo,
@@ -78,14 +80,14 @@ pub enum Routing {
     NoAddressHeld,
 }
 
-#[derive(Drop)]
+#[derive(Clone, Copy)]
 pub struct Routed {
     pub answer: Routing,
     pub positions: Positions,
 }
 
 // What a frame comes to as a request; or refusal 2, 3 to 6, 16, 17, 18.
-#[derive(Drop)]
+#[derive(Clone, Copy)]
 pub enum Requesting {
     // No request, or not for us.
     NothingToDo,
@@ -105,7 +107,7 @@ pub enum Requesting {
 }
 
 // The positions, and the frame to send; no frame where nothing is to be sent.
-#[derive(Drop)]
+#[derive(Clone, Copy)]
 pub struct Requested {
     pub answer: Requesting,
     pub positions: Positions,
@@ -115,7 +117,7 @@ pub struct Requested {
 
 // An acknowledgment, in the order of its bytes: its code, the instance (FFh where there is none), the node that sent
 // the command or request, and the DGN of that.
-#[derive(Drop)]
+#[derive(Clone, Copy)]
 pub struct Acknowledgment {
     pub code: u8,
     pub instance: u8,
@@ -124,7 +126,7 @@ pub struct Acknowledgment {
 }
 
 // The acknowledgment beside is to be sent; or refusal 2, 6, 16, 17, 18.
-#[derive(Drop)]
+#[derive(Clone, Copy)]
 pub enum Acknowledging {
     Send,
     BrokenState,
@@ -135,7 +137,7 @@ pub enum Acknowledging {
 }
 
 // The frame to send; no frame where it is refused.
-#[derive(Drop)]
+#[derive(Clone, Copy)]
 pub struct Acknowledged {
     pub answer: Acknowledging,
     pub id: u32,

@@ -11,7 +11,7 @@ use crate::requests::{ALL_INSTANCES, Asked};
 use crate::{ENTRIES, Entry, Host, Positions};
 
 // Which entries are wanted.
-#[derive(Drop)]
+#[derive(Clone, Copy)]
 pub enum Wanted {
     // Those with a command DGN.
     Hosted(u32),

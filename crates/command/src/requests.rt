@@ -25,7 +25,7 @@ const NAK: u8 = 1;
 pub const ALL_INSTANCES: u8 = 0xFF;
 
 // A request as the frame that it came in has it.
-#[derive(Drop)]
+#[derive(Clone, Copy)]
 pub struct Asked {
     pub destination: u8,
     pub source: u8,

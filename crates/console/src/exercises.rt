@@ -5,7 +5,7 @@ use crate::{notes, say};
 use catalogue::{Looked, Reading, Row, ScaledReading, Writing};
 
 // A receiver of long messages after a frame: whether it finished a message, and whether that is the one that was split.
-#[derive(Drop)]
+#[derive(Clone, Copy)]
 struct Heard {
     receiver: message::Receiver,
     finished: bool,
@@ -13,7 +13,7 @@ struct Heard {
 }
 
 // The same of fast packets.
-#[derive(Drop)]
+#[derive(Clone, Copy)]
 struct HeardFast {
     receiver: fast::Receiver,
     finished: bool,

@@ -5,14 +5,14 @@ use libc::STDIN_FILENO;
 pub const LONGEST: usize = 4096;
 
 // A line that was read: how many bytes it has, and whether it was one, for the input may have ended.
-#[derive(Drop)]
+#[derive(Clone, Copy)]
 pub struct Line {
     pub count: usize,
     pub is: bool,
 }
 
 // A byte that was read, or the end.
-#[derive(Drop)]
+#[derive(Clone, Copy)]
 struct Byte {
     value: u8,
     is: bool,

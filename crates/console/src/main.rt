@@ -1,6 +1,8 @@
 // A console for class: it reads a call a line from standard input and prints the answer in words, with the number of a
 // refusal, the state and the lent bytes. It keeps one receiver of each kind with its storage, a claim, a host, a sender
 // of faults, a node table, a row and a cutter of lines. docs/CONSOLE.md has its words.
+#![tactic(auto)]
+
 mod active_faults;
 mod arguments;
 mod calls;
@@ -24,7 +26,7 @@ use notes::{NOTES, bounded, get, put};
 use std::num::wrapping_add_usize;
 
 // What the console keeps beside its notes: the storage of both receivers, and a table of packed rows to lend.
-#[derive(Drop)]
+#[derive(Clone, Copy)]
 struct Desk {
     long: [u8; message::limits::STORAGE_BYTES],
     fast: [u8; fast::limits::STORAGE_BYTES],
@@ -32,7 +34,7 @@ struct Desk {
 }
 
 // The console after a line, and whether there was one.
-#[derive(Drop)]
+#[derive(Clone, Copy)]
 struct Round {
     desk: Desk,
     more: bool,

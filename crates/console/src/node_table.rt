@@ -147,7 +147,7 @@ fn waits(name: u64, wait: u16) {
 }
 
 // A table after a frame, and what was answered.
-#[derive(Drop)]
+#[derive(Clone, Copy)]
 struct After {
     table: [Node; 300],
     answer: Hearing,
@@ -170,7 +170,7 @@ fn left(table: [Node; 300], answer: Hearing) -> After
 }
 
 // A table after a pause, and what was answered.
-#[derive(Drop)]
+#[derive(Clone, Copy)]
 struct AfterPause {
     table: [Node; 300],
     answer: Pausing,

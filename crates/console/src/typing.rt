@@ -4,14 +4,14 @@ use crate::{notes, say};
 use std::num::{wrapping_add_usize, wrapping_sub_usize};
 
 // Where a word stands. There is none where both are the same.
-#[derive(Drop)]
+#[derive(Clone, Copy)]
 pub struct Word {
     pub from: usize,
     pub to: usize,
 }
 
 // A word as a number, if it is one.
-#[derive(Drop)]
+#[derive(Clone, Copy)]
 pub struct Number {
     pub is: bool,
     pub value: u64,
@@ -427,7 +427,7 @@ fn count(notes: &mut [u64]) {
 
 // Where reading a word as bytes stands: the next letter, how many bytes there are, whether a text is open, and whether
 // all was well so far.
-#[derive(Drop)]
+#[derive(Clone, Copy)]
 struct Pairs {
     at: usize,
     count: usize,

@@ -1,5 +1,7 @@
 // Fast packets (RULES 12; NMEA 2000's format, as AEBus batteries send it): the receiver of eight pairs of sender and
 // DGN over lent storage, and the splitter. It has its places and its storage to itself, beside those of long messages.
+#![tactic(auto)]
+
 mod eight_places;
 pub mod limits;
 mod meaning;
@@ -17,7 +19,7 @@ use limits::{DGNS, STORAGE_BYTES};
 
 // An open message's place: its pair of sender and DGN, its sequence number and length, the frame expected next, and the
 // pauses since its last frame, in milliseconds. A free place is all zeros.
-#[derive(Drop)]
+#[derive(Clone, Copy)]
 pub struct Place {
     pub sender: u8,
     pub dgn: u32,
@@ -29,7 +31,7 @@ pub struct Place {
 
 // The receiver's state: the DGNs that are carried this way, `named` of them and then zeros, and the places. Place p
 // owns bytes 223 p to 223 p + 222 of the storage.
-#[derive(Drop)]
+#[derive(Clone, Copy)]
 pub struct Receiver {
     pub dgns: [u32; DGNS],
     pub named: usize,
@@ -37,21 +39,21 @@ pub struct Receiver {
 }
 
 // The DGNs are named; or refusal 16.
-#[derive(Drop)]
+#[derive(Clone, Copy)]
 pub enum Starting {
     Named,
     ListMalformed,
 }
 
 // The new receiver; one that names no DGN where the start is refused.
-#[derive(Drop)]
+#[derive(Clone, Copy)]
 pub struct Started {
     pub receiver: Receiver,
     pub answer: Starting,
 }
 
 // What a frame did: the refusals 1 to 10 by name, or the four ways in which it was heard.
-#[derive(Drop)]
+#[derive(Clone, Copy)]
 pub enum Answer {
     StorageTooShort,
     BrokenState,
@@ -72,21 +74,21 @@ pub enum Answer {
 }
 
 // The state to go on with, and what the frame did.
-#[derive(Drop)]
+#[derive(Clone, Copy)]
 pub struct Heard {
     pub receiver: Receiver,
     pub answer: Answer,
 }
 
 // How many messages a pause closed, or refusal 2.
-#[derive(Drop)]
+#[derive(Clone, Copy)]
 pub enum Pausing {
     Closed(u8),
     BrokenState,
 }
 
 // The state to go on with, and how many messages the pause closed.
-#[derive(Drop)]
+#[derive(Clone, Copy)]
 pub struct Paused {
     pub receiver: Receiver,
     pub answer: Pausing,
@@ -94,7 +96,7 @@ pub struct Paused {
 
 // A frame of a message is given; or a sequence number above 7 has no code in three bits (12), the message has not 1 to
 // 223 bytes (13), or it has no frame of that number (15).
-#[derive(Drop)]
+#[derive(Clone, Copy)]
 pub enum Splitting {
     Bytes,
     NoCode,
@@ -103,7 +105,7 @@ pub enum Splitting {
 }
 
 // A frame's eight bytes; zeros where it is refused.
-#[derive(Drop)]
+#[derive(Clone, Copy)]
 pub struct Split {
     pub answer: Splitting,
     pub bytes: [u8; 8],

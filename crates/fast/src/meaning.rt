@@ -5,7 +5,7 @@ ghost use Rattle.fast.specs.Private.{told_meant};
 
 use crate::limits::LONGEST;
 
-#[derive(Drop)]
+#[derive(Clone, Copy)]
 pub enum Meant {
     Malformed,
     Begins {

@@ -1,5 +1,7 @@
 // Faults broadcast as DM_RV (RULES 14): the fields of a DM_RV, its service point number, and a sender of up to 32
 // active faults.
+#![tactic(auto)]
+
 pub mod names;
 mod place;
 mod requests;
@@ -33,7 +35,7 @@ pub const STEP: u16 = 50;
 
 // A place. It is empty, all zeros, or an active fault: the eight bytes of its DM_RV, its period in milliseconds, the
 // milliseconds until it is due, and, once it is due, for how many steps it has been passed over since, up to 31.
-#[derive(Drop)]
+#[derive(Clone, Copy)]
 pub struct Fault {
     pub bytes: [u8; 8],
     pub period: u16,
@@ -42,14 +44,14 @@ pub struct Fault {
 }
 
 // A sender: its places, and the DM_RV that it answers when no fault is active, of which bytes 2 to 5 are not used.
-#[derive(Drop)]
+#[derive(Clone, Copy)]
 pub struct Sender {
     pub faults: [Fault; PLACES],
     pub no_fault: [u8; 8],
 }
 
 // The place of the new fault; or refusal 2, 20, 21.
-#[derive(Drop)]
+#[derive(Clone, Copy)]
 pub enum Adding {
     Added(usize),
     BrokenState,
@@ -57,28 +59,28 @@ pub enum Adding {
     PeriodNotAllowed,
 }
 
-#[derive(Drop)]
+#[derive(Clone, Copy)]
 pub struct Added {
     pub sender: Sender,
     pub answer: Adding,
 }
 
 // The fault is active no more; or refusal 2, 22.
-#[derive(Drop)]
+#[derive(Clone, Copy)]
 pub enum Clearing {
     Cleared,
     BrokenState,
     NoSuchFault,
 }
 
-#[derive(Drop)]
+#[derive(Clone, Copy)]
 pub struct Cleared {
     pub sender: Sender,
     pub answer: Clearing,
 }
 
 // What a step comes to; or refusal 2, 16, 18.
-#[derive(Drop)]
+#[derive(Clone, Copy)]
 pub enum Stepping {
     // The DM_RV of this place is to be sent.
     Send(usize),
@@ -90,7 +92,7 @@ pub enum Stepping {
 }
 
 // The state, and the frame to send; no frame where nothing is to be sent.
-#[derive(Drop)]
+#[derive(Clone, Copy)]
 pub struct Stepped {
     pub sender: Sender,
     pub answer: Stepping,
@@ -99,7 +101,7 @@ pub struct Stepped {
 }
 
 // What a frame comes to as a request for DM_RV; or refusal 2, 3 to 6, 16, 17, 18.
-#[derive(Drop)]
+#[derive(Clone, Copy)]
 pub enum Requesting {
     // No request for DM_RV, or not for us.
     NothingToDo,
@@ -113,7 +115,7 @@ pub enum Requesting {
 }
 
 // The state as it was, and the frame to send; no frame where nothing is to be sent.
-#[derive(Drop)]
+#[derive(Clone, Copy)]
 pub struct Requested {
     pub sender: Sender,
     pub answer: Requesting,
@@ -123,14 +125,14 @@ pub struct Requested {
 
 // What a node with a sender and a host makes of a frame: what the sender says, and what the host says where the sender
 // has nothing to do. Where the sender answers or refuses, there is nothing to do for the host.
-#[derive(Drop)]
+#[derive(Clone, Copy)]
 pub struct Replied {
     pub faults: Requested,
     pub host: command::Requested,
 }
 
 // A service point number of 19 bits; or refusals 3 to 6, or 11: the frame is no DM_RV.
-#[derive(Drop)]
+#[derive(Clone, Copy)]
 pub enum ServicePoint {
     Is(u32),
     BadFrame(BadFrame),

@@ -15,7 +15,7 @@ use frame::standard;
 use words::Found;
 
 // What a sound frame asks for.
-#[derive(Drop)]
+#[derive(Clone, Copy)]
 pub enum Meant {
     // Not for DM_RV.
     Other,

@@ -1,4 +1,6 @@
 // A first program over the library: it hears the three frames of a long message, and prints the message.
+#![tactic(auto)]
+
 use libc::STDOUT_FILENO;
 use rvc::messages::Receiver;
 use rvc::messages::limits::STORAGE_BYTES;

@@ -1,5 +1,7 @@
 // Frames of the RV-C bus (RULES 3): the 29-bit identifier taken apart and formed, a frame checked by itself, and eight
 // bytes as one number.
+#![tactic(auto)]
+
 pub mod standard;
 
 ghost use Rattle.std.specs.Prelude.{◌≡◌, ◌<◌, ◌%◌, length};
@@ -10,7 +12,7 @@ ghost use Rattle.frame.specs.Promises.{DgnBytes, DgnOf, ApartRefusal, FormedRefu
 ghost use Rattle.frame.specs.Promises.{VerdictRefusal, told_verdict};
 
 // The parts of an identifier: bits 28-26, 24-8 and 7-0.
-#[derive(Drop)]
+#[derive(Clone, Copy)]
 pub struct Parts {
     pub priority: u8,
     pub dgn: u32,
@@ -18,7 +20,7 @@ pub struct Parts {
 }
 
 // An identifier taken apart, or refusal 3 or 5.
-#[derive(Drop)]
+#[derive(Clone, Copy)]
 pub enum Apart {
     Into(Parts),
     IdentifierTooLarge,
@@ -26,14 +28,14 @@ pub enum Apart {
 }
 
 // An identifier formed, or refusal 12.
-#[derive(Drop)]
+#[derive(Clone, Copy)]
 pub enum Formed {
     Identifier(u32),
     NoCode,
 }
 
 // What a frame alone is refused for: 3, 4, 5, 6.
-#[derive(Drop)]
+#[derive(Clone, Copy)]
 pub enum BadFrame {
     IdentifierTooLarge,
     NotEightBytes,
@@ -41,21 +43,21 @@ pub enum BadFrame {
     SourceNotAllowed,
 }
 
-#[derive(Drop)]
+#[derive(Clone, Copy)]
 pub enum Verdict {
     Sound(Parts),
     Bad(BadFrame),
 }
 
 // A frame's verdict, with its eight bytes beside it; zeros where it is bad.
-#[derive(Drop)]
+#[derive(Clone, Copy)]
 pub struct Checked {
     pub verdict: Verdict,
     pub bytes: [u8; 8],
 }
 
 // Whom a DGN is sent to.
-#[derive(Drop)]
+#[derive(Clone, Copy)]
 pub enum Destination {
     NotAddressed,
     All,

@@ -9,7 +9,7 @@ use words::Found;
 
 // Where the digits of each field end, and whether a carriage return stands behind the last. The gap's digits begin at
 // 4, those of the identifier 4 behind the gap's end, and those of the data 6 behind the identifier's.
-#[derive(Drop)]
+#[derive(Clone, Copy)]
 pub struct Places {
     pub gap_to: usize,
     pub id_to: usize,
@@ -17,14 +17,14 @@ pub struct Places {
     pub returns: bool,
 }
 
-#[derive(Drop)]
+#[derive(Clone, Copy)]
 pub enum Fields {
     Whole(Places),
     Broken,
 }
 
 // What stands behind the last field.
-#[derive(Drop)]
+#[derive(Clone, Copy)]
 pub enum Tail {
     Nothing,
     Return,

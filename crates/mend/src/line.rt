@@ -12,7 +12,7 @@ use crate::fields::{Fields, Places};
 use capture::Reading;
 
 // Which of the four mendings changed a line.
-#[derive(Drop)]
+#[derive(Clone, Copy)]
 pub struct Actions {
     pub cr: bool,
     pub case: bool,
@@ -21,7 +21,7 @@ pub struct Actions {
 }
 
 // What becomes of a line: its mended text, up to a place of the lent bytes, or that it is dropped.
-#[derive(Drop)]
+#[derive(Clone, Copy)]
 pub enum Outcome {
     Kept { to: usize, actions: Actions },
     Dropped,

@@ -1,6 +1,8 @@
 // Mends a capture that was edited by hand (RULES 17): reads the file whose name is its argument twice, in blocks and
 // with constant memory. The first pass writes the sound capture to standard output, the second a line for each line
 // that was changed or dropped. Where the file or the output fails it says so on standard error, and stops.
+#![tactic(auto)]
+
 ghost use Rattle.std.specs.Prelude.{◌≡◌, ◌≤◌, length};
 ghost use Rattle.mend.specs.Reader.{out_room, BlockTaken};
 
@@ -14,7 +16,7 @@ use libc::{SEEK_SET, STDERR_FILENO, STDOUT_FILENO};
 use reader::{Going, Pass};
 
 // The cutter after a block, whether another is to be read, and whether all was read and written.
-#[derive(Drop)]
+#[derive(Clone, Copy)]
 struct Fed {
     cutter: Cutter,
     more: bool,

@@ -8,14 +8,14 @@ use crate::report;
 use capture::{Cutter, Cutting, Ending};
 
 // The two passes: the first writes the capture, the second the report.
-#[derive(Drop)]
+#[derive(Clone, Copy)]
 pub enum Pass {
     Capture,
     Report,
 }
 
 // Whether a run goes on in its block, has used it up, or has read all the lines that are read.
-#[derive(Drop)]
+#[derive(Clone, Copy)]
 pub enum Going {
     On,
     Used,
@@ -23,7 +23,7 @@ pub enum Going {
 }
 
 // Where a run leaves the cutter, the position up to which the block was read, and the place behind what was written.
-#[derive(Drop)]
+#[derive(Clone, Copy)]
 pub struct Run {
     pub cutter: Cutter,
     pub read_to: usize,

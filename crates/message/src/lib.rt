@@ -1,4 +1,6 @@
 // Long messages (RULES 4 and 5): the receiver of eight senders over lent storage, and the splitter.
+#![tactic(auto)]
+
 mod eight_places;
 pub mod limits;
 mod meaning;
@@ -16,7 +18,7 @@ use limits::STORAGE_BYTES;
 
 // An open message's place: its sender, what was announced, the packet expected next, and the pauses since its last
 // frame, in milliseconds. A free place is all zeros.
-#[derive(Drop)]
+#[derive(Clone, Copy)]
 pub struct Place {
     pub sender: u8,
     pub length: u16,
@@ -26,13 +28,13 @@ pub struct Place {
 }
 
 // The receiver's state. Place p owns bytes 1785 p to 1785 p + 1784 of the storage.
-#[derive(Drop)]
+#[derive(Clone, Copy)]
 pub struct Receiver {
     pub places: [Place; 8],
 }
 
 // What a frame did: the refusals 1 to 10 by name, or the four ways in which it was heard.
-#[derive(Drop)]
+#[derive(Clone, Copy)]
 pub enum Answer {
     StorageTooShort,
     BrokenState,
@@ -53,21 +55,21 @@ pub enum Answer {
 }
 
 // The state to go on with, and what the frame did.
-#[derive(Drop)]
+#[derive(Clone, Copy)]
 pub struct Heard {
     pub receiver: Receiver,
     pub answer: Answer,
 }
 
 // How many messages a pause closed, or refusal 2.
-#[derive(Drop)]
+#[derive(Clone, Copy)]
 pub enum Pausing {
     Closed(u8),
     BrokenState,
 }
 
 // The state to go on with, and how many messages the pause closed.
-#[derive(Drop)]
+#[derive(Clone, Copy)]
 pub struct Paused {
     pub receiver: Receiver,
     pub answer: Pausing,
@@ -75,28 +77,28 @@ pub struct Paused {
 
 // Why a message cannot be split: a DGN above 1FFFFh has no code in the announcement (12), or the message has not 9 to
 // 1785 bytes (13). The packets of any other can be numbered in a byte: 1785 bytes make 255.
-#[derive(Drop)]
+#[derive(Clone, Copy)]
 pub enum Unsplittable {
     NoCode,
     LengthNotSplit,
 }
 
 // The announcement is given, or why not.
-#[derive(Drop)]
+#[derive(Clone, Copy)]
 pub enum Announcing {
     Bytes,
     Refused(Unsplittable),
 }
 
 // The announcement's eight bytes; zeros where it is refused.
-#[derive(Drop)]
+#[derive(Clone, Copy)]
 pub struct Announced {
     pub answer: Announcing,
     pub bytes: [u8; 8],
 }
 
 // A packet, or why not; refusal 15 where the message has no packet of that number.
-#[derive(Drop)]
+#[derive(Clone, Copy)]
 pub enum Splitting {
     Bytes,
     Refused(Unsplittable),
@@ -104,7 +106,7 @@ pub enum Splitting {
 }
 
 // A data packet's eight bytes; zeros where it is refused.
-#[derive(Drop)]
+#[derive(Clone, Copy)]
 pub struct Split {
     pub answer: Splitting,
     pub bytes: [u8; 8],

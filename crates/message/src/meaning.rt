@@ -6,7 +6,7 @@ ghost use Rattle.message.specs.Private.{told_meant};
 use crate::limits::{LONGEST, SHORTEST, TO_ALL};
 use frame::standard;
 
-#[derive(Drop)]
+#[derive(Clone, Copy)]
 pub enum Meant {
     Malformed,
     Other,

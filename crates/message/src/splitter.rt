@@ -10,7 +10,7 @@ use crate::limits::{LONGEST, PACKET_BYTES, SHORTEST, TO_ALL};
 use crate::{Split, Splitting, Unsplittable, storage};
 use frame::standard;
 
-#[derive(Drop)]
+#[derive(Clone, Copy)]
 pub enum Splits {
     Into(u8),
     Refused(Unsplittable),

@@ -1,5 +1,7 @@
 // The node table (RULES 9): which NAME holds which address, and which NAME challenges it there. The table is a slice of
 // records that the caller lends; record a stands for address a.
+#![tactic(auto)]
+
 mod flat; // the work on values
 
 ghost use Rattle.std.specs.Prelude.{◌≡◌, ◌≤◌, length};
@@ -20,7 +22,7 @@ pub const TAKES_AFTER: u16 = 250;
 // A record: whether a node holds the address, and its NAME; the NAME that challenges it, 0 for none, and for how many
 // milliseconds it has, up to 249. A challenger has a higher NAME than the holder, and so is never 0. Where nobody holds
 // the address, or nobody challenges the holder, what is missing is all zeros.
-#[derive(Drop)]
+#[derive(Clone, Copy)]
 pub struct Node {
     pub present: bool,
     pub name: u64,
@@ -31,7 +33,7 @@ pub struct Node {
 // What came of a frame: a claim's record took the NAME; or stays with a lower one, which the NAME now challenges; or
 // which a lower NAME than this one challenges already, so that the claimer stands nowhere; a claim from 254, whose
 // sender has no address; or refusal 1, 2, or 3 to 6.
-#[derive(Drop)]
+#[derive(Clone, Copy)]
 pub enum Hearing {
     Taken(u8),
     Challenges(u8),
@@ -44,7 +46,7 @@ pub enum Hearing {
 }
 
 // In how many records the challenger took the address; or refusal 1 or 2.
-#[derive(Drop)]
+#[derive(Clone, Copy)]
 pub enum Pausing {
     Replaced(u8),
     TableTooShort,
@@ -52,7 +54,7 @@ pub enum Pausing {
 }
 
 // Who has an address, or refusal 1 or 2.
-#[derive(Drop)]
+#[derive(Clone, Copy)]
 pub enum LookedUp {
     Present(u64),
     Absent,
@@ -61,7 +63,7 @@ pub enum LookedUp {
 }
 
 // The address that a NAME has, or refusal 1 or 2.
-#[derive(Drop)]
+#[derive(Clone, Copy)]
 pub enum FoundAddress {
     At(u8),
     NoAddress,
@@ -70,7 +72,7 @@ pub enum FoundAddress {
 }
 
 // Which NAME challenges the holder of an address, and for how many milliseconds it has; or refusal 1 or 2.
-#[derive(Drop)]
+#[derive(Clone, Copy)]
 pub enum FoundChallenger {
     Waits { name: u64, wait: u16 },
     NoChallenger,
@@ -79,14 +81,14 @@ pub enum FoundChallenger {
 }
 
 // A claim: who sends it, and its NAME.
-#[derive(Drop)]
+#[derive(Clone, Copy)]
 struct Claim {
     source: u8,
     name: u64,
 }
 
 // What is done to a table. What it makes of one record `flat::after` alone says.
-#[derive(Drop)]
+#[derive(Clone, Copy)]
 enum Change {
     Nothing,
     Claims(Claim),
@@ -94,7 +96,7 @@ enum Change {
 }
 
 // A call judged: its answer, over how many records its change goes, and the change.
-#[derive(Drop)]
+#[derive(Clone, Copy)]
 struct Judged {
     answer: Hearing,
     turns: usize,
@@ -102,7 +104,7 @@ struct Judged {
 }
 
 // A pause judged in the same way.
-#[derive(Drop)]
+#[derive(Clone, Copy)]
 struct JudgedPause {
     answer: Pausing,
     turns: usize,

@@ -2,6 +2,8 @@
 // who has which address and what the tanks, chargers and slides of a coach said last, and says when that is stale. It
 // hears a recorded exchange on standard input, a line for each frame; a frame that it would send is printed behind the
 // word `send`.
+#![tactic(auto)]
+
 mod names;
 mod network;
 mod own_faults;
@@ -18,7 +20,7 @@ use rvc::messages::limits::STORAGE_BYTES;
 use state::Panel;
 
 // The panel while it listens: the lines of its input so far, and whether more may come.
-#[derive(Drop)]
+#[derive(Clone, Copy)]
 struct Listener {
     cutter: Cutter,
     panel: Panel,
@@ -26,7 +28,7 @@ struct Listener {
 }
 
 // After a line of a block, and where the next one begins.
-#[derive(Drop)]
+#[derive(Clone, Copy)]
 struct Turn {
     listener: Listener,
     next: usize,

@@ -8,14 +8,14 @@ use rvc::identifiers::standard::NO_ADDRESS;
 use rvc::node_table::{Hearing, LookedUp, Node, Pausing, RECORDS};
 
 // A table after a frame, and what was answered.
-#[derive(Drop)]
+#[derive(Clone, Copy)]
 struct After {
     table: [Node; RECORDS],
     answer: Hearing,
 }
 
 // A table after a pause, likewise.
-#[derive(Drop)]
+#[derive(Clone, Copy)]
 struct AfterPause {
     table: [Node; RECORDS],
     answer: Pausing,

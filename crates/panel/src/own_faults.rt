@@ -22,7 +22,7 @@ const SECOND_GRAY_TANK: u32 = 1 * 2048 + 18 * 8;
 const OPEN_CIRCUIT: i64 = 5;
 
 // The sender of our faults, and the milliseconds since its last step, 0 to 49.
-#[derive(Drop)]
+#[derive(Clone, Copy)]
 pub struct Faults {
     pub sender: Sender,
     pub since_step: u16,

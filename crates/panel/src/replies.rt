@@ -12,7 +12,7 @@ use rvc::fields::{Row, Value};
 use rvc::identifiers::Formed;
 
 // What the sender of a wired tank says, in quarters.
-#[derive(Drop)]
+#[derive(Clone, Copy)]
 struct Wired {
     instance: i64,
     level: Value,

@@ -13,7 +13,7 @@ use rvc::node_table::{Node, RECORDS};
 const STALE_AFTER: u32 = 5000;
 
 // Why a field shows no number.
-#[derive(Drop)]
+#[derive(Clone, Copy)]
 pub enum Missing {
     NoData,
     OutOfRange,
@@ -23,7 +23,7 @@ pub enum Missing {
 }
 
 // What a field shows: a number of its steps, or why it has none.
-#[derive(Drop)]
+#[derive(Clone, Copy)]
 pub enum Shown {
     Is(i64),
     Not(Missing),
@@ -31,7 +31,7 @@ pub enum Shown {
 
 // A tank is filled to `level` parts of `resolution`. Its silence is the milliseconds since it was heard, counted until
 // they make it stale.
-#[derive(Drop)]
+#[derive(Clone, Copy)]
 pub struct Tank {
     pub heard: bool,
     pub silence: u32,
@@ -40,7 +40,7 @@ pub struct Tank {
 }
 
 // Voltage and current are in twentieths of a volt and of an ampere. Its silence is counted as a tank's.
-#[derive(Drop)]
+#[derive(Clone, Copy)]
 pub struct Charger {
     pub heard: bool,
     pub silence: u32,
@@ -51,14 +51,14 @@ pub struct Charger {
 
 // Whether the slide's lock is secured: 0 if it is, 1 if it is not. A slide speaks when something changes (6.14.1), so
 // its silence makes nothing stale.
-#[derive(Drop)]
+#[derive(Clone, Copy)]
 pub struct Slide {
     pub heard: bool,
     pub lock: Shown,
 }
 
 // Tanks 0 to 3 (fresh, black, gray, LPG), chargers 1 and 2, and the slides of rooms 1 to 4.
-#[derive(Drop)]
+#[derive(Clone, Copy)]
 pub struct Panel {
     pub claim: Claim,
     pub nodes: [Node; RECORDS],

@@ -1,5 +1,6 @@
 // The library as its users see it: every public call and type, a module for each part of RULES, fast packets beside
 // long messages. A method goes with its type.
+#![tactic(auto)]
 
 // RULES 3: identifiers taken apart and formed, frames checked, bytes as one number.
 pub mod identifiers;

@@ -5,6 +5,8 @@
 // is the `at` of the next piece. It refuses nothing. A piece that does not fit behind `at` is left out whole: no byte
 // changes, and `at` itself is answered. So a builder who lends enough bytes need not look, and one who lends too few
 // sees that an answer did not move.
+#![tactic(auto)]
+
 ghost use Rattle.std.specs.Prelude.{◌≡◌, ◌+◌, ◌*◌, ◌≤◌, ◌<◌, length};
 ghost use Rattle.words.specs.Words.{◌≤?◌};
 ghost use Rattle.text.specs.Text.{glyph, digits, byte_pairs};

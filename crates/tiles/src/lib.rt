@@ -1,5 +1,7 @@
 // A wall panel of 32 tiles (RULES 18). Each tile names a row of the catalogue and an instance, and keeps what the
 // latest frame said of them. It stands above the library, of which it uses public calls and their promises alone.
+#![tactic(auto)]
+
 mod frames;
 mod readings;
 mod rules;
@@ -19,7 +21,7 @@ pub const TILES: usize = 32;
 
 // What a tile shows: a number in the unit of its row, or the class where there is none. Degrees (°C), percent and hertz
 // are single-precision numbers and exact; volts and amperes are counted in twentieths.
-#[derive(Drop)]
+#[derive(Clone, Copy)]
 pub enum Reading {
     // The tile names no row.
     Blank,
@@ -35,20 +37,20 @@ pub enum Reading {
 
 // A tile: the row that it names by its number in the catalogue, an instance, and the latest reading. Row and instance
 // of a blank tile are 0.
-#[derive(Drop)]
+#[derive(Clone, Copy)]
 pub struct Tile {
     pub row: usize,
     pub instance: u8,
     pub reading: Reading,
 }
 
-#[derive(Drop)]
+#[derive(Clone, Copy)]
 pub struct Panel {
     pub tiles: [Tile; TILES],
 }
 
 // The tile is named; or refusal 2, 11, 23, 24.
-#[derive(Drop)]
+#[derive(Clone, Copy)]
 pub enum Naming {
     Named,
     BrokenState,
@@ -57,28 +59,28 @@ pub enum Naming {
     RowNotAccepted,
 }
 
-#[derive(Drop)]
+#[derive(Clone, Copy)]
 pub struct Named {
     pub panel: Panel,
     pub answer: Naming,
 }
 
 // Which tiles took their reading from the frame: bit k stands for tile k. Or refusal 2, 3 to 6.
-#[derive(Drop)]
+#[derive(Clone, Copy)]
 pub enum Hearing {
     Heard(u32),
     BrokenState,
     BadFrame(BadFrame),
 }
 
-#[derive(Drop)]
+#[derive(Clone, Copy)]
 pub struct Heard {
     pub panel: Panel,
     pub answer: Hearing,
 }
 
 // What a tile shows; or refusal 2, 23.
-#[derive(Drop)]
+#[derive(Clone, Copy)]
 pub enum Asking {
     Is(Reading),
     BrokenState,

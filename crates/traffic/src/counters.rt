@@ -29,7 +29,7 @@ pub const TABLE_SIZE: usize = 384;
 
 // How many lines there were, how many were refused, how many are frames of pairs without counters, how many pairs have
 // counters, and the time that has passed.
-#[derive(Drop)]
+#[derive(Clone, Copy)]
 pub struct Totals {
     pub lines: u32,
     pub refused: u32,
@@ -39,7 +39,7 @@ pub struct Totals {
 }
 
 // The counters of one pair.
-#[derive(Drop)]
+#[derive(Clone, Copy)]
 pub struct Row {
     pub frames: u64,
     pub last: u64,

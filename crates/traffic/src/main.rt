@@ -1,5 +1,7 @@
 // Reads a capture of the bus from standard input and prints what each pair of sender and DGN had of it, in blocks and
 // with constant memory (RULES 15).
+#![tactic(auto)]
+
 ghost use Rattle.std.specs.Prelude.{◌≡◌, ◌≤◌, length};
 ghost use Rattle.traffic.specs.Counters.{table_size};
 ghost use Rattle.traffic.specs.Reader.{out_room, Ready, BlockTaken};
@@ -14,7 +16,7 @@ use libc::{STDIN_FILENO, STDOUT_FILENO};
 use reader::{Going, Reader};
 
 // The reader after a block, and whether another is to be read.
-#[derive(Drop)]
+#[derive(Clone, Copy)]
 struct Fed {
     reader: Reader,
     more: bool,

@@ -9,14 +9,14 @@ use crate::seen::Seen;
 use crate::{counters, report, seen};
 use capture::{Cutter, Cutting, Ending};
 
-#[derive(Drop)]
+#[derive(Clone, Copy)]
 pub struct Reader {
     pub cutter: Cutter,
     pub totals: Totals,
 }
 
 // Whether a run goes on in its block, has used it up, or has read all the lines that are read.
-#[derive(Drop)]
+#[derive(Clone, Copy)]
 pub enum Going {
     On,
     Used,
@@ -24,7 +24,7 @@ pub enum Going {
 }
 
 // Where a run leaves the reader: the position up to which the block was read, and the place behind what was printed.
-#[derive(Drop)]
+#[derive(Clone, Copy)]
 pub struct Run {
     pub reader: Reader,
     pub read_to: usize,
@@ -33,7 +33,7 @@ pub struct Run {
 }
 
 // The totals after a line, and the place behind what it printed.
-#[derive(Drop)]
+#[derive(Clone, Copy)]
 struct Step {
     totals: Totals,
     written_to: usize,

@@ -9,13 +9,13 @@ use capture::Reading;
 use frame::Verdict;
 
 // The number of a refusal, or the pair of sender and DGN of a frame: bits 24 to 0 of its identifier.
-#[derive(Drop)]
+#[derive(Clone, Copy)]
 pub enum Says {
     Refused(u32),
     Frame(u32),
 }
 
-#[derive(Drop)]
+#[derive(Clone, Copy)]
 pub struct Seen {
     pub pause: u16,
     pub says: Says,

@@ -1,5 +1,7 @@
 // A wall panel of 32 tiles, shown in the terminal. It reads lines from standard input: those that name a tile, and
 // those of a capture of the bus. A line that is refused is told at once; at the end of the input the wall is printed.
+#![tactic(auto)]
+
 mod show;
 mod state;
 mod tile_line;
@@ -12,7 +14,7 @@ use rvc::captures::{Cutter, Cutting, Ending, Reading};
 use state::Wall;
 
 // The wall while it listens: the lines of its input so far, and whether more may come.
-#[derive(Drop)]
+#[derive(Clone, Copy)]
 struct Listener {
     cutter: Cutter,
     wall: Wall,
@@ -20,7 +22,7 @@ struct Listener {
 }
 
 // After a line of a block, and where the next one begins.
-#[derive(Drop)]
+#[derive(Clone, Copy)]
 struct Turn {
     listener: Listener,
     next: usize,

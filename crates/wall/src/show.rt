@@ -13,7 +13,7 @@ const COLUMNS: usize = 4;
 const WIDTH: usize = 18;
 
 // The three lines of a box.
-#[derive(Drop)]
+#[derive(Clone, Copy)]
 enum Part {
     Title,
     Value,

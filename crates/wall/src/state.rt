@@ -8,7 +8,7 @@ const STALE_AFTER: u32 = 5000;
 
 // Beside a tile: its name, filled up with spaces; whether a frame for it came since it was named; and the milliseconds
 // since the last one, counted until they make it stale.
-#[derive(Drop)]
+#[derive(Clone, Copy)]
 pub struct Label {
     pub name: [u8; NAME_BYTES],
     pub heard: bool,
@@ -16,14 +16,14 @@ pub struct Label {
 }
 
 // The tiles, and the label of each.
-#[derive(Drop)]
+#[derive(Clone, Copy)]
 pub struct Wall {
     pub panel: Panel,
     pub labels: [Label; TILES],
 }
 
 // The wall after a line, and the number of the refusal; 0 is none.
-#[derive(Drop)]
+#[derive(Clone, Copy)]
 pub struct Step {
     pub wall: Wall,
     pub refusal: u8,

@@ -7,7 +7,7 @@ use rvc::texts;
 pub const NAME_BYTES: usize = 14;
 
 // A line taken apart; zeros and spaces where it is malformed. The name is filled up with spaces.
-#[derive(Drop)]
+#[derive(Clone, Copy)]
 pub struct TileLine {
     pub sound: bool,
     pub tile: usize,
@@ -18,21 +18,21 @@ pub struct TileLine {
 }
 
 // A number in a line, and the place behind it.
-#[derive(Drop)]
+#[derive(Clone, Copy)]
 struct Number {
     value: u32,
     next: usize,
 }
 
 // Whether a number is spelled as it has to be.
-#[derive(Drop)]
+#[derive(Clone, Copy)]
 enum Spelled {
     Is(Number),
     Malformed,
 }
 
 // A run of digits: what they spell, and how many there are.
-#[derive(Drop)]
+#[derive(Clone, Copy)]
 struct Run {
     value: u32,
     count: usize,

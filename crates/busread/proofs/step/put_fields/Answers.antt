@@ -1,0 +1,59 @@
+-- `busread::step::put_fields` meets its contract. Assumes nothing.
+use mathlib.Core.Path.{sym}
+use Prim.Native.Nat.{◌≤◌, ◌-◌, ◌*◌, ◌+◌, ◌/◌, ◌%◌}
+use native.Mathlib.Nat.{div-one}
+use lib.ListN.{take}
+use lib.Seq.{length-take-le}
+use Rattle.frame.specs.Identifier.{source_of, dgn_of}
+use Rattle.text.specs.Pieces.{Wrote}
+use Rattle.busread.specs.Report.{head_text, fields_text}
+use Rattle.text.proofs.Pieces.{behind, nothing}
+use Rattle.busread.proofs.Fields.{row_there, row_missing, span_there, span_fits, room_left, rows_in, fields_turn}
+use Rattle.busread.proofs.Fields.{whole_span}
+use borrow.Author.Rules.{rules}
+use native.Mathlib.Omega.{arith}
+use Rattle.busread.proofs.step.put_fields.Goals as goal
+
+pub loop-i-init : goal.loop-i-init
+unfolding fields_text
+loop-i-init c = (omega arith, span_fits c.requires.1 c.rows_in-span.ensures, omega arith, nothing c.args.out.now c.args.at (omega arith))
+
+pub shape_of-out-in_default : goal.shape_of-out-in_default
+shape_of-out-in_default c = c.loop-i.invariant.3.room
+
+pub returns-in_default : goal.returns-in_default
+returns-in_default c = row_missing c.requires.1 c.row_in-looked.ensures c.in_default.is (omega arith)
+
+pub slice_bounds-head-end : goal.slice_bounds-head-end
+slice_bounds-head-end c = c.put_head-size.ensures.0.fits
+
+pub slice_bounds-put_field-end : goal.slice_bounds-put_field-end
+slice_bounds-put_field-end c = sym (length-take-le c.put_head-size.result c.put_head-size.new.0 c.put_head-size.ensures.0.fits)
+
+pub put_field-end-requires : goal.put_field-end-requires
+put_field-end-requires c = (
+  let start = c in
+      let span = c.rows_in-span.result in
+      let l = c.loop-i in
+      room_left start.args.at l.i span.start l.invariant.2 (omega arith) l.invariant.1 start.requires.0 l.invariant.3.room,
+  rw (length-take-le c.put_head-size.result c.put_head-size.new.0 c.put_head-size.ensures.0.fits) c.put_head-size.ensures.1,
+)
+
+pub loop-i-preserved : goal.loop-i-preserved
+loop-i-preserved c =
+    let l = c.loop-i in
+    let a = c.args in
+    let span = c.rows_in-span.result in
+    let e = row_there c.requires.1 c.row_in-looked.ensures c.in-Is.is (omega arith) in
+    (omega arith, l.invariant.1, omega arith, rw (fields_turn (head_text a.number (a.id % 256) (a.id / 256 % 131072)) c.number_of-content.result span l.i (omega arith) l.invariant.1, ← e, ← c.classify-field.ensures.answer) (behind l.invariant.3 (rw c.put_head-size.ensures.0.written at c.put_field-end.ensures.0)))
+
+pub shape_of-out : goal.shape_of-out
+shape_of-out c = c.loop-i.invariant.3.room
+
+pub returns : goal.returns
+unfolding source_of dgn_of
+returns c =
+    let l = c.loop-i in
+    let a = c.args in
+    let e = whole_span c.rows_in-span.result (a.id / 256 % 131072) l.i (span_there c.requires.1 c.rows_in-span.ensures) (omega arith) in
+    (rw (div-one, ← c.number_of-content.ensures.answer, ← e) l.invariant.3, omega arith)

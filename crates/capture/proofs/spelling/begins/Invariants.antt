@@ -1,0 +1,15 @@
+-- What the loop of `capture::spelling::begins` keeps, and why it ends.
+use mathlib.Core.Path.{◌≡◌, sym, ◌∙◌}
+use Prim.Native.Nat.{◌≤◌, ◌<◌, ◌+◌, ◌-◌}
+use native.Mathlib.Omega.{arith}
+use borrow.Author.Rules.{rules}
+use lib.ListN.{length, drop}
+use Rattle.capture.specs.Line.{begins_with}
+use Rattle.capture.proofs.Lines.{begins_pass, begins_stop, begins_end}
+use Rattle.capture.proofs.spelling.begins.Given as goal
+
+abbrev pub invariant-loop-i : goal.invariant-loop-i
+invariant-loop-i l = (l.i ≤ length l.key) × (begins_with l.key (drop l.at l.line) ≡ begins_with (drop l.i l.key) (drop (l.at + l.i) l.line))
+
+abbrev pub decreases-loop-i : goal.decreases-loop-i
+decreases-loop-i l = length l.key - l.i

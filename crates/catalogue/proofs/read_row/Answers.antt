@@ -1,0 +1,34 @@
+-- `catalogue::read_row` meets its contract. Assumes nothing.
+use mathlib.Core.Path.{sym, ap, ◌∙◌}
+use borrow.Author.Rules.{rules}
+use lib.ListN.{length}
+use Rattle.catalogue.specs.Promises.{told_outcome}
+use Rattle.catalogue.specs.Catalogue.{field_in}
+use Rattle.frame.specs.Promises.{refusal_of}
+use Rattle.words.specs.Words.{gives}
+use Rattle.frame.specs.Bytes.{number_of}
+use Rattle.catalogue.proofs.Found.{read_none, read_row, found_bytes}
+use Rattle.catalogue.proofs.read_row.Goals as goal
+
+pub returns-in-Bad : goal.returns-in-Bad
+returns-in-Bad c =
+    let s = c in
+    let why = c.in-Bad.why in
+    let e = sym c.open_row-opened.ensures.outcome ∙ ap told_outcome c.in-Bad.is in
+    record { answer = read_none s.args.row s.args.id s.args.bytes.now (refusal_of why) e }
+
+pub returns-in-NoSuchRow : goal.returns-in-NoSuchRow
+returns-in-NoSuchRow c =
+    let s = c in
+    let e = sym c.open_row-opened.ensures.outcome ∙ ap told_outcome c.in-NoSuchRow.is in
+    record { answer = read_none s.args.row s.args.id s.args.bytes.now 11 e }
+
+pub returns-in-At : goal.returns-in-At
+returns-in-At c =
+    let s = c in
+    let bs = s.args.bytes.now in
+    let r = c.open_row-opened in
+    let row = c.in-At.row in
+    let e = sym r.ensures.outcome ∙ ap told_outcome c.in-At.is in
+    let f = r.ensures.number ∙ ap number_of (found_bytes s.args.row s.args.id (length bs) row e bs) in
+    record { answer = ap gives (c.classify.ensures.answer ∙ ap (field_in row) f) ∙ read_row s.args.row s.args.id bs row e }

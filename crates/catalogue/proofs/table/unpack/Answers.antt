@@ -1,0 +1,8 @@
+-- `catalogue::table::unpack` meets its contract. Assumes nothing.
+use borrow.Author.Rules.{rules}
+use Rattle.catalogue.specs.Packed.{unpacked}
+use Rattle.catalogue.proofs.table.unpack.Goals as goal
+
+pub returns : goal.returns
+unfolding unpacked
+returns c = rw c.unit_of.ensures

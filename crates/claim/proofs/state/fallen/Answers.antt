@@ -1,0 +1,6 @@
+-- `claim::state::fallen` meets its contract. Assumes nothing.
+use borrow.Author.Rules.{rules}
+use Rattle.claim.proofs.state.fallen.Goals as goal
+
+pub returns : goal.returns
+returns c = c.placed.ensures

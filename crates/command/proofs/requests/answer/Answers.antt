@@ -1,0 +1,28 @@
+-- `command::requests::answer` meets its contract. Assumes nothing.
+use mathlib.Core.Path.{refl, sym, ◌∙◌}
+use borrow.Author.Rules.{rules}
+use Rattle.command.specs.declared.Requesting.TheVariants.{NothingToDo, DgnTooLarge}
+use Rattle.command.specs.Requests.{nothing_to_do}
+use Rattle.words.specs.Words.{refused, gives}
+use Rattle.command.proofs.Answers.{bare_requested_lem, answer_other, answer_large, answer_reply}
+use Rattle.command.proofs.requests.answer.Goals as goal
+
+pub returns-then-catalogue_form-ne-REQUEST : goal.returns-then-catalogue_form-ne-REQUEST
+returns-then-catalogue_form-ne-REQUEST c =
+    let a = c.args in
+    let f = c.catalogue_form.ensures.answer in
+    rw (answer_other a.host.edition a.parts _ _ _ (λ e. c.if-catalogue_form-ne-REQUEST.true (f ∙ e))) (bare_requested_lem (gives nothing_to_do) NothingToDo _ refl refl refl c.bare.ensures)
+
+pub returns-then-asked-gt-GREATEST_DGN : goal.returns-then-asked-gt-GREATEST_DGN
+returns-then-asked-gt-GREATEST_DGN c =
+    let d = c in
+    let a = d.args in
+    let f = d.catalogue_form.ensures.answer in
+    rw (answer_large a.host.edition a.parts _ _ _ _ (sym f ∙ d.if-catalogue_form-ne-REQUEST.false) d.asked_of-asked.ensures c.if-asked-gt-GREATEST_DGN.true) (bare_requested_lem (refused 17) DgnTooLarge _ refl refl refl c.bare-then-asked-gt-GREATEST_DGN.ensures)
+
+pub returns : goal.returns
+returns c =
+    let d = c in
+    let a = d.args in
+    let f = d.catalogue_form.ensures.answer in
+    rw (answer_reply a.host.edition a.parts _ _ _ _ (sym f ∙ d.if-catalogue_form-ne-REQUEST.false) d.asked_of-asked.ensures c.if-asked-gt-GREATEST_DGN.false) c.reply.ensures

@@ -1,0 +1,10 @@
+-- `command::requests::asked_of` meets its contract. Assumes nothing.
+use borrow.Author.Rules.{rules}
+use Rattle.command.proofs.Answers.{asked_read}
+use Rattle.command.proofs.requests.asked_of.Goals as goal
+
+pub returns : goal.returns
+returns c =
+    let d = c in
+    let a = d.args in
+    asked_read a.edition a.parts a.bytes _ _ d.dgn_of-dgn.ensures.answer c.instance_asked-instance.ensures

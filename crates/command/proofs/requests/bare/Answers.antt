@@ -1,0 +1,6 @@
+-- `command::requests::bare` meets its contract. Assumes nothing.
+use borrow.Author.Rules.{rules}
+use Rattle.command.proofs.requests.bare.Goals as goal
+
+pub returns : goal.returns
+returns c = rw c.none.ensures

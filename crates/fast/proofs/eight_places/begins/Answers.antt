@@ -1,0 +1,37 @@
+-- `fast::eight_places::begins` meets its contract. Assumes nothing.
+use mathlib.Core.Path.{◌≡◌, refl, sym, ap, ◌∙◌}
+use Prim.Native.Nat.{ℕ}
+use borrow.Author.Rules.{rules}
+use lib.ListN.{length}
+use Rattle.words.proofs.Lists.{length_field}
+use Rattle.fast.specs.FastPacket.{pair_of}
+use Rattle.fast.specs.Receiver.{place_for}
+use Rattle.fast.specs.declared.Answer.TheVariants.{NoPlaceFree}
+use Rattle.fast.proofs.Steps.{left, left_as, place_for_below, begins_at, begins_nowhere}
+use Rattle.fast.proofs.eight_places.begins.Goals as goal
+
+pub enters_at-requires : goal.enters_at-requires
+enters_at-requires c =
+    let b = c in
+    let a = b.args in
+    let e = ap (λ (n : ℕ). place_for n a.r.places) (sym b.pair_of.ensures) ∙ sym b.place_for.ensures
+    ∙ c.in-At.is in
+    let n : length a.r.places ≡ 8 = search length_field in
+    (place_for_below (pair_of a.p.sender a.p.dgn) a.r.places _ n e, b.requires)
+
+pub returns-in-At : goal.returns-in-At
+returns-in-At c =
+    let b = c in
+    let a = b.args in
+    let e = ap (λ (n : ℕ). place_for n a.r.places) (sym b.pair_of.ensures) ∙ sym b.place_for.ensures
+    ∙ c.in-At.is in
+    left_as (begins_at a.p a.bytes a.r a.storage.now _ e) c.enters_at.ensures
+
+pub returns-in-Nowhere : goal.returns-in-Nowhere
+returns-in-Nowhere c =
+    let b = c in
+    let a = b.args in
+    let e = ap (λ (n : ℕ). place_for n a.r.places) (sym b.pair_of.ensures) ∙ sym b.place_for.ensures
+    ∙ c.in-Nowhere.is in
+    left _ a.storage.now _ (begins_nowhere a.p a.bytes a.r a.storage.now e) c.keeps.result a.r
+    NoPlaceFree c.keeps.ensures refl refl

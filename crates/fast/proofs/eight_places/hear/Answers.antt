@@ -1,0 +1,40 @@
+-- `fast::eight_places::hear` meets its contract. Assumes nothing.
+use mathlib.Core.List.{List}
+use mathlib.Core.Path.{◌≡◌, refl, sym, ap, ◌∙◌}
+use Prim.Native.Nat.{ℕ}
+use borrow.Author.Rules.{rules}
+use Rattle.words.specs.Words.{Told}
+use Rattle.frame.specs.Promises.{told_verdict, bytes_if}
+use Rattle.frame.specs.declared.Parts.{Parts}
+use Rattle.fast.specs.FastPacket.{Meaning, meant}
+use Rattle.fast.specs.Receiver.{names_of, by_meaning}
+use Rattle.fast.specs.declared.Answer.TheVariants.{BadFrame}
+use Rattle.fast.proofs.Steps.{left, left_as, meaning_refused, meaning_given}
+use Rattle.fast.proofs.eight_places.hear.Goals as goal
+
+pub returns-in-Bad : goal.returns-in-Bad
+returns-in-Bad c =
+    let v = c in
+    let k = v in
+    let a = k.args in
+    let e = sym k.check-checked.ensures.answer ∙ ap told_verdict v.in-Bad.is in
+    left _ a.storage.now _
+    (ap (λ (m : Told Meaning). by_meaning m a.bytes.now a.r a.storage.now)
+    (meaning_refused (names_of a.r) a.id a.bytes.now _ e)) c.keeps.result a.r
+    (BadFrame v.in-Bad.why) c.keeps.ensures refl refl
+
+pub returns-in-Sound : goal.returns-in-Sound
+returns-in-Sound c =
+    let v = c in
+    let k = v in
+    let a = k.args in
+    let names = names_of a.r in
+    let p = v.in-Sound.parts in
+    let e = sym k.check-checked.ensures.answer ∙ ap told_verdict v.in-Sound.is in
+    let b : k.check-checked.result.bytes ≡ a.bytes.now =
+    k.check-checked.ensures.data_bytes ∙ ap (λ (t : Told Parts). bytes_if t a.bytes.now) e in
+    left_as
+    (ap (λ (m : Told Meaning). by_meaning m a.bytes.now a.r a.storage.now)
+    (meaning_given names a.id a.bytes.now p e)
+    ∙ ap (λ (x : List ℕ). by_meaning (meant names p.source p.dgn x) x a.r a.storage.now) (sym b))
+    c.heed.ensures

@@ -1,0 +1,17 @@
+-- What the loop of `fast::names::each_may_be_named` keeps, and why it ends.
+use mathlib.Core.Path.{◌≡◌, refl, sym, ◌∙◌}
+use Prim.Native.Nat.{◌≤◌, ◌<◌, ◌-◌}
+use native.Mathlib.Omega.{arith}
+use borrow.Author.Tests.{not-true, not-false}
+use borrow.Author.Rules.{rules}
+use lib.ListN.{length, drop}
+use Rattle.words.specs.Lists.{every}
+use Rattle.words.proofs.Lists.{every_pass, every_stop, every_end}
+use Rattle.fast.specs.Names.{may_be_named}
+use Rattle.fast.proofs.names.each_may_be_named.Given as goal
+
+abbrev pub invariant-loop-i : goal.invariant-loop-i
+invariant-loop-i l = (l.i ≤ length l.names) × (every may_be_named l.names ≡ every may_be_named (drop l.i l.names))
+
+abbrev pub decreases-loop-i : goal.decreases-loop-i
+decreases-loop-i l = length l.names - l.i

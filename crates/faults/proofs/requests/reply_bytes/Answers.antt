@@ -1,0 +1,28 @@
+-- `faults::requests::reply_bytes` meets its contract. Assumes nothing.
+use mathlib.Core.Path.{◌≡◌, sym, ◌∙◌}
+use borrow.Author.Rules.{rules}
+use lib.ListN.{length}
+use Rattle.words.proofs.Lists.{length_field}
+use Rattle.faults.specs.Fault.{is_active}
+use Rattle.faults.specs.Requests.{reply_bytes}
+use Rattle.faults.proofs.Steps.{found_below}
+use Rattle.faults.proofs.requests.reply_bytes.Goals as goal
+
+pub bytes_at-requires : goal.bytes_at-requires
+bytes_at-requires c =
+    let k = c in
+    let fs = k.args.s.faults in
+    let n : length fs ≡ 32 = search length_field in
+    found_below is_active fs _ n (sym k.lowest_active.ensures ∙ c.in-At.is)
+
+pub returns-in-At : goal.returns-in-At
+unfolding reply_bytes
+returns-in-At c =
+    let e = sym c.lowest_active.ensures ∙ c.in-At.is in
+    c.bytes_at.ensures ∙ sym (rw e)
+
+pub returns-in-Nowhere : goal.returns-in-Nowhere
+unfolding reply_bytes
+returns-in-Nowhere c =
+    let e = sym c.lowest_active.ensures ∙ c.in-Nowhere.is in
+    c.none_active.ensures ∙ sym (rw e)

@@ -1,0 +1,36 @@
+-- `faults::searches::lowest_active` meets its contract. Assumes nothing.
+use mathlib.Core.Path.{◌≡◌, refl, sym, ap, ◌∙◌}
+use mathlib.Core.Bool.{not}
+use Prim.Native.Nat.{◌≤◌, ◌<◌, ◌-◌}
+use native.Mathlib.Omega.{arith}
+use borrow.Author.Rules.{rules}
+use borrow.Author.Tests.{eq-eqb, ne_eqb}
+use lib.ListN.{length, drop}
+use Rattle.words.specs.Lists.{first_from, first}
+use Rattle.words.proofs.Lists.{length_field, search_pass, search_stop, search_end}
+use Rattle.faults.specs.Fault.{is_active}
+use Rattle.faults.proofs.Steps.{outside}
+use Rattle.faults.proofs.searches.lowest_active.Goals as goal
+
+pub loop-i-init : goal.loop-i-init
+loop-i-init c = (search rules, search length_field, refl)
+
+pub returns-then-f-ne0 : goal.returns-then-f-ne0
+returns-then-f-ne0 c =
+    let l = c.loop-i in
+    let fs = c.args.s.faults in
+    let h : l.i < length fs = omega arith in
+    sym (l.invariant.2 ∙ search_stop is_active fs l.i outside h (ap not (ne_eqb _ _ c.if-f-ne0.true)))
+
+pub loop-i-preserved : goal.loop-i-preserved
+loop-i-preserved c =
+    let l = c.loop-i in
+    let fs = c.args.s.faults in
+    let h : l.i < length fs = omega arith in
+    (search rules, l.invariant.1, l.invariant.2 ∙ search_pass is_active fs l.i outside h (ap not (eq-eqb _ _ c.if-f-ne0.false)))
+
+pub returns : goal.returns
+returns c =
+    let l = c.loop-i in
+    let fs = c.args.s.faults in
+    sym (l.invariant.2 ∙ search_end is_active fs l.i (omega arith))

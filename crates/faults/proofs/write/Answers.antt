@@ -1,0 +1,10 @@
+-- `faults::write` meets its contract. Assumes nothing.
+use borrow.Author.Rules.{rules}
+use Rattle.faults.proofs.Table.{write_by}
+use Rattle.faults.proofs.write.Goals as goal
+
+pub returns : goal.returns
+returns c =
+    let w = c in
+    let a = w.args in
+    write_by a.n a.id a.bytes.now a.value _ _ _ w.nth.ensures w.write_row.ensures

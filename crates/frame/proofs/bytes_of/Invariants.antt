@@ -1,0 +1,16 @@
+-- What the loop of `frame::bytes_of` keeps, and why it ends.
+use mathlib.Core.List.{◌++◌}
+use mathlib.Core.Path.{◌≡◌, refl}
+use Prim.Native.Nat.{◌-◌, ◌≤◌}
+use native.Mathlib.Omega.{arith}
+use borrow.Author.Rules.{rules}
+use lib.ListN.{length, take, length-set}
+use Rattle.frame.specs.Bytes.{bytes_of}
+use Rattle.frame.proofs.Bytes.{bytes_turn, bytes_end}
+use Rattle.frame.proofs.bytes_of.Given as goal
+
+abbrev pub invariant-loop-i : goal.invariant-loop-i
+invariant-loop-i l = (l.i ≤ 8) × (length l.bytes ≡ 8) × (take l.i l.bytes ++ bytes_of (8 - l.i) l.rest ≡ bytes_of 8 l.number)
+
+abbrev pub decreases-loop-i : goal.decreases-loop-i
+decreases-loop-i l = 8 - l.i

@@ -1,0 +1,15 @@
+-- What the loop of `frame::eight` keeps, and why it ends.
+use mathlib.Core.Path.{◌≡◌, sym, ◌∙◌}
+use Prim.Native.Nat.{◌-◌, ◌≤◌}
+use native.Mathlib.Omega.{arith}
+use borrow.Author.Rules.{rules}
+use lib.Seq.{take_all}
+use lib.ListN.{length, take, length-set}
+use Rattle.frame.proofs.Bytes.{copy_turn}
+use Rattle.frame.proofs.eight.Given as goal
+
+abbrev pub invariant-loop-i : goal.invariant-loop-i
+invariant-loop-i l = (l.i ≤ 8) × (length l.bytes ≡ 8) × (length l.out ≡ 8) × (take l.i l.out ≡ take l.i l.bytes)
+
+abbrev pub decreases-loop-i : goal.decreases-loop-i
+decreases-loop-i l = 8 - l.i

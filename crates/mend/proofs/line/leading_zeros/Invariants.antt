@@ -1,0 +1,15 @@
+-- What the loop of `mend::line::leading_zeros` keeps, and why it ends.
+use mathlib.Core.Path.{◌≡◌, refl, sym, ◌∙◌}
+use Prim.Native.Nat.{◌≤◌, ◌<◌, ◌+◌, ◌-◌}
+use native.Mathlib.Omega.{arith}
+use borrow.Author.Rules.{rules}
+use lib.ListN.{length, drop}
+use Rattle.mend.specs.Mending.{without_zeros}
+use Rattle.mend.proofs.Finding.{zero_stop, zero_pass, zero_end}
+use Rattle.mend.proofs.line.leading_zeros.Given as goal
+
+abbrev pub invariant-loop-i : goal.invariant-loop-i
+invariant-loop-i l = (l.i ≤ length l.part) × (without_zeros l.part ≡ without_zeros (drop l.i l.part))
+
+abbrev pub decreases-loop-i : goal.decreases-loop-i
+decreases-loop-i l = length l.part - l.i

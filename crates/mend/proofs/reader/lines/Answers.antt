@@ -1,0 +1,52 @@
+-- `mend::reader::lines` meets its contract. Assumes nothing.
+use mathlib.Core.Path.{◌≡◌, refl, ◌∙◌}
+use mathlib.Core.Logic.{◌⊎◌, inl, inr, ⊎_elim}
+use Prim.Native.Nat.{◌≤◌, ◌<◌, ◌-◌}
+use native.Mathlib.Omega.{arith}
+use borrow.Author.Rules.{rules}
+use lib.ListN.{length}
+use Rattle.mend.specs.Reader.{Done}
+use Rattle.mend.specs.declared.reader.Going.TheVariants.{On}
+use Rattle.mend.proofs.Reading.{begins, stopped, used_not_on, over_not_on}
+use Rattle.mend.proofs.reader.lines.Goals as goal
+
+pub loop-written_to-init : goal.loop-written_to-init
+loop-written_to-init c = (begins, omega arith, refl, omega arith, inl refl)
+
+pub turn-turned-requires : goal.turn-turned-requires
+turn-turned-requires c = (omega arith, omega arith)
+
+pub loop-written_to-smaller : goal.loop-written_to-smaller
+loop-written_to-smaller c =
+    let h = c.turn-turned.ensures.advances c.in-On.is in
+    omega arith
+
+pub loop-written_to-preserved : goal.loop-written_to-preserved
+loop-written_to-preserved c =
+    let t = c in
+    let l = t.loop-written_to in
+    let a = t.args in
+    let e = c.in-On.is in
+    let h = t.turn-turned.ensures.advances e in (
+      rw e at (t.turn-turned.ensures.does a.from a.cutter l.invariant.0),
+      t.turn-turned.ensures.fits,
+      t.turn-turned.auto.1.1.1.1.0 ∙ l.invariant.2,
+      omega arith,
+      inr (omega arith, h.1),
+    )
+
+pub returns-in-Used : goal.returns-in-Used
+returns-in-Used c =
+    let t = c in
+    stopped t.loop-written_to.invariant.0 t.turn-turned.ensures (used_not_on c.in-Used.is)
+
+pub returns-in-Over : goal.returns-in-Over
+returns-in-Over c =
+    let t = c in
+    stopped t.loop-written_to.invariant.0 t.turn-turned.ensures (over_not_on c.in-Over.is)
+
+pub returns : goal.returns
+returns c =
+    let l = c.loop-written_to in
+    rw c.left.ensures
+    (record { done = l.invariant.0; fits = l.invariant.1; advances = λ e. ⊎_elim (λ z. absurd (omega arith)) (λ h. h) l.invariant.4 })

@@ -1,0 +1,33 @@
+-- `message::eight_places::open_by` meets its contract. Assumes nothing.
+use mathlib.Core.Path.{◌≡◌, refl, sym, ◌∙◌}
+use Prim.Native.Nat.{◌≤◌, ◌<◌, ◌-◌}
+use native.Mathlib.Omega.{arith}
+use borrow.Author.Rules.{rules}
+use lib.ListN.{length, drop}
+use Rattle.message.specs.Receiver.{free_place, is_open_by}
+use Rattle.words.specs.Lists.{first_from, first}
+use Rattle.words.proofs.Lists.{length_field, search_pass, search_stop, search_end}
+use Rattle.message.proofs.eight_places.open_by.Goals as goal
+
+pub loop-i-init : goal.loop-i-init
+loop-i-init c = (search rules, search length_field, refl)
+
+pub returns-then-is_open_by : goal.returns-then-is_open_by
+returns-then-is_open_by c =
+    let l = c.loop-i in
+    let a = c.args in
+    let h : l.i < length a.r.places = omega arith in
+    sym (l.invariant.2 ∙ search_stop (is_open_by a.sender) a.r.places l.i free_place h (sym c.is_open_by.ensures ∙ c.if-is_open_by.true))
+
+pub loop-i-preserved : goal.loop-i-preserved
+loop-i-preserved c =
+    let l = c.loop-i in
+    let a = c.args in
+    let h : l.i < length a.r.places = omega arith in
+    (search rules, l.invariant.1, l.invariant.2 ∙ search_pass (is_open_by a.sender) a.r.places l.i free_place h (sym c.is_open_by.ensures ∙ c.if-is_open_by.false))
+
+pub returns : goal.returns
+returns c =
+    let l = c.loop-i in
+    let a = c.args in
+    sym (l.invariant.2 ∙ search_end (is_open_by a.sender) a.r.places l.i (omega arith))

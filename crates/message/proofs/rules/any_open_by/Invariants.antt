@@ -1,0 +1,16 @@
+-- What the loop of `message::rules::any_open_by` keeps, and why it ends.
+use mathlib.Core.Path.{◌≡◌, refl, sym, ◌∙◌}
+use Prim.Native.Nat.{◌≤◌, ◌<◌, ◌-◌}
+use native.Mathlib.Omega.{arith}
+use borrow.Author.Rules.{rules}
+use lib.ListN.{length, drop}
+use Rattle.message.specs.Receiver.{free_place, is_open_by}
+use Rattle.words.specs.Lists.{any}
+use Rattle.words.proofs.Lists.{length_field, any_pass, any_stop, any_end}
+use Rattle.message.proofs.rules.any_open_by.Given as goal
+
+abbrev pub invariant-loop-i : goal.invariant-loop-i
+invariant-loop-i l = (l.i ≤ 8) × (length l.r.places ≡ 8) × (any (is_open_by l.sender) (drop l.from l.r.places) ≡ any (is_open_by l.sender) (drop l.i l.r.places))
+
+abbrev pub decreases-loop-i : goal.decreases-loop-i
+decreases-loop-i l = 8 - l.i

@@ -1,0 +1,23 @@
+-- `message::rules::is_alone` meets its contract. Assumes nothing.
+use mathlib.Core.Path.{sym, ap, ◌∙◌}
+use mathlib.Core.Bool.{not}
+use Prim.Native.Nat.{◌+◌}
+use borrow.Author.Tests.{eq-eqb, ne_eqb}
+use borrow.Author.Rules.{rules}
+use lib.ListN.{drop, get_or}
+use Rattle.places.proofs.View.{free_same, open_same}
+use Rattle.message.specs.Receiver.{free_place, layout}
+use Rattle.message.proofs.rules.is_alone.Goals as goal
+
+pub returns-then-p-eq0 : goal.returns-then-p-eq0
+returns-then-p-eq0 c =
+    let a = c.args in
+    let p = get_or a.r.places a.at free_place in
+    sym (ap not (free_same layout p (drop (a.at + 1) a.r.places) (eq-eqb _ _ c.if-p-eq0.true)))
+
+pub returns : goal.returns
+returns c =
+    let a = c.args in
+    let p = get_or a.r.places a.at free_place in
+    let e = open_same layout p (drop (a.at + 1) a.r.places) (ne_eqb _ _ c.if-p-eq0.false) in
+    ap not (c.any_open_by.ensures ∙ sym e)

@@ -1,0 +1,15 @@
+-- What the loop of `message::storage::copy` keeps, and why it ends.
+use mathlib.Core.Path.{◌≡◌, refl}
+use Prim.Native.Nat.{◌≤◌, ◌<◌, ◌-◌, ◌+◌}
+use native.Mathlib.Omega.{arith}
+use borrow.Author.Rules.{rules}
+use lib.Seq.{paste, paste-zero}
+use lib.ListN.{length, drop, length-set}
+use Rattle.places.proofs.Stretch.{paste_turn}
+use Rattle.message.proofs.storage.copy.Given as goal
+
+abbrev pub invariant-loop-i : goal.invariant-loop-i
+invariant-loop-i l = (l.i ≤ l.count) × (length l.part ≡ length l.initial.part) × (l.part ≡ paste l.initial.part l.to (drop l.from l.bytes) l.i)
+
+abbrev pub decreases-loop-i : goal.decreases-loop-i
+decreases-loop-i l = l.count - l.i

@@ -1,0 +1,28 @@
+-- `nodes::flat::cleared` meets its contract. Assumes nothing.
+use mathlib.Core.Path.{sym, ◌∙◌}
+use borrow.Author.Rules.{rules}
+use Rattle.nodes.specs.Table.{cleared_of}
+use Rattle.nodes.proofs.flat.cleared.Goals as goal
+
+pub returns-then-has_name : goal.returns-then-has_name
+unfolding cleared_of
+returns-then-has_name c = rw (sym c.has_name.ensures ∙ c.if-has_name.true) c.vacated.ensures
+
+pub returns-then-has_challenger : goal.returns-then-has_challenger
+unfolding cleared_of
+returns-then-has_challenger c =
+    let k = c in
+    rw (
+      sym k.has_name.ensures ∙ k.if-has_name.false,
+      sym k.has_challenger.ensures ∙ c.if-has_challenger.true,
+    ) c.unchallenged.ensures
+
+pub returns : goal.returns
+unfolding cleared_of
+returns c =
+    let k = c in
+    rw (
+      sym k.has_name.ensures ∙ k.if-has_name.false,
+      sym k.has_challenger.ensures
+          ∙ c.if-has_challenger.false,
+    )

@@ -1,0 +1,59 @@
+-- `text::put_decimal` meets its contract. Assumes nothing.
+use mathlib.Core.Path.{sym, ◌∙◌}
+use Prim.Native.Nat.{◌+◌, ◌≤◌, ◌<◌, ◌^◌}
+use borrow.Author.Rules.{rules}
+use native.Mathlib.Omega.{arith}
+use lib.ListN.{length}
+use Rattle.text.specs.Text.{decimal_width, decimal}
+use Rattle.text.proofs.Digits.{length_decimal, width_most}
+use Rattle.text.proofs.Pieces.{has_room, no_room, keyed_fits, keyed_none}
+use Rattle.text.proofs.put_decimal.Goals as goal
+
+pub overflow_add-key : goal.overflow_add-key
+overflow_add-key c =
+    let a = c.args in
+    let n : a.number < 10 ^ 20 = omega arith in
+    let w : decimal_width a.number ≤ 20 = width_most a.number 20 (omega arith) n in
+    omega (arith, c.decimal_width-width.ensures.width)
+
+pub returns-then-not-fits : goal.returns-then-not-fits
+returns-then-not-fits c =
+    let f = c in
+    let w = f.decimal_width-width in
+    let a = f.args in
+    let h = no_room (length a.out.now) a.at (length a.key.now + w.result) f.fits2.ensures
+    c.if-not-fits.true-raw in
+    keyed_none a.at w.result a.key.now (decimal a.number)
+    (w.ensures.width ∙ sym (length_decimal a.number)) h
+
+pub put_word-from-requires : goal.put_word-from-requires
+put_word-from-requires c =
+    let f = c in
+    let a = f.args in
+    let h = has_room (length a.out.now) a.at (length a.key.now + f.decimal_width-width.result)
+    f.fits2.ensures c.if-not-fits.false-raw in
+    omega arith
+
+pub put_digits-requires : goal.put_digits-requires
+put_digits-requires c =
+    let p = c in
+    let f = p in
+    let a = f.args in
+    let h = has_room (length a.out.now) a.at (length a.key.now + f.decimal_width-width.result)
+    f.fits2.ensures p.if-not-fits.false-raw in
+    (omega arith, omega arith, omega arith)
+
+pub returns : goal.returns
+unfolding decimal
+returns c =
+    let q = c in
+    let p = q in
+    let f = p in
+    let w = f.decimal_width-width in
+    let a = f.args in
+    let h = has_room (length a.out.now) a.at (length a.key.now + w.result) f.fits2.ensures
+    p.if-not-fits.false-raw in
+    keyed_fits a.at w.result a.key.now (decimal a.number)
+    (w.ensures.width ∙ sym (length_decimal a.number)) h
+    p.put_word-from.ensures.0 p.put_word-from.ensures.1 (rw (← w.ensures.width) q.put_digits.ensures.0)
+    q.put_digits.ensures.1

@@ -1,0 +1,16 @@
+-- What the loop of `text::put_digits` keeps, and why it ends.
+use mathlib.Core.Path.{◌≡◌, refl, sym, ◌∙◌}
+use Prim.Native.Nat.{◌≤◌, ◌<◌}
+use native.Mathlib.Nat.{mod-lt}
+use lib.ListN.{length, length-set}
+use Rattle.text.proofs.Pieces.{put_down, down_turn, down_end, down_digits}
+use borrow.Author.Rules.{rules}
+use native.Mathlib.Omega.{arith}
+use Rattle.text.proofs.put_digits.Given as goal
+
+abbrev pub invariant-loop-i : goal.invariant-loop-i
+invariant-loop-i l =
+    (l.i ≤ l.count) × (length l.out ≡ length l.initial.out) × (put_down l.base l.at l.i l.rest l.out ≡ put_down l.base l.at l.count l.number l.initial.out)
+
+abbrev pub decreases-loop-i : goal.decreases-loop-i
+decreases-loop-i l = l.i

@@ -1,0 +1,30 @@
+-- `tiles::frames::hear` meets its contract. Assumes nothing.
+use mathlib.Core.Path.{sym, subst}
+use Prim.Native.Nat.{ℕ}
+use Rattle.tiles.specs.Private.{IsSound}
+use Rattle.tiles.proofs.Steps.{all_heard}
+use borrow.Author.Rules.{rules}
+use Rattle.tiles.proofs.frames.hear.Goals as goal
+
+pub mask-mask-requires : goal.mask-mask-requires
+mask-mask-requires c = c.packed_rows-table.ensures.answer
+
+pub heard_by_all-requires : goal.heard_by_all-requires
+heard_by_all-requires c =
+    let s = c in
+    let a = s.args in (
+      c.packed_rows-table.ensures.answer,
+      (
+        subst (λ (d : ℕ). IsSound a.id a.bytes.now d a.instance)
+            (sym c.catalogue_form-form.ensures.answer) s.requires.0,
+        s.requires.1,
+      ),
+    )
+
+pub returns : goal.returns
+returns c =
+    let s = c in
+    let a = s.args in
+    all_heard _ _ a.instance _ a.bytes.now a.p _
+    c.catalogue_form-form.ensures.answer s.requires.0.of_instance
+    c.heard_by_all.ensures c.mask-mask.ensures

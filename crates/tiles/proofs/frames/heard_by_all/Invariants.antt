@@ -1,0 +1,24 @@
+-- What the loop of `tiles::frames::heard_by_all` keeps, and why it ends.
+use mathlib.Core.Path.{◌≡◌, refl, sym, ap, ◌∙◌, subst}
+use mathlib.Core.Bool.{true}
+use mathlib.Core.List.{List, map, ◌++◌}
+use Prim.Native.Nat.{◌≤◌, ◌<◌, ◌-◌}
+use native.Mathlib.Omega.{arith}
+use lib.ListN.{length, get_or, take, drop}
+use Rattle.words.specs.Lists.{every}
+use Rattle.words.proofs.Lists.{length_field, every_at, map_at, image_turn, image_end}
+use Rattle.catalogue.specs.Packed.{packed_rows}
+use Rattle.tiles.specs.Tile.{tile_keeps_rules, blank_tile, heard_by}
+use Rattle.tiles.specs.Panel.{keeps_rules}
+use Rattle.tiles.specs.Private.{IsSound}
+use Rattle.tiles.specs.declared.Tile.{Tile}
+use borrow.Author.Rules.{rules}
+use Rattle.tiles.proofs.frames.heard_by_all.Given as goal
+
+abbrev pub invariant-loop-i : goal.invariant-loop-i
+invariant-loop-i l =
+    (l.i ≤ 32) × (length l.initial.tiles ≡ 32) × (l.table ≡ packed_rows) × IsSound l.id l.bytes l.dgn l.instance
+    × (every tile_keeps_rules l.initial.tiles ≡ true) × (l.tiles ≡ map (heard_by l.dgn l.bytes) (take l.i l.initial.tiles) ++ drop l.i l.initial.tiles)
+
+abbrev pub decreases-loop-i : goal.decreases-loop-i
+decreases-loop-i l = 32 - l.i

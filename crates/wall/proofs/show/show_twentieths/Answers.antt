@@ -1,0 +1,8 @@
+-- `wall::show::show_twentieths` is safe and ends. Assumes nothing.
+use Rattle.std.proofs.Common.{sym, length-take-le, rules}
+use Rattle.wall.proofs.show.show_twentieths.Goals as goal
+
+pub slice_bounds-show_centred-end : goal.slice_bounds-show_centred-end
+slice_bounds-show_centred-end c =
+    let p = c in
+    sym (length-take-le p.put_twentieths-end.result p.put_twentieths-end.new.0 (search rules))
