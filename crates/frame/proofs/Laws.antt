@@ -20,7 +20,6 @@ use Rattle.frame.specs.Laws.{LowestWins, RefusedForReason, told_but_priority, Pr
 use Rattle.frame.specs.Laws.{BytesBack, ExampleOne}
 use Rattle.frame.specs.declared.Parts.{Parts}
 use Rattle.frame.specs.declared.Apart.{Apart}
-use Rattle.frame.specs.declared.Apart.TheVariants as Apart
 use Rattle.frame.specs.declared.Formed.{Formed}
 use Rattle.frame.specs.declared.Formed.TheVariants.{Identifier, NoCode}
 use Rattle.frame.specs.declared.BadFrame.{BadFrame}

@@ -8,7 +8,6 @@ use Rattle.frame.specs.Frame.{apart_of, formed_of, checked_of, frame_bytes}
 use Rattle.frame.specs.Standard.{everyone, dgn_bytes}
 use Rattle.frame.specs.declared.Parts.{Parts}
 use Rattle.frame.specs.declared.Apart.{Apart}
-use Rattle.frame.specs.declared.Apart.TheVariants as Apart
 use Rattle.frame.specs.declared.Formed.{Formed}
 use Rattle.frame.specs.declared.Formed.TheVariants.{Identifier, NoCode}
 use Rattle.frame.specs.declared.BadFrame.{BadFrame}

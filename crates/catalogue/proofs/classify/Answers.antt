@@ -1,5 +1,4 @@
 -- `catalogue::classify` meets its contract. Assumes nothing.
-use borrow.Author.Rules.{rules}
 use Rattle.catalogue.specs.Catalogue.{field_in}
 use Rattle.catalogue.proofs.classify.Goals as goal
 

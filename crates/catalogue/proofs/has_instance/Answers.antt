@@ -1,7 +1,6 @@
 -- `catalogue::has_instance` meets its contract. Assumes nothing.
 use mathlib.Core.Path.{ap, ◌∙◌}
 use Prim.Native.Nat.{ℕ}
-use borrow.Author.Rules.{rules}
 use Rattle.words.specs.Words.{◌=?◌}
 use Rattle.words.specs.Lists.{any}
 use Rattle.catalogue.specs.Instances.{instance_dgns, has_instance}

@@ -1,13 +1,12 @@
 -- `catalogue::is_marked` meets its contract. Assumes nothing.
 use mathlib.Core.Path.{◌≡◌, refl, sym, ap, ◌∙◌}
 use mathlib.Core.List.{List}
-use Prim.Native.Nat.{ℕ, ◌≤◌, ◌<◌, ◌-◌}
+use Prim.Native.Nat.{ℕ, ◌<◌}
 use native.Mathlib.Omega.{arith}
 use borrow.Author.Rules.{rules}
 use borrow.Author.Tests.{eq-eqb, ne_eqb}
-use lib.ListN.{length, get_or, drop}
+use lib.ListN.{length, get_or}
 use Rattle.words.specs.Words.{◌=?◌}
-use Rattle.words.specs.Lists.{any}
 use Rattle.words.proofs.Lists.{any_pass, any_stop, any_end}
 use Rattle.catalogue.specs.Instances.{instance_dgns}
 use Rattle.catalogue.proofs.Instances.{instance_count}

@@ -2,7 +2,6 @@
 use mathlib.Core.Bool.{not}
 use mathlib.Core.Path.{sym, ap, ◌∙◌}
 use Rattle.catalogue.proofs.Found.{match_outside, match_other, match_same}
-use borrow.Author.Rules.{rules}
 use Rattle.catalogue.proofs.match_row.Goals as goal
 
 pub returns-then-not-lies_in_frame : goal.returns-then-not-lies_in_frame

@@ -5,7 +5,6 @@ use Rattle.catalogue.specs.Table.{nth, row_at}
 use Rattle.catalogue.specs.Packed.{table_rows, packed_rows}
 use Rattle.catalogue.specs.declared.Row.{Row}
 use Rattle.catalogue.proofs.Packing.{rows_packed}
-use borrow.Author.Rules.{rules}
 use Rattle.catalogue.proofs.nth.Goals as goal
 
 pub returns : goal.returns

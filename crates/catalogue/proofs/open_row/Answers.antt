@@ -1,6 +1,5 @@
 -- `catalogue::open_row` meets its contract. Assumes nothing.
 use mathlib.Core.Path.{sym, ap, ◌∙◌}
-use borrow.Author.Rules.{rules}
 use lib.ListN.{length}
 use Rattle.frame.specs.Promises.{told_verdict, refusal_of}
 use Rattle.frame.specs.Bytes.{number_of}

@@ -1,6 +1,5 @@
 -- `catalogue::read_row` meets its contract. Assumes nothing.
 use mathlib.Core.Path.{sym, ap, ◌∙◌}
-use borrow.Author.Rules.{rules}
 use lib.ListN.{length}
 use Rattle.catalogue.specs.Promises.{told_outcome}
 use Rattle.catalogue.specs.Catalogue.{field_in}

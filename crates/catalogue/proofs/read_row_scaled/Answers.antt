@@ -1,7 +1,6 @@
 -- `catalogue::read_row_scaled` meets its contract. Assumes nothing.
 use mathlib.Core.Path.{sym, ap, ◌∙◌}
 use native.Mathlib.Nat.{lt_of_lt_of_le}
-use borrow.Author.Rules.{rules}
 use lib.Pow.{pow_mono}
 use lib.ListN.{length}
 use Rattle.catalogue.specs.Promises.{told_outcome}

@@ -4,7 +4,6 @@ use mathlib.Core.List.{List}
 use Prim.Native.Nat.{ℕ}
 use Rattle.catalogue.specs.Packed.{table_row}
 use Rattle.catalogue.proofs.Packing.{row_in_packed}
-use borrow.Author.Rules.{rules}
 use Rattle.catalogue.proofs.row_at.Goals as goal
 
 pub returns : goal.returns

@@ -2,7 +2,6 @@
 use mathlib.Core.Path.{ap, ◌∙◌}
 use Prim.Native.Nat.{ℕ}
 use Rattle.catalogue.specs.Packed.{table_row_with}
-use borrow.Author.Rules.{rules}
 use Rattle.catalogue.proofs.row_of_in.Goals as goal
 
 pub returns : goal.returns

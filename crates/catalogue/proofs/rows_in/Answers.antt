@@ -1,7 +1,6 @@
 -- `catalogue::rows_in` meets its contract. Assumes nothing.
 use mathlib.Core.Path.{ap, ◌∙◌}
 use Rattle.catalogue.specs.Packed.{table_span}
-use borrow.Author.Rules.{rules}
 use Rattle.catalogue.proofs.rows_in.Goals as goal
 
 pub returns : goal.returns

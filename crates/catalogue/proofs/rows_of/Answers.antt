@@ -5,7 +5,6 @@ use Prim.Native.Nat.{ℕ}
 use Rattle.frame.specs.Identifier.{catalogue_form}
 use Rattle.catalogue.specs.Packed.{table_span}
 use Rattle.catalogue.proofs.Packing.{rows_in_packed}
-use borrow.Author.Rules.{rules}
 use Rattle.catalogue.proofs.rows_of.Goals as goal
 
 pub returns : goal.returns

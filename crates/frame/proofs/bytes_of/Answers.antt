@@ -1,10 +1,7 @@
 -- `frame::bytes_of` meets its contract. Assumes nothing.
-use mathlib.Core.List.{◌++◌}
-use mathlib.Core.Path.{◌≡◌, refl}
-use Prim.Native.Nat.{◌-◌, ◌≤◌}
+use mathlib.Core.Path.{refl}
 use native.Mathlib.Omega.{arith}
-use borrow.Author.Rules.{rules}
-use lib.ListN.{length, take, length-set}
+use lib.ListN.{length-set}
 use Rattle.frame.specs.Bytes.{bytes_of}
 use Rattle.frame.proofs.Bytes.{bytes_turn, bytes_end}
 use Rattle.frame.proofs.bytes_of.Goals as goal

@@ -1,12 +1,9 @@
 -- What the loop of `frame::bytes_of` keeps, and why it ends.
 use mathlib.Core.List.{◌++◌}
-use mathlib.Core.Path.{◌≡◌, refl}
+use mathlib.Core.Path.{◌≡◌}
 use Prim.Native.Nat.{◌-◌, ◌≤◌}
-use native.Mathlib.Omega.{arith}
-use borrow.Author.Rules.{rules}
-use lib.ListN.{length, take, length-set}
+use lib.ListN.{length, take}
 use Rattle.frame.specs.Bytes.{bytes_of}
-use Rattle.frame.proofs.Bytes.{bytes_turn, bytes_end}
 use Rattle.frame.proofs.bytes_of.Given as goal
 
 abbrev pub invariant-loop-i : goal.invariant-loop-i

@@ -1,6 +1,5 @@
 -- `frame::catalogue_form` meets its contract. Assumes nothing.
 use native.Mathlib.Nat.{div-one}
-use borrow.Author.Rules.{rules}
 use Rattle.frame.specs.Identifier.{is_addressed, destination_of, catalogue_form}
 use Rattle.words.proofs.Tests.{tests}
 use Rattle.frame.proofs.catalogue_form.Goals as goal

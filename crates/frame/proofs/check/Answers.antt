@@ -1,6 +1,5 @@
 -- `frame::check` meets its contract. Assumes nothing.
 use mathlib.Core.Path.{sym, ap, ◌∙◌}
-use borrow.Author.Rules.{rules}
 use lib.ListN.{length}
 use Rattle.frame.specs.Promises.{told_verdict}
 use Rattle.frame.proofs.Frame.{checked_given}

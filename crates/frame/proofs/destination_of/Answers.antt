@@ -1,6 +1,5 @@
 -- `frame::destination_of` meets its contract. Assumes nothing.
 use native.Mathlib.Nat.{div-one}
-use borrow.Author.Rules.{rules}
 use Rattle.frame.specs.Identifier.{is_addressed, destination_of}
 use Rattle.words.proofs.Tests.{tests}
 use Rattle.frame.proofs.destination_of.Goals as goal

@@ -1,10 +1,8 @@
 -- `frame::eight` meets its contract. Assumes nothing.
-use mathlib.Core.Path.{◌≡◌, sym, ◌∙◌}
-use Prim.Native.Nat.{◌-◌, ◌≤◌}
+use mathlib.Core.Path.{sym, ◌∙◌}
 use native.Mathlib.Omega.{arith}
-use borrow.Author.Rules.{rules}
 use lib.Seq.{take_all}
-use lib.ListN.{length, take, length-set}
+use lib.ListN.{length-set}
 use Rattle.frame.proofs.Bytes.{copy_turn}
 use Rattle.frame.proofs.eight.Goals as goal
 

@@ -1,11 +1,7 @@
 -- What the loop of `frame::eight` keeps, and why it ends.
-use mathlib.Core.Path.{◌≡◌, sym, ◌∙◌}
+use mathlib.Core.Path.{◌≡◌}
 use Prim.Native.Nat.{◌-◌, ◌≤◌}
-use native.Mathlib.Omega.{arith}
-use borrow.Author.Rules.{rules}
-use lib.Seq.{take_all}
-use lib.ListN.{length, take, length-set}
-use Rattle.frame.proofs.Bytes.{copy_turn}
+use lib.ListN.{length, take}
 use Rattle.frame.proofs.eight.Given as goal
 
 abbrev pub invariant-loop-i : goal.invariant-loop-i

@@ -1,5 +1,4 @@
 -- `frame::form` meets its contract. Assumes nothing.
-use borrow.Author.Rules.{rules}
 use Rattle.frame.specs.Frame.{formed_of}
 use Rattle.frame.specs.Identifier.{identifier_of}
 use Rattle.words.proofs.Tests.{tests}

@@ -1,7 +1,6 @@
 -- `frame::judge` meets its contract. Assumes nothing.
 use mathlib.Core.Path.{sym, ap, ◌∙◌}
 use borrow.Author.Tests.{not-true, not-false}
-use borrow.Author.Rules.{rules}
 use Rattle.frame.specs.declared.Parts.{Parts}
 use Rattle.frame.specs.Frame.{source_allowed, checked_of}
 use Rattle.words.proofs.Tests.{tests}

@@ -1,6 +1,5 @@
 -- `frame::parts_of` meets its contract. Assumes nothing.
 use native.Mathlib.Nat.{div-one}
-use borrow.Author.Rules.{rules}
 use Rattle.frame.specs.Identifier.{priority_of, dgn_of, source_of}
 use Rattle.frame.proofs.parts_of.Goals as goal
 

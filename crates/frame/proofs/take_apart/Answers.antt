@@ -1,5 +1,4 @@
 -- `frame::take_apart` meets its contract. Assumes nothing.
-use borrow.Author.Rules.{rules}
 use Rattle.frame.specs.Frame.{apart_of}
 use Rattle.words.proofs.Tests.{tests}
 use Rattle.frame.proofs.take_apart.Goals as goal

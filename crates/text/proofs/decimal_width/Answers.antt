@@ -1,10 +1,6 @@
 -- `text::decimal_width` meets its contract. The loop's invariant: the digits that are counted, and those of the rest,
 -- are one more than the number has. Assumes nothing.
-use mathlib.Core.Path.{◌≡◌}
-use Prim.Native.Nat.{◌+◌, ◌≤◌}
-use borrow.Author.Rules.{rules}
 use native.Mathlib.Omega.{arith}
-use Rattle.text.specs.Text.{decimal_width}
 use Rattle.text.proofs.Digits.{width_one, width_more}
 use Rattle.text.proofs.decimal_width.Goals as goal
 

@@ -1,10 +1,7 @@
 -- What the loop of `text::decimal_width` keeps, and why it ends.
 use mathlib.Core.Path.{◌≡◌}
 use Prim.Native.Nat.{◌+◌, ◌≤◌}
-use borrow.Author.Rules.{rules}
-use native.Mathlib.Omega.{arith}
 use Rattle.text.specs.Text.{decimal_width}
-use Rattle.text.proofs.Digits.{width_one, width_more}
 use Rattle.text.proofs.decimal_width.Given as goal
 
 abbrev pub invariant-loop-rest : goal.invariant-loop-rest

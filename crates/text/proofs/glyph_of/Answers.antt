@@ -1,7 +1,6 @@
 -- `text::glyph_of` meets its contract. Assumes nothing.
 use Rattle.text.specs.Text.{glyph}
 use Rattle.words.proofs.Tests.{tests}
-use borrow.Author.Rules.{rules}
 use Rattle.text.proofs.glyph_of.Goals as goal
 
 pub returns-then-digit-lt10 : goal.returns-then-digit-lt10

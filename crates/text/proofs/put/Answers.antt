@@ -1,6 +1,5 @@
 -- `text::put` meets its contract. Assumes nothing.
 use mathlib.Core.Path.{refl}
-use borrow.Author.Rules.{rules}
 use lib.ListN.{length}
 use Rattle.text.proofs.Pieces.{has_room, no_room, put_fits, put_none}
 use Rattle.text.proofs.put.Goals as goal
@@ -11,13 +10,13 @@ returns-then-not-fits c =
     let a = f.args in
     let word = a.word.now in
     put_none a.at (length word) word refl
-    (no_room (length a.out.now) a.at (length word) f.fits2.ensures c.if-not-fits.true-raw)
+    (no_room (length a.out.now) a.at (length word) f.fits.ensures c.if-not-fits.true-raw)
 
 pub put_word-requires : goal.put_word-requires
 put_word-requires c =
     let f = c in
     let a = f.args in
-    has_room (length a.out.now) a.at (length a.word.now) f.fits2.ensures c.if-not-fits.false-raw
+    has_room (length a.out.now) a.at (length a.word.now) f.fits.ensures c.if-not-fits.false-raw
 
 pub returns : goal.returns
 returns c =
@@ -25,5 +24,5 @@ returns c =
     let f = p in
     let a = f.args in
     let word = a.word.now in
-    let h = has_room (length a.out.now) a.at (length word) f.fits2.ensures p.if-not-fits.false-raw in
+    let h = has_room (length a.out.now) a.at (length word) f.fits.ensures p.if-not-fits.false-raw in
     put_fits a.at (length word) word refl h p.put_word.ensures.0 p.put_word.ensures.1

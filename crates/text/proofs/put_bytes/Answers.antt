@@ -20,7 +20,7 @@ returns-then-not-fits c =
     let f = c in
     let a = f.args in
     let bytes = a.bytes.now in
-    let h = no_room (length a.out.now) a.at (length a.key.now + 2 * length bytes) f.fits2.ensures
+    let h = no_room (length a.out.now) a.at (length a.key.now + 2 * length bytes) f.fits.ensures
     c.if-not-fits.true-raw in
     keyed_none a.at (2 * length bytes) a.key.now (byte_pairs bytes) (sym (length_pairs bytes)) h
 
@@ -29,7 +29,7 @@ put_word-from-requires c =
     let f = c in
     let a = f.args in
     let h = has_room (length a.out.now) a.at (length a.key.now + 2 * length a.bytes.now)
-    f.fits2.ensures c.if-not-fits.false-raw in
+    f.fits.ensures c.if-not-fits.false-raw in
     omega arith
 
 pub put_pairs-requires : goal.put_pairs-requires
@@ -38,7 +38,7 @@ put_pairs-requires c =
     let f = p in
     let a = f.args in
     let h = has_room (length a.out.now) a.at (length a.key.now + 2 * length a.bytes.now)
-    f.fits2.ensures p.if-not-fits.false-raw in
+    f.fits.ensures p.if-not-fits.false-raw in
     omega arith
 
 pub returns : goal.returns
@@ -48,7 +48,7 @@ returns c =
     let f = p in
     let a = f.args in
     let bytes = a.bytes.now in
-    let h = has_room (length a.out.now) a.at (length a.key.now + 2 * length bytes) f.fits2.ensures
+    let h = has_room (length a.out.now) a.at (length a.key.now + 2 * length bytes) f.fits.ensures
     p.if-not-fits.false-raw in
     keyed_fits a.at (2 * length bytes) a.key.now (byte_pairs bytes) (sym (length_pairs bytes)) h
     p.put_word-from.ensures.0 p.put_word-from.ensures.1 q.put_pairs.ensures.0 (omega arith)

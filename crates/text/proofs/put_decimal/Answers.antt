@@ -1,7 +1,6 @@
 -- `text::put_decimal` meets its contract. Assumes nothing.
 use mathlib.Core.Path.{sym, ◌∙◌}
 use Prim.Native.Nat.{◌+◌, ◌≤◌, ◌<◌, ◌^◌}
-use borrow.Author.Rules.{rules}
 use native.Mathlib.Omega.{arith}
 use lib.ListN.{length}
 use Rattle.text.specs.Text.{decimal_width, decimal}
@@ -21,7 +20,7 @@ returns-then-not-fits c =
     let f = c in
     let w = f.decimal_width-width in
     let a = f.args in
-    let h = no_room (length a.out.now) a.at (length a.key.now + w.result) f.fits2.ensures
+    let h = no_room (length a.out.now) a.at (length a.key.now + w.result) f.fits.ensures
     c.if-not-fits.true-raw in
     keyed_none a.at w.result a.key.now (decimal a.number)
     (w.ensures.width ∙ sym (length_decimal a.number)) h
@@ -31,7 +30,7 @@ put_word-from-requires c =
     let f = c in
     let a = f.args in
     let h = has_room (length a.out.now) a.at (length a.key.now + f.decimal_width-width.result)
-    f.fits2.ensures c.if-not-fits.false-raw in
+    f.fits.ensures c.if-not-fits.false-raw in
     omega arith
 
 pub put_digits-requires : goal.put_digits-requires
@@ -40,7 +39,7 @@ put_digits-requires c =
     let f = p in
     let a = f.args in
     let h = has_room (length a.out.now) a.at (length a.key.now + f.decimal_width-width.result)
-    f.fits2.ensures p.if-not-fits.false-raw in
+    f.fits.ensures p.if-not-fits.false-raw in
     (omega arith, omega arith, omega arith)
 
 pub returns : goal.returns
@@ -51,7 +50,7 @@ returns c =
     let f = p in
     let w = f.decimal_width-width in
     let a = f.args in
-    let h = has_room (length a.out.now) a.at (length a.key.now + w.result) f.fits2.ensures
+    let h = has_room (length a.out.now) a.at (length a.key.now + w.result) f.fits.ensures
     p.if-not-fits.false-raw in
     keyed_fits a.at w.result a.key.now (decimal a.number)
     (w.ensures.width ∙ sym (length_decimal a.number)) h

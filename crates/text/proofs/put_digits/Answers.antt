@@ -1,9 +1,9 @@
 -- `text::put_digits` meets its contract. Assumes nothing.
-use mathlib.Core.Path.{◌≡◌, refl, sym, ◌∙◌}
+use mathlib.Core.Path.{refl, sym, ◌∙◌}
 use Prim.Native.Nat.{◌≤◌, ◌<◌}
 use native.Mathlib.Nat.{mod-lt}
-use lib.ListN.{length, length-set}
-use Rattle.text.proofs.Pieces.{put_down, down_turn, down_end, down_digits}
+use lib.ListN.{length-set}
+use Rattle.text.proofs.Pieces.{down_turn, down_end, down_digits}
 use borrow.Author.Rules.{rules}
 use native.Mathlib.Omega.{arith}
 use Rattle.text.proofs.put_digits.Goals as goal

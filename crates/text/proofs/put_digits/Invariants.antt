@@ -1,11 +1,8 @@
 -- What the loop of `text::put_digits` keeps, and why it ends.
-use mathlib.Core.Path.{◌≡◌, refl, sym, ◌∙◌}
-use Prim.Native.Nat.{◌≤◌, ◌<◌}
-use native.Mathlib.Nat.{mod-lt}
-use lib.ListN.{length, length-set}
-use Rattle.text.proofs.Pieces.{put_down, down_turn, down_end, down_digits}
-use borrow.Author.Rules.{rules}
-use native.Mathlib.Omega.{arith}
+use mathlib.Core.Path.{◌≡◌}
+use Prim.Native.Nat.{◌≤◌}
+use lib.ListN.{length}
+use Rattle.text.proofs.Pieces.{put_down}
 use Rattle.text.proofs.put_digits.Given as goal
 
 abbrev pub invariant-loop-i : goal.invariant-loop-i

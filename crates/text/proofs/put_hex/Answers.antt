@@ -1,7 +1,6 @@
 -- `text::put_hex` meets its contract. Assumes nothing.
 use mathlib.Core.Path.{sym}
 use Prim.Native.Nat.{◌+◌}
-use borrow.Author.Rules.{rules}
 use native.Mathlib.Omega.{arith}
 use lib.ListN.{length}
 use Rattle.text.specs.Text.{digits}
@@ -19,7 +18,7 @@ pub returns-then-not-fits : goal.returns-then-not-fits
 returns-then-not-fits c =
     let f = c in
     let a = f.args in
-    let h = no_room (length a.out.now) a.at (length a.key.now + a.count) f.fits2.ensures
+    let h = no_room (length a.out.now) a.at (length a.key.now + a.count) f.fits.ensures
     c.if-not-fits.true-raw in
     keyed_none a.at a.count a.key.now (digits 16 a.count a.number)
     (sym (length_digits 16 a.count a.number)) h
@@ -28,7 +27,7 @@ pub put_word-from-requires : goal.put_word-from-requires
 put_word-from-requires c =
     let f = c in
     let a = f.args in
-    let h = has_room (length a.out.now) a.at (length a.key.now + a.count) f.fits2.ensures
+    let h = has_room (length a.out.now) a.at (length a.key.now + a.count) f.fits.ensures
     c.if-not-fits.false-raw in
     omega arith
 
@@ -37,7 +36,7 @@ put_digits-requires c =
     let p = c in
     let f = p in
     let a = f.args in
-    let h = has_room (length a.out.now) a.at (length a.key.now + a.count) f.fits2.ensures
+    let h = has_room (length a.out.now) a.at (length a.key.now + a.count) f.fits.ensures
     p.if-not-fits.false-raw in
     (omega arith, omega arith, omega arith)
 
@@ -47,7 +46,7 @@ returns c =
     let p = q in
     let f = p in
     let a = f.args in
-    let h = has_room (length a.out.now) a.at (length a.key.now + a.count) f.fits2.ensures
+    let h = has_room (length a.out.now) a.at (length a.key.now + a.count) f.fits.ensures
     p.if-not-fits.false-raw in
     let n = sym (length_digits 16 a.count a.number) in
     keyed_fits a.at a.count a.key.now (digits 16 a.count a.number) n h

@@ -1,7 +1,7 @@
 -- `text::put_word` meets its contract. Assumes nothing.
 use mathlib.Core.Path.{◌≡◌, refl}
-use Prim.Native.Nat.{◌≤◌, ◌<◌, ◌+◌, ◌-◌}
-use lib.Seq.{paste, paste-zero}
+use Prim.Native.Nat.{◌<◌, ◌+◌}
+use lib.Seq.{paste-zero}
 use lib.ListN.{length, length-set}
 use Rattle.text.proofs.Pieces.{put_turn, put_end}
 use borrow.Author.Rules.{rules}

@@ -1,11 +1,8 @@
 -- What the loop of `text::put_word` keeps, and why it ends.
-use mathlib.Core.Path.{◌≡◌, refl}
-use Prim.Native.Nat.{◌≤◌, ◌<◌, ◌+◌, ◌-◌}
-use lib.Seq.{paste, paste-zero}
-use lib.ListN.{length, length-set}
-use Rattle.text.proofs.Pieces.{put_turn, put_end}
-use borrow.Author.Rules.{rules}
-use native.Mathlib.Omega.{arith}
+use mathlib.Core.Path.{◌≡◌}
+use Prim.Native.Nat.{◌≤◌, ◌-◌}
+use lib.Seq.{paste}
+use lib.ListN.{length}
 use Rattle.text.proofs.put_word.Given as goal
 
 abbrev pub invariant-loop-i : goal.invariant-loop-i

@@ -1,6 +1,5 @@
 -- `catalogue::classes::class_in` meets its contract. Assumes nothing.
 use mathlib.Core.Path.{sym, ◌∙◌}
-use borrow.Author.Rules.{rules}
 use Rattle.catalogue.specs.Classes.{class_in}
 use Rattle.catalogue.proofs.classes.class_in.Goals as goal
 

@@ -1,5 +1,4 @@
 -- `catalogue::classes::greatest_code` meets its contract. Assumes nothing.
-use borrow.Author.Rules.{rules}
 use Rattle.catalogue.proofs.Classed.{ones_shifted}
 use Rattle.catalogue.proofs.classes.greatest_code.Goals as goal
 

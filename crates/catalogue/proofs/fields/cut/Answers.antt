@@ -1,5 +1,4 @@
 -- `catalogue::fields::cut` meets its contract. Assumes nothing.
-use borrow.Author.Rules.{rules}
 use lib.Pow.{pow_pos}
 use Rattle.catalogue.specs.Field.{field_of}
 use Rattle.catalogue.proofs.Bits.{field_past, field_all}

@@ -1,5 +1,4 @@
 -- `catalogue::fields::power` meets its contract. Assumes nothing.
-use borrow.Author.Rules.{rules}
 use Rattle.catalogue.proofs.Bits.{one_shl}
 use Rattle.catalogue.proofs.fields.power.Goals as goal
 

@@ -1,11 +1,8 @@
 -- What the loop of `catalogue::fields::store` keeps, and why it ends.
 use mathlib.Core.List.{◌++◌}
-use mathlib.Core.Path.{◌≡◌, refl}
+use mathlib.Core.Path.{◌≡◌}
 use Prim.Native.Nat.{◌-◌, ◌≤◌}
-use native.Mathlib.Omega.{arith}
-use borrow.Author.Rules.{rules}
-use lib.ListN.{length, take, length-set}
-use Rattle.frame.proofs.Bytes.{bytes_turn, bytes_end}
+use lib.ListN.{length, take}
 use Rattle.frame.specs.Bytes.{bytes_of}
 use Rattle.catalogue.proofs.fields.store.Given as goal
 

@@ -1,6 +1,5 @@
 -- `catalogue::scale::ampere_steps` meets its contract. Assumes nothing.
 use mathlib.Core.Path.{◌∙◌}
-use borrow.Author.Rules.{rules}
 use Rattle.catalogue.specs.Scale.{ampere_steps}
 use Rattle.words.proofs.Tests.{tests}
 use Rattle.catalogue.proofs.scale.ampere_steps.Goals as goal

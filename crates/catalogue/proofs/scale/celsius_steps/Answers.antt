@@ -1,6 +1,5 @@
 -- `catalogue::scale::celsius_steps` meets its contract. Assumes nothing.
 use mathlib.Core.Path.{◌∙◌}
-use borrow.Author.Rules.{rules}
 use Rattle.catalogue.specs.Scale.{celsius_steps}
 use Rattle.words.proofs.Tests.{tests}
 use Rattle.catalogue.proofs.scale.celsius_steps.Goals as goal

@@ -1,6 +1,5 @@
 -- `catalogue::scale::class_code` meets its contract. Assumes nothing.
 use mathlib.Core.Path.{◌∙◌}
-use borrow.Author.Rules.{rules}
 use lib.Pow.{pow_pos}
 use Rattle.catalogue.specs.Codes.{class_code}
 use Rattle.words.proofs.Tests.{tests}

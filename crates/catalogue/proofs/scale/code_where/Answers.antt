@@ -1,6 +1,5 @@
 -- `catalogue::scale::code_where` meets its contract. Assumes nothing.
 use mathlib.Core.Path.{ap, ◌∙◌}
-use borrow.Author.Rules.{rules}
 use Rattle.catalogue.specs.Classes.{below_greatest}
 use Rattle.catalogue.proofs.Codes.{where_not, where_so}
 use Rattle.catalogue.proofs.scale.code_where.Goals as goal

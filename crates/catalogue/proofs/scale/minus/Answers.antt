@@ -1,5 +1,4 @@
 -- `catalogue::scale::minus` meets its contract. Assumes nothing.
-use borrow.Author.Rules.{rules}
 use lib.IntN.{sub_ℕ}
 use mir.ValLaws.{to_z-of_z}
 use mir.Syntax.{w64}

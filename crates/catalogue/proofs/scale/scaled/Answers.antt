@@ -1,7 +1,6 @@
 -- `catalogue::scale::scaled` meets its contract. Assumes nothing.
 use mathlib.Core.Path.{◌≡◌, sym}
 use native.Mathlib.Omega.{arith}
-use borrow.Author.Rules.{rules}
 use mir.ValLaws.{to_z-of_z}
 use mir.Syntax.{w64}
 use Rattle.catalogue.specs.Scale.{steps_of, scaled_of}

@@ -1,6 +1,5 @@
 -- `catalogue::scale::stepped_code` meets its contract. Assumes nothing.
 use mathlib.Core.Path.{◌∙◌}
-use borrow.Author.Rules.{rules}
 use Rattle.catalogue.specs.Codes.{stepped_code}
 use Rattle.words.proofs.Tests.{tests}
 use Rattle.catalogue.proofs.scale.stepped_code.Goals as goal

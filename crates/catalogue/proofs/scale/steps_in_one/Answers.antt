@@ -1,5 +1,4 @@
 -- `catalogue::scale::steps_in_one` meets its contract. Assumes nothing.
-use borrow.Author.Rules.{rules}
 use borrow.Author.Tests.{eq-eqb, ne_eqb}
 use Rattle.catalogue.specs.Scale.{steps_in_one}
 use Rattle.catalogue.proofs.scale.steps_in_one.Goals as goal

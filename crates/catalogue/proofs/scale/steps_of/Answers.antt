@@ -1,5 +1,4 @@
 -- `catalogue::scale::steps_of` meets its contract. Assumes nothing.
-use borrow.Author.Rules.{rules}
 use Rattle.catalogue.specs.Scale.{steps_of}
 use Rattle.catalogue.proofs.scale.steps_of.Goals as goal
 

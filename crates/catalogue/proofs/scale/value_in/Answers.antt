@@ -1,6 +1,5 @@
 -- `catalogue::scale::value_in` meets its contract. Assumes nothing.
 use mathlib.Core.Path.{◌≡◌, ap}
-use borrow.Author.Rules.{rules}
 use mir.ValLaws.{to_z-of_z}
 use mir.Syntax.{w64}
 use Rattle.catalogue.specs.declared.Value.TheVariants.{Scaled}

@@ -2,7 +2,6 @@
 use mathlib.Core.Path.{sym, ◌∙◌}
 use native.Mathlib.Omega.{arith}
 use Rattle.catalogue.proofs.Packing.{table_at, table_past}
-use borrow.Author.Rules.{rules}
 use Rattle.catalogue.proofs.table.at.Goals as goal
 
 pub returns-then-table-n : goal.returns-then-table-n

@@ -1,7 +1,6 @@
 -- `catalogue::table::checked` meets its contract. Assumes nothing.
 use mathlib.Core.Path.{sym, ◌∙◌}
 use Rattle.catalogue.specs.Packed.{lying}
-use borrow.Author.Rules.{rules}
 use Rattle.catalogue.proofs.table.checked.Goals as goal
 
 pub returns-then-lies_in_frame : goal.returns-then-lies_in_frame

@@ -3,7 +3,6 @@ use mathlib.Core.Path.{sym, ap}
 use Rattle.catalogue.specs.Packed.{unpacked}
 use Rattle.catalogue.specs.declared.Row.{Row}
 use Rattle.catalogue.proofs.Packing.{table_at}
-use borrow.Author.Rules.{rules}
 use Rattle.catalogue.proofs.table.dgn_at.Goals as goal
 
 pub returns : goal.returns

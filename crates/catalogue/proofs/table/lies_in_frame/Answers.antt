@@ -1,7 +1,6 @@
 -- `catalogue::table::lies_in_frame` meets its contract. Assumes nothing.
 use Rattle.words.proofs.Tests.{tests}
 use Rattle.catalogue.specs.Table.{lies_in_frame}
-use borrow.Author.Rules.{rules}
 use Rattle.catalogue.proofs.table.lies_in_frame.Goals as goal
 
 pub returns-then-row-lt1 : goal.returns-then-row-lt1

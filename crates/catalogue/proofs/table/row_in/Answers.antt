@@ -3,7 +3,6 @@ use mathlib.Core.Path.{ap, ◌∙◌}
 use native.Mathlib.Omega.{arith}
 use Rattle.catalogue.specs.Packed.{lying}
 use Rattle.catalogue.proofs.Packing.{row_past, row_there}
-use borrow.Author.Rules.{rules}
 use Rattle.catalogue.proofs.table.row_in.Goals as goal
 
 pub returns-then-table-n : goal.returns-then-table-n

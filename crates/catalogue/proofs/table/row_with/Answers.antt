@@ -1,10 +1,7 @@
 -- `catalogue::table::row_with` meets its contract. Assumes nothing.
 use mathlib.Core.Path.{sym, ◌∙◌}
-use Prim.Native.Nat.{◌-◌, ◌≤◌}
 use native.Mathlib.Omega.{arith}
-use borrow.Author.Rules.{rules}
-use lib.ListN.{length}
-use Rattle.catalogue.proofs.Packing.{From, from_first, from_next, from_here, from_last}
+use Rattle.catalogue.proofs.Packing.{from_first, from_next, from_here, from_last}
 use Rattle.catalogue.proofs.table.row_with.Goals as goal
 
 pub loop-i-init : goal.loop-i-init

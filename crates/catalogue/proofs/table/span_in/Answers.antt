@@ -4,7 +4,6 @@ use Prim.Native.Nat.{ℕ, ◌+◌}
 use native.Mathlib.Omega.{arith}
 use Rattle.catalogue.specs.Packed.{table_rows, halved, table_span}
 use Rattle.catalogue.proofs.Halving.{halved_rises}
-use borrow.Author.Rules.{rules}
 use Rattle.catalogue.proofs.table.span_in.Goals as goal
 
 facts : (c : goal.After-lower-end)

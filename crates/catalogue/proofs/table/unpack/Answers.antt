@@ -1,5 +1,4 @@
 -- `catalogue::table::unpack` meets its contract. Assumes nothing.
-use borrow.Author.Rules.{rules}
 use Rattle.catalogue.specs.Packed.{unpacked}
 use Rattle.catalogue.proofs.table.unpack.Goals as goal
 

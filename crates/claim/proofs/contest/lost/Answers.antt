@@ -1,5 +1,4 @@
 -- `claim::contest::lost` meets its contract. Assumes nothing.
-use borrow.Author.Rules.{rules}
 use Rattle.claim.specs.Claim.{lost_by}
 use Rattle.words.proofs.Tests.{tests}
 use Rattle.claim.proofs.contest.lost.Goals as goal

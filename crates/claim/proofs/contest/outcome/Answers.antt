@@ -1,5 +1,4 @@
 -- `claim::contest::outcome` meets its contract. Assumes nothing.
-use borrow.Author.Rules.{rules}
 use Rattle.claim.specs.Claim.{outcome_of}
 use Rattle.words.proofs.Tests.{tests}
 use Rattle.claim.proofs.contest.outcome.Goals as goal

@@ -1,5 +1,4 @@
 -- `claim::contest::sends` meets its contract. Assumes nothing.
-use borrow.Author.Rules.{rules}
 use Rattle.claim.specs.Claim.{claim_bytes}
 use Rattle.claim.proofs.contest.sends.Goals as goal
 

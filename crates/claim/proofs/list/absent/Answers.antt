@@ -1,13 +1,11 @@
 -- `claim::list::absent` meets its contract. Assumes nothing.
-use mathlib.Core.Path.{◌≡◌, refl, sym, ap, ◌∙◌}
+use mathlib.Core.Path.{refl, sym, ap, ◌∙◌}
 use mathlib.Core.Bool.{not}
-use Prim.Native.Nat.{◌≤◌, ◌<◌, ◌-◌}
+use Prim.Native.Nat.{◌≤◌, ◌<◌}
 use native.Mathlib.Omega.{arith}
 use borrow.Author.Rules.{rules}
 use borrow.Author.Tests.{eq-eqb, ne_eqb}
-use lib.ListN.{length, drop}
-use Rattle.words.specs.Words.{◌=?◌}
-use Rattle.words.specs.Lists.{any}
+use lib.ListN.{length}
 use Rattle.words.proofs.Lists.{any_pass, any_stop, any_end}
 use Rattle.claim.proofs.list.absent.Goals as goal
 

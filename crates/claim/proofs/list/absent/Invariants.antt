@@ -1,14 +1,9 @@
 -- What the loop of `claim::list::absent` keeps, and why it ends.
-use mathlib.Core.Path.{◌≡◌, refl, sym, ap, ◌∙◌}
-use mathlib.Core.Bool.{not}
-use Prim.Native.Nat.{◌≤◌, ◌<◌, ◌-◌}
-use native.Mathlib.Omega.{arith}
-use borrow.Author.Rules.{rules}
-use borrow.Author.Tests.{eq-eqb, ne_eqb}
+use mathlib.Core.Path.{◌≡◌}
+use Prim.Native.Nat.{◌≤◌, ◌-◌}
 use lib.ListN.{length, drop}
 use Rattle.words.specs.Words.{◌=?◌}
 use Rattle.words.specs.Lists.{any}
-use Rattle.words.proofs.Lists.{any_pass, any_stop, any_end}
 use Rattle.claim.proofs.list.absent.Given as goal
 
 abbrev pub invariant-loop-i : goal.invariant-loop-i

@@ -1,11 +1,10 @@
 -- `claim::list::addresses` meets its contract. Assumes nothing.
-use mathlib.Core.Path.{◌≡◌, refl, sym, ◌∙◌}
-use Prim.Native.Nat.{◌≤◌, ◌<◌, ◌-◌}
+use mathlib.Core.Path.{refl, sym, ◌∙◌}
+use Prim.Native.Nat.{◌≤◌, ◌<◌}
 use native.Mathlib.Omega.{arith}
 use borrow.Author.Rules.{rules}
 use borrow.Author.Tests.{le-leb, lt-leb}
-use lib.ListN.{length, drop, get_or}
-use Rattle.words.specs.Lists.{every}
+use lib.ListN.{length, get_or}
 use Rattle.frame.specs.Standard.{greatest_address}
 use Rattle.words.proofs.Lists.{every_pass, every_stop, every_end}
 use Rattle.claim.specs.Candidates.{is_address}

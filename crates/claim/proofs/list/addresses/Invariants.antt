@@ -1,13 +1,8 @@
 -- What the loop of `claim::list::addresses` keeps, and why it ends.
-use mathlib.Core.Path.{◌≡◌, refl, sym, ◌∙◌}
-use Prim.Native.Nat.{◌≤◌, ◌<◌, ◌-◌}
-use native.Mathlib.Omega.{arith}
-use borrow.Author.Rules.{rules}
-use borrow.Author.Tests.{le-leb, lt-leb}
-use lib.ListN.{length, drop, get_or}
+use mathlib.Core.Path.{◌≡◌}
+use Prim.Native.Nat.{◌≤◌, ◌-◌}
+use lib.ListN.{length, drop}
 use Rattle.words.specs.Lists.{every}
-use Rattle.frame.specs.Standard.{greatest_address}
-use Rattle.words.proofs.Lists.{every_pass, every_stop, every_end}
 use Rattle.claim.specs.Candidates.{is_address}
 use Rattle.claim.proofs.list.addresses.Given as goal
 

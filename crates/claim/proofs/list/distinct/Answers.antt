@@ -1,12 +1,10 @@
 -- `claim::list::distinct` meets its contract. Assumes nothing.
-use mathlib.Core.Path.{◌≡◌, refl, sym, ◌∙◌}
-use Prim.Native.Nat.{◌≤◌, ◌<◌, ◌-◌}
+use mathlib.Core.Path.{refl, sym, ◌∙◌}
+use Prim.Native.Nat.{◌≤◌, ◌<◌}
 use native.Mathlib.Omega.{arith}
 use borrow.Author.Rules.{rules}
 use borrow.Author.Tests.{not-true, not-false}
-use lib.ListN.{length, drop}
-use Rattle.words.specs.Words.{◌=?◌}
-use Rattle.words.specs.Lists.{no_two}
+use lib.ListN.{length}
 use Rattle.words.proofs.Lists.{no_two_pass, no_two_stop, no_two_end}
 use Rattle.claim.proofs.list.distinct.Goals as goal
 

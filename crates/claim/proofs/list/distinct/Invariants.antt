@@ -1,13 +1,9 @@
 -- What the loop of `claim::list::distinct` keeps, and why it ends.
-use mathlib.Core.Path.{◌≡◌, refl, sym, ◌∙◌}
-use Prim.Native.Nat.{◌≤◌, ◌<◌, ◌-◌}
-use native.Mathlib.Omega.{arith}
-use borrow.Author.Rules.{rules}
-use borrow.Author.Tests.{not-true, not-false}
+use mathlib.Core.Path.{◌≡◌}
+use Prim.Native.Nat.{◌≤◌, ◌-◌}
 use lib.ListN.{length, drop}
 use Rattle.words.specs.Words.{◌=?◌}
 use Rattle.words.specs.Lists.{no_two}
-use Rattle.words.proofs.Lists.{no_two_pass, no_two_stop, no_two_end}
 use Rattle.claim.proofs.list.distinct.Given as goal
 
 abbrev pub invariant-loop-i : goal.invariant-loop-i

@@ -1,10 +1,9 @@
 -- `claim::list::filled` meets its contract. Assumes nothing.
 use mathlib.Core.Path.{◌≡◌, refl}
-use mathlib.Core.List.{◌++◌}
-use Prim.Native.Nat.{◌≤◌, ◌<◌, ◌-◌}
+use Prim.Native.Nat.{◌<◌}
 use native.Mathlib.Omega.{arith}
 use borrow.Author.Rules.{rules}
-use lib.ListN.{length, take, replicate}
+use lib.ListN.{length}
 use Rattle.words.proofs.Lists.{fill_turn, fill_end}
 use Rattle.claim.specs.Candidates.{padded}
 use Rattle.claim.proofs.list.filled.Goals as goal

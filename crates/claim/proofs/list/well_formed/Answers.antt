@@ -2,7 +2,6 @@
 use mathlib.Core.Bool.{true, false}
 use mathlib.Core.Path.{◌≡◌, sym, ◌∙◌}
 use borrow.Author.Tests.{not-true, not-false}
-use borrow.Author.Rules.{rules}
 use Rattle.words.specs.Lists.{every}
 use Rattle.claim.specs.Candidates.{is_address, is_well_formed}
 use Rattle.words.proofs.Tests.{tests}

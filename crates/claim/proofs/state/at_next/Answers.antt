@@ -1,5 +1,4 @@
 -- `claim::state::at_next` meets its contract. Assumes nothing.
-use borrow.Author.Rules.{rules}
 use Rattle.claim.proofs.state.at_next.Goals as goal
 
 pub returns : goal.returns

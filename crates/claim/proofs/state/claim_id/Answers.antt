@@ -1,7 +1,6 @@
 -- `claim::state::claim_id` meets its contract. Assumes nothing.
 use mathlib.Core.Path.{ap}
 use Prim.Native.Nat.{ℕ, ◌+◌}
-use borrow.Author.Rules.{rules}
 use Rattle.claim.specs.Claim.{claim_id}
 use Rattle.frame.specs.Identifier.{identifier_of}
 use Rattle.claim.proofs.state.claim_id.Goals as goal

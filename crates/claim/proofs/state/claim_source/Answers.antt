@@ -1,5 +1,4 @@
 -- `claim::state::claim_source` meets its contract. Assumes nothing.
-use borrow.Author.Rules.{rules}
 use Rattle.claim.specs.Claim.{claim_source}
 use Rattle.words.proofs.Tests.{tests}
 use Rattle.claim.proofs.state.claim_source.Goals as goal

@@ -1,5 +1,4 @@
 -- `claim::state::fallen` meets its contract. Assumes nothing.
-use borrow.Author.Rules.{rules}
 use Rattle.claim.proofs.state.fallen.Goals as goal
 
 pub returns : goal.returns

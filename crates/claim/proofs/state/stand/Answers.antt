@@ -1,5 +1,4 @@
 -- `claim::state::stand` meets its contract. Assumes nothing.
-use borrow.Author.Rules.{rules}
 use Rattle.claim.specs.Claim.{stand_of}
 use Rattle.words.proofs.Tests.{tests}
 use Rattle.claim.proofs.state.stand.Goals as goal

@@ -1,7 +1,6 @@
 -- `claim::state::waited` meets its contract. Assumes nothing.
 use mathlib.Core.Path.{sym, ◌∙◌}
 use native.Mathlib.Omega.{arith}
-use borrow.Author.Rules.{rules}
 use Rattle.claim.proofs.Sound.{pause_silent, pause_over, pause_under}
 use Rattle.claim.proofs.state.waited.Goals as goal
 
