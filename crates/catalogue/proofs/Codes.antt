@@ -16,7 +16,6 @@ use Rattle.catalogue.specs.Codes.{code_where, class_code, from_zero, stepped_cod
 use Rattle.catalogue.specs.Private.{sign_of, raised_code}
 use Rattle.catalogue.specs.declared.Row.{Row}
 use Rattle.catalogue.specs.declared.Class.{Class}
-use Rattle.catalogue.specs.declared.Class.TheVariants as Class
 use Rattle.catalogue.specs.declared.Value.{Value}
 use Rattle.catalogue.specs.declared.Value.TheVariants.{Scaled, NoData, OutOfRange, Reserved}
 use Rattle.catalogue.proofs.Scales.{steps_small, scaled_is, sub_pos, sub_neg}

@@ -3,7 +3,7 @@
 use mathlib.Core.Path.{◌≡◌, refl, sym, ap, ◌∙◌, subst}
 use mathlib.Core.Bool.{true, false, not}
 use mathlib.Core.List.{List}
-use Prim.Native.Nat.{ℕ, ◌<◌}
+use Prim.Native.Nat.{ℕ}
 use borrow.Author.Tests.{ltb-true, ltb-false, eqb-true, eq-eqb, ne_eqb}
 use lib.ListN.{length, get_or-eq_default}
 use Rattle.words.specs.Words.{given◌then◌, ◌<?◌, ◌=?◌, Told, refused, gives}
@@ -139,16 +139,16 @@ module _ (row : Row) (id : ℕ) (bytes : List ℕ) where
 
 -- The row with a number is that row by value: past the end it is one that lies in no frame, and every row of the catalogue lies in one.
 
-no_row : lies_in_frame no_row ≡ false
+no_row_lem : lies_in_frame no_row ≡ false
 unfolding lies_in_frame
-no_row = refl
+no_row_lem = refl
 
 pub dgn_at_lem : (n dgn : ℕ) → row_of_dgn n dgn ≡ matching (row_at n) dgn
 unfolding row_of_dgn matching row_of row_in row_at
 dgn_at_lem n dgn =
     by_test (n <? length rows)
     (λ t. rw (t, lies_at rows whole n (ltb-true n (length rows) t)))
-    (λ t. rw (t, get_or-eq_default rows no_row (ltb-false n (length rows) t), no_row))
+    (λ t. rw (t, get_or-eq_default rows no_row (ltb-false n (length rows) t), no_row_lem))
 
 pub for_at : (n id size : ℕ) → row_for n id size ≡ opened_for (row_at n) id size
 unfolding row_for opened_for

@@ -3,7 +3,7 @@
 use mathlib.Core.Path.{◌≡◌, refl, sym, ◌∙◌, subst}
 use mathlib.Core.Bool.{Bool, true, false, not}
 use mathlib.Core.List.{List, [], ◌∷◌}
-use Prim.Native.Nat.{ℕ, ◌*◌, ◌-◌, ◌/◌, ◌^◌, ◌<◌}
+use Prim.Native.Nat.{ℕ, ◌*◌, ◌/◌, ◌^◌, ◌<◌}
 use native.Mathlib.Nat.{mod-lt}
 use native.Mathlib.Omega.{arith}
 use borrow.Author.Tests.{eqb-true, ltb-true, ltb-false}
@@ -25,7 +25,6 @@ use Rattle.catalogue.specs.Laws as Laws
 use Rattle.catalogue.specs.declared.Row.{Row}
 use Rattle.catalogue.specs.declared.Unit.TheVariants.{Other, Percent, Celsius, Volt, Ampere, Hertz}
 use Rattle.catalogue.specs.declared.Class.{Class}
-use Rattle.catalogue.specs.declared.Class.TheVariants as Class
 use Rattle.catalogue.specs.declared.Value.TheVariants as Value
 use Rattle.catalogue.proofs.Rule.{lies_at, whole}
 use Rattle.catalogue.proofs.Scales.{scaled_is}
@@ -63,10 +62,10 @@ is_byte : Told Row → Bool
 is_byte (refused n) = false
 is_byte (gives row) = row.width =? 8
 
-is_byte : (t : Told Row) → is_byte t ≡ true → (row : Row) × (t ≡ gives row) × (row.width ≡ 8)
+is_byte_lem : (t : Told Row) → is_byte t ≡ true → (row : Row) × (t ≡ gives row) × (row.width ≡ 8)
 unfolding is_byte
-is_byte (refused n) e = true_false (sym e)
-is_byte (gives row) e = (row, refl, eqb-true row.width 8 e)
+is_byte_lem (refused n) e = true_false (sym e)
+is_byte_lem (gives row) e = (row, refl, eqb-true row.width 8 e)
 
 all_bytes : every (λ dgn. is_byte (row_with rows dgn 0)) instance_dgns ≡ true
 unfolding is_byte row_with rows instance_dgns
@@ -80,7 +79,7 @@ among test k (n ∷ ns) a e =
 
 pub instance_row : Laws.InstanceRow
 unfolding has_instance
-instance_row dgn e = is_byte (row_with rows (catalogue_form dgn) 0)
+instance_row dgn e = is_byte_lem (row_with rows (catalogue_form dgn) 0)
     (among (λ d. is_byte (row_with rows d 0)) (catalogue_form dgn) instance_dgns all_bytes e)
 
 -- small values

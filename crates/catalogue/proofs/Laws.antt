@@ -34,13 +34,9 @@ use Rattle.catalogue.specs.declared.Class.{Class}
 use Rattle.catalogue.specs.declared.Class.TheVariants.{Number, NoData, OutOfRange, Reserved}
 use Rattle.catalogue.specs.declared.Value.{Value}
 use Rattle.catalogue.specs.declared.Looked.{Looked}
-use Rattle.catalogue.specs.declared.Looked.TheVariants as Looked
 use Rattle.catalogue.specs.declared.Reading.{Reading}
-use Rattle.catalogue.specs.declared.Reading.TheVariants as Reading
 use Rattle.catalogue.specs.declared.ScaledReading.{ScaledReading}
-use Rattle.catalogue.specs.declared.ScaledReading.TheVariants as ScaledReading
 use Rattle.catalogue.specs.declared.Writing.{Writing}
-use Rattle.catalogue.specs.declared.Writing.TheVariants as Writing
 use Rattle.catalogue.proofs.Rule as Rule
 use Rattle.catalogue.proofs.Packing as Packing
 use Rattle.catalogue.proofs.Bits as Bits
@@ -226,7 +222,7 @@ lowest_wins n id bytes value =
     let w = row_lowest_wins (row_at n) id bytes value in
     record {
       frame_first = λ k e. by_number k (w.frame_first k e);
-      row_next = λ parts e f. by_number 11 (w.row_next parts e (sym (Found.dgn_at n parts.dgn) ∙ f));
+      row_next = λ parts e f. by_number 11 (w.row_next parts e (sym (Found.dgn_at_lem n parts.dgn) ∙ f));
       code_last = λ row e f. written_at n id bytes value ∙ w.code_last row (sym (Found.for_at n id (length bytes)) ∙ e) f;
     }
   where
@@ -295,7 +291,7 @@ row_of_in_packed = Packing.row_of_in_packed
 -- the catalogue
 
 pub row_count_lem : Laws.RowCount
-row_count_lem = Rule.row_count
+row_count_lem = Rule.row_count_lem
 
 catalogue : Laws.Ruled rows
 catalogue = rule_holds rows catalogue_rule

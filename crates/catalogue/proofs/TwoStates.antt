@@ -3,7 +3,7 @@
 use mathlib.Core.Path.{◌≡◌, refl, sym, ap, ◌∙◌}
 use mathlib.Core.Bool.{Bool, true, false, not}
 use mathlib.Core.List.{List, [], ◌∷◌}
-use Prim.Native.Nat.{ℕ, zero, suc, ◌+◌, ◌-◌, ◌/◌, ◌%◌, ◌^◌, ◌≤◌, ◌<◌}
+use Prim.Native.Nat.{ℕ, zero, suc, ◌-◌, ◌/◌, ◌%◌, ◌^◌, ◌≤◌, ◌<◌}
 use native.Mathlib.Nat.{le_of_suc-le-suc, not-suc-le-zero, mod-lt}
 use native.Mathlib.Omega.{arith}
 use borrow.Author.Tests.{eqb-true, eqb-false, ltb-true, ltb-false}
@@ -19,7 +19,7 @@ use Rattle.words.proofs.Words.{by_test, both_true, true_false, gives_same}
 use Rattle.catalogue.specs.Rows.{rows, row_count}
 use Rattle.catalogue.specs.Table.{nth, no_row, lies_in_frame, row_at}
 use Rattle.catalogue.specs.Field.{field_of}
-use Rattle.catalogue.specs.Classes.{greatest_code, has_two_states, error_code, is_error, class_in, below_greatest, ◌is◌}
+use Rattle.catalogue.specs.Classes.{greatest_code, has_two_states, error_code, is_error, class_in, below_greatest}
 use Rattle.catalogue.specs.Scale.{scaled_of, value_as, value_of, steps_of, by_steps, celsius_steps, ampere_steps}
 use Rattle.catalogue.specs.Codes.{code_where, class_code, from_zero, stepped_code, scaled_code, code_of}
 use Rattle.catalogue.specs.Catalogue.{field_in, matching, opened_for, read_row_of, scaled_row_of, written_row_of}
@@ -31,7 +31,6 @@ use Rattle.catalogue.specs.declared.Unit.{Unit}
 use Rattle.catalogue.specs.declared.Unit.TheVariants.{Other, Percent, Celsius, Volt, Ampere, Hertz}
 use Rattle.catalogue.specs.declared.Field.{Field}
 use Rattle.catalogue.specs.declared.Class.{Class}
-use Rattle.catalogue.specs.declared.Class.TheVariants as Class
 use Rattle.catalogue.specs.declared.Value.{Value}
 use Rattle.catalogue.specs.declared.Value.TheVariants.{Scaled, NoData, OutOfRange, Reserved}
 use Rattle.catalogue.proofs.Rule.{row_count_lem}

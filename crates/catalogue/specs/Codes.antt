@@ -6,7 +6,6 @@ use Rattle.catalogue.specs.Classes.{greatest_code, class_in, below_greatest, ◌
 use Rattle.catalogue.specs.Scale.{steps_of}
 use Rattle.catalogue.specs.declared.Row.{Row}
 use Rattle.catalogue.specs.declared.Class.{Class}
-use Rattle.catalogue.specs.declared.Class.TheVariants as Class
 use Rattle.catalogue.specs.declared.Value.{Value}
 use Rattle.catalogue.specs.declared.Value.TheVariants.{Scaled, NoData, OutOfRange, Reserved}
 

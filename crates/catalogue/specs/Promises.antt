@@ -19,15 +19,10 @@ use Rattle.catalogue.specs.declared.Span.{Span}
 use Rattle.catalogue.specs.declared.Field.{Field}
 use Rattle.catalogue.specs.declared.Value.{Value}
 use Rattle.catalogue.specs.declared.Looked.{Looked}
-use Rattle.catalogue.specs.declared.Looked.TheVariants as Looked
 use Rattle.catalogue.specs.declared.Reading.{Reading}
-use Rattle.catalogue.specs.declared.Reading.TheVariants as Reading
 use Rattle.catalogue.specs.declared.ScaledReading.{ScaledReading}
-use Rattle.catalogue.specs.declared.ScaledReading.TheVariants as ScaledReading
 use Rattle.catalogue.specs.declared.Writing.{Writing}
-use Rattle.catalogue.specs.declared.Writing.TheVariants as Writing
 use Rattle.catalogue.specs.declared.Outcome.{Outcome}
-use Rattle.catalogue.specs.declared.Outcome.TheVariants as Outcome
 use Rattle.catalogue.specs.declared.Opened.{Opened}
 
 -- rows

@@ -6,10 +6,8 @@ use Rattle.catalogue.specs.declared.Row.{Row}
 use Rattle.catalogue.specs.declared.Unit.{Unit}
 use Rattle.catalogue.specs.declared.Unit.TheVariants.{Other, Percent, Celsius, Volt, Ampere, Hertz}
 use Rattle.catalogue.specs.declared.Class.{Class}
-use Rattle.catalogue.specs.declared.Class.TheVariants as Class
 use Rattle.catalogue.specs.declared.Field.{Field}
 use Rattle.catalogue.specs.declared.Value.{Value}
-use Rattle.catalogue.specs.declared.Value.TheVariants as Value
 use Rattle.catalogue.specs.declared.scale.Steps.{Steps}
 
 -- the scaled value of a number, by unit and width

@@ -15,7 +15,6 @@ use Rattle.frame.specs.Frame.{frame_bytes, source_allowed, checked_of}
 use Rattle.frame.specs.Standard.{claim_dgn, no_address}
 use Rattle.frame.specs.Laws.{told_but_priority}
 use Rattle.frame.specs.declared.Parts.{Parts}
-use Rattle.frame.specs.declared.BadFrame.{BadFrame}
 use Rattle.frame.specs.declared.BadFrame.TheVariants.{IdentifierTooLarge, NotEightBytes, ReservedBitSet}
 use Rattle.frame.specs.declared.BadFrame.TheVariants.{SourceNotAllowed}
 use Rattle.words.proofs.Words.{past_refusal, before_refusal, refused_gives, not_flips, by_test, both_true, true_false}
@@ -26,7 +25,7 @@ use Rattle.claim.specs.Candidates.{longest_list, is_well_formed, padded}
 use Rattle.claim.specs.Claim.{claim_priority, keeps_rules, holds_list, address, claim_source, claim_id, claim_bytes}
 use Rattle.claim.specs.Claim.{Stand, held, claiming, silent, begun, Outcome, nothing_to_do, own_name, repeated}
 use Rattle.claim.specs.Claim.{moved, fell_silent, outcome_of, after, pause}
-use Rattle.claim.specs.History.{Event, heard, paused, step, run}
+use Rattle.claim.specs.History.{Event, paused, step, run}
 use Rattle.claim.specs.Promises.{Pause, told_starting, told_hearing, told_pausing, told_standing, told_sending}
 use Rattle.claim.specs.Promises.{started_of, meets_frame, heard_of, after_told, is_sent_told, is_sound, sound_of}
 use Rattle.claim.specs.Private.{met_of}
@@ -34,16 +33,11 @@ use Rattle.claim.specs.Calls.{no_call, a_hear, a_pause, claim_in, events_of, eve
 use Rattle.claim.specs.Laws as the
 use Rattle.claim.specs.declared.Claim.{Claim}
 use Rattle.claim.specs.declared.Starting.{Starting}
-use Rattle.claim.specs.declared.Starting.TheVariants as Starting
 use Rattle.claim.specs.declared.Hearing.{Hearing}
-use Rattle.claim.specs.declared.Hearing.TheVariants as Hearing
 use Rattle.claim.specs.declared.Pausing.{Pausing}
-use Rattle.claim.specs.declared.Pausing.TheVariants as Pausing
 use Rattle.claim.specs.declared.Paused.{Paused}
 use Rattle.claim.specs.declared.Standing.{Standing}
-use Rattle.claim.specs.declared.Standing.TheVariants as Standing
 use Rattle.claim.specs.declared.Sending.{Sending}
-use Rattle.claim.specs.declared.Sending.TheVariants as Sending
 use Rattle.claim.proofs.Candidates.{well_formed}
 use Rattle.claim.proofs.Sound.{Rules, rules_of, of_rules, holds_of, address_low}
 use Rattle.claim.proofs.Outcomes.{rules_paused}
@@ -80,10 +74,10 @@ hearing_back_lem Hearing.SendClaimAgain = refl
 hearing_back_lem Hearing.SendNextClaim = refl
 hearing_back_lem Hearing.SendCannotClaim = refl
 hearing_back_lem Hearing.BrokenState = refl
-hearing_back_lem (Hearing.BadFrame IdentifierTooLarge) = ap Hearing.BadFrame (frame_laws.bad_back IdentifierTooLarge)
-hearing_back_lem (Hearing.BadFrame NotEightBytes) = ap Hearing.BadFrame (frame_laws.bad_back NotEightBytes)
-hearing_back_lem (Hearing.BadFrame ReservedBitSet) = ap Hearing.BadFrame (frame_laws.bad_back ReservedBitSet)
-hearing_back_lem (Hearing.BadFrame SourceNotAllowed) = ap Hearing.BadFrame (frame_laws.bad_back SourceNotAllowed)
+hearing_back_lem (Hearing.BadFrame IdentifierTooLarge) = ap Hearing.BadFrame (frame_laws.bad_back_lem IdentifierTooLarge)
+hearing_back_lem (Hearing.BadFrame NotEightBytes) = ap Hearing.BadFrame (frame_laws.bad_back_lem NotEightBytes)
+hearing_back_lem (Hearing.BadFrame ReservedBitSet) = ap Hearing.BadFrame (frame_laws.bad_back_lem ReservedBitSet)
+hearing_back_lem (Hearing.BadFrame SourceNotAllowed) = ap Hearing.BadFrame (frame_laws.bad_back_lem SourceNotAllowed)
 hearing_back_lem Hearing.ListMalformed = refl
 
 pub told_hearing_same : the.ToldHearingSame

@@ -30,10 +30,8 @@ use Rattle.claim.specs.Moves.{EveryRunRuns, Counts, LossesExactly, LossesAsTold,
 use Rattle.claim.specs.Moves.{RepeatsUnlimited, GivesUp, EveryCountReached, SentForEach}
 use Rattle.claim.specs.declared.Claim.{Claim}
 use Rattle.claim.specs.declared.Hearing.{Hearing}
-use Rattle.claim.specs.declared.Hearing.TheVariants as Hearing
 use Rattle.claim.specs.declared.Heard.{Heard}
 use Rattle.claim.specs.declared.Pausing.{Pausing}
-use Rattle.claim.specs.declared.Pausing.TheVariants as Pausing
 use Rattle.claim.specs.declared.Paused.{Paused}
 use Rattle.claim.specs.declared.Standing.{Standing}
 use Rattle.claim.specs.declared.Standing.TheVariants.{Held, Claiming, Silent}

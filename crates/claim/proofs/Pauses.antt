@@ -12,7 +12,6 @@ use Rattle.claim.specs.Promises.{told_pausing, is_sound, sound_of}
 use Rattle.claim.specs.Pauses.{counted, Pauses, pause_call, PausesAddUp}
 use Rattle.claim.specs.declared.Claim.{Claim}
 use Rattle.claim.specs.declared.Pausing.{Pausing}
-use Rattle.claim.specs.declared.Pausing.TheVariants as Pausing
 use Rattle.claim.proofs.Sound.{rules_of, pause_silent, pause_awake}
 use Rattle.claim.proofs.Outcomes.{rules_paused}
 use Rattle.claim.proofs.Machine.{node_paused, sound_same}

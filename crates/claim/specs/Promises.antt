@@ -13,18 +13,13 @@ use Rattle.claim.specs.Claim.{Outcome, nothing_to_do, own_name, repeated, moved,
 use Rattle.claim.specs.Claim.{is_sent, pause}
 use Rattle.claim.specs.declared.Claim.{Claim}
 use Rattle.claim.specs.declared.Starting.{Starting}
-use Rattle.claim.specs.declared.Starting.TheVariants as Starting
 use Rattle.claim.specs.declared.Started.{Started}
 use Rattle.claim.specs.declared.Hearing.{Hearing}
-use Rattle.claim.specs.declared.Hearing.TheVariants as Hearing
 use Rattle.claim.specs.declared.Heard.{Heard}
 use Rattle.claim.specs.declared.Pausing.{Pausing}
-use Rattle.claim.specs.declared.Pausing.TheVariants as Pausing
 use Rattle.claim.specs.declared.Paused.{Paused}
 use Rattle.claim.specs.declared.Standing.{Standing}
-use Rattle.claim.specs.declared.Standing.TheVariants as Standing
 use Rattle.claim.specs.declared.Sending.{Sending}
-use Rattle.claim.specs.declared.Sending.TheVariants as Sending
 use Rattle.claim.specs.declared.ClaimFrame.{ClaimFrame}
 
 -- beside an answer: the frame of our claim where it is to be sent, and no frame where nothing is

@@ -177,7 +177,7 @@ service_point_lowest_wins id bytes number =
 
 pub service_point_fits : Laws.ServicePointFits
 service_point_fits id bytes number e =
-    let s = gives_same (sym e ∙ Points.number_read id bytes (Points.opens_number id bytes number e)) in
+    let s = gives_same (sym e ∙ Points.number_read_lem id bytes (Points.opens_number id bytes number e)) in
     let h = Points.code_below high_part id bytes in
     let m = Points.code_below middle_part id bytes in
     let l = Points.code_below low_part id bytes in

@@ -116,10 +116,10 @@ requesting_back_lem Requesting.NothingToDo f = refl
 requesting_back_lem Requesting.Send f = refl
 requesting_back_lem Requesting.BrokenState f = refl
 requesting_back_lem (Requesting.BadFrame IdentifierTooLarge) f =
-    ap Requesting.BadFrame (frame_laws.bad_back IdentifierTooLarge)
-requesting_back_lem (Requesting.BadFrame NotEightBytes) f = ap Requesting.BadFrame (frame_laws.bad_back NotEightBytes)
-requesting_back_lem (Requesting.BadFrame ReservedBitSet) f = ap Requesting.BadFrame (frame_laws.bad_back ReservedBitSet)
-requesting_back_lem (Requesting.BadFrame SourceNotAllowed) f = ap Requesting.BadFrame (frame_laws.bad_back SourceNotAllowed)
+    ap Requesting.BadFrame (frame_laws.bad_back_lem IdentifierTooLarge)
+requesting_back_lem (Requesting.BadFrame NotEightBytes) f = ap Requesting.BadFrame (frame_laws.bad_back_lem NotEightBytes)
+requesting_back_lem (Requesting.BadFrame ReservedBitSet) f = ap Requesting.BadFrame (frame_laws.bad_back_lem ReservedBitSet)
+requesting_back_lem (Requesting.BadFrame SourceNotAllowed) f = ap Requesting.BadFrame (frame_laws.bad_back_lem SourceNotAllowed)
 requesting_back_lem Requesting.ListMalformed f = refl
 requesting_back_lem Requesting.DgnTooLarge f = refl
 requesting_back_lem Requesting.NoAddressHeld f = refl

@@ -1,6 +1,6 @@
 -- The laws of a network, proved.
 -- Assumes nothing.
-pub use Rattle.network.proofs.NoTwo.{no_two, last_word}
+pub use Rattle.network.proofs.NoTwo.{no_two_lem as no_two, last_word}
 pub use Rattle.network.proofs.Few.{few_claims, few_deliveries}
 pub use Rattle.network.proofs.Deliver.{delivers_on, comes_to_rest, every_act_can, none_refuses}
 pub use Rattle.network.proofs.Held.{held_at_last}

@@ -82,10 +82,10 @@ hearing_back_lem : (r : Hearing) → hearing_back (told_hearing r) ≡ r
 unfolding hearing_back
 hearing_back_lem (Hearing.Heard mask) = refl
 hearing_back_lem Hearing.BrokenState = refl
-hearing_back_lem (Hearing.BadFrame IdentifierTooLarge) = ap Hearing.BadFrame (frame_laws.bad_back IdentifierTooLarge)
-hearing_back_lem (Hearing.BadFrame NotEightBytes) = ap Hearing.BadFrame (frame_laws.bad_back NotEightBytes)
-hearing_back_lem (Hearing.BadFrame ReservedBitSet) = ap Hearing.BadFrame (frame_laws.bad_back ReservedBitSet)
-hearing_back_lem (Hearing.BadFrame SourceNotAllowed) = ap Hearing.BadFrame (frame_laws.bad_back SourceNotAllowed)
+hearing_back_lem (Hearing.BadFrame IdentifierTooLarge) = ap Hearing.BadFrame (frame_laws.bad_back_lem IdentifierTooLarge)
+hearing_back_lem (Hearing.BadFrame NotEightBytes) = ap Hearing.BadFrame (frame_laws.bad_back_lem NotEightBytes)
+hearing_back_lem (Hearing.BadFrame ReservedBitSet) = ap Hearing.BadFrame (frame_laws.bad_back_lem ReservedBitSet)
+hearing_back_lem (Hearing.BadFrame SourceNotAllowed) = ap Hearing.BadFrame (frame_laws.bad_back_lem SourceNotAllowed)
 
 pub told_hearing_same : Laws.ToldHearingSame
 told_hearing_same r s e = sym (hearing_back_lem r) ∙ ap hearing_back e ∙ hearing_back_lem s

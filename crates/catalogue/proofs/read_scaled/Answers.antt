@@ -3,7 +3,6 @@ use mathlib.Core.Path.{sym, ap, ◌∙◌}
 use Rattle.catalogue.specs.Catalogue.{scaled_row_of}
 use Rattle.catalogue.specs.declared.Row.{Row}
 use Rattle.catalogue.proofs.Found.{scaled_at}
-use borrow.Author.Rules.{rules}
 use Rattle.catalogue.proofs.read_scaled.Goals as goal
 
 pub returns : goal.returns

@@ -7,7 +7,6 @@ use mathlib.Core.List.{List}
 use Prim.Native.Nat.{ℕ}
 use Rattle.words.specs.Words.{Told}
 use Rattle.catalogue.proofs.Found.{written_at}
-use borrow.Author.Rules.{rules}
 use Rattle.catalogue.proofs.write.Goals as goal
 
 pub returns : goal.returns

@@ -1,6 +1,5 @@
 -- `catalogue::write_row` meets its contract. Assumes nothing.
 use mathlib.Core.Path.{refl, sym, ap, ◌∙◌}
-use borrow.Author.Rules.{rules}
 use lib.ListN.{length}
 use Rattle.catalogue.specs.declared.Writing.TheVariants.{BadFrame, NoSuchRow, NoCode}
 use Rattle.catalogue.specs.Promises.{told_outcome}
@@ -26,27 +25,24 @@ pub returns-in_default : goal.returns-in_default
 returns-in_default c =
     let s = c in
     let a = s.args in
-    let o = c.outcome-in-At-1 in
-    let e = sym c.open_row-opened.ensures.outcome ∙ ap told_outcome o.given.1 in
+    let e = sym c.open_row-opened.ensures.outcome ∙ ap told_outcome c.in-At.is in
     let f = sym c.code_of.ensures ∙ ap told_coded c.in_default.is in
-    write_keeps a.row a.id a.bytes.now a.value NoCode 12 refl (write_uncoded a.row a.id a.bytes.now a.value o.given.0.0 12 e f)
+    write_keeps a.row a.id a.bytes.now a.value NoCode 12 refl (write_uncoded a.row a.id a.bytes.now a.value c.in-At.row 12 e f)
 
 pub put-requires : goal.put-requires
 put-requires c =
     let s = c in
     let a = s.args in
-    let o = c.outcome-in-At-1 in
-    let e = sym c.open_row-opened.ensures.outcome ∙ ap told_outcome o.given.1 in
+    let e = sym c.open_row-opened.ensures.outcome ∙ ap told_outcome c.in-At.is in
     let f = sym c.code_of.ensures ∙ ap told_coded c.in-Code.is in
-    (found_frame a.row a.id (length a.bytes.now) o.given.0.0 e, (code_given o.given.0.0 a.value c.in-Code.code f).fits)
+    record { in_frame = found_frame a.row a.id (length a.bytes.now) c.in-At.row e; code_bound = (code_given c.in-At.row a.value c.in-Code.code f).fits }
 
 pub store-requires : goal.store-requires
 store-requires c =
     let s = c in
     let a = s.args in
-    let o = c.outcome-in-At-1 in
-    let e = sym c.open_row-opened.ensures.outcome ∙ ap told_outcome o.given.1 in
-    (found a.row a.id (length a.bytes.now) o.given.0.0 e).eight
+    let e = sym c.open_row-opened.ensures.outcome ∙ ap told_outcome c.in-At.is in
+    (found a.row a.id (length a.bytes.now) c.in-At.row e).eight
 
 pub returns-in-Bad : goal.returns-in-Bad
 returns-in-Bad c =
@@ -70,12 +66,10 @@ returns-in-Code c =
     let a = s.args in
     let bs = a.bytes.now in
     let r = c.open_row-opened in
-    let o = c.outcome-in-At-1 in
-    let row = o.given.0.0 in
-    let k = c.code-1 in
-    let code = k.given.0.0 in
-    let e = sym r.ensures.outcome ∙ ap told_outcome o.given.1 in
-    let f = sym c.code_of.ensures ∙ ap told_coded k.given.1 in
+    let row = c.in-At.row in
+    let code = c.in-Code.code in
+    let e = sym r.ensures.outcome ∙ ap told_outcome c.in-At.is in
+    let f = sym c.code_of.ensures ∙ ap told_coded c.in-Code.is in
     let m = r.ensures.number ∙ ap number_of (found_bytes a.row a.id (length bs) row e bs) in
     let p = c.put.ensures ∙ ap (with_field row.first row.width code) m in
     write_gives a.row a.id bs a.value (replaced row code bs) _ (write_row a.row a.id bs a.value row code e f) (c.store.ensures ∙ ap (bytes_of frame_bytes) p)

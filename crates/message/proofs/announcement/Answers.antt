@@ -1,7 +1,6 @@
 -- `message::announcement` meets its contract. Assumes nothing.
 use mathlib.Core.Path.{refl, sym, ap, ◌∙◌}
 use native.Mathlib.Omega.{arith}
-use borrow.Author.Rules.{rules}
 use lib.ListN.{length}
 use Rattle.message.specs.Private.{told_splits}
 use Rattle.message.proofs.Packets.{splits_given, announcement_refused, announcement_given}

@@ -1,6 +1,5 @@
 -- `message::packet` meets its contract. Assumes nothing.
 use mathlib.Core.Path.{sym, ap, ◌∙◌}
-use borrow.Author.Rules.{rules}
 use lib.ListN.{length}
 use Rattle.message.specs.declared.Splitting.TheVariants.{Refused}
 use Rattle.message.specs.Private.{told_splits}

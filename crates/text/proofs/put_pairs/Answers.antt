@@ -1,5 +1,5 @@
 -- `text::put_pairs` meets its contract. Assumes nothing.
-use Prim.Native.Nat.{◌≤◌, ◌-◌, ◌*◌, ◌+◌, ◌<◌}
+use Prim.Native.Nat.{◌*◌, ◌+◌, ◌<◌}
 use mathlib.Core.Path.{◌≡◌, refl, ap, ◌∙◌}
 use lib.ListN.{length, take, get_or}
 use lib.Seq.{take-length, length-take-le}
@@ -28,10 +28,10 @@ loop-i-preserved c =
     length_pairs (take l.i a.bytes.now) ∙ ap (λ k. 2 * k) (length-take-le l.i a.bytes.now (omega arith))
     in
     let m : l.end ≡ a.at + length pairs = omega arith in
-    let w : p.new.0 ≡ placed l.out l.end (digits 16 2 b) =
+    let w : p.new.out ≡ placed l.out l.end (digits 16 2 b) =
     rw (← c.wide-byte.ensures) p.ensures.0 in
     let e = one_behind a.out.now pairs (digits 16 2 b) a.at l.invariant.3 m w (omega arith) in
-    let k : length p.new.0 ≡ length l.out =
+    let k : length p.new.out ≡ length l.out =
     ap length w ∙ length_placed l.out (digits 16 2 b) l.end (rw (length_digits 16 2 b) (omega arith)) in
     (search rules, omega arith, k ∙ l.invariant.2, rw (pairs_turn a.bytes.now l.i h) e)
 

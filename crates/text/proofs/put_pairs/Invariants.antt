@@ -1,14 +1,9 @@
 -- What the loop of `text::put_pairs` keeps, and why it ends.
-use Prim.Native.Nat.{◌≤◌, ◌-◌, ◌*◌, ◌+◌, ◌<◌}
-use mathlib.Core.Path.{◌≡◌, refl, ap, ◌∙◌}
-use lib.ListN.{length, take, get_or}
-use lib.Seq.{take-length, length-take-le}
-use Rattle.text.specs.Text.{digits, byte_pairs}
+use Prim.Native.Nat.{◌≤◌, ◌-◌, ◌*◌, ◌+◌}
+use mathlib.Core.Path.{◌≡◌}
+use lib.ListN.{length, take}
+use Rattle.text.specs.Text.{byte_pairs}
 use Rattle.text.specs.Pieces.{placed}
-use Rattle.text.proofs.Digits.{length_digits, length_pairs, pairs_turn}
-use Rattle.text.proofs.Pieces.{one_behind, length_placed, placed_nothing}
-use borrow.Author.Rules.{rules}
-use native.Mathlib.Omega.{arith}
 use Rattle.text.proofs.put_pairs.Given as goal
 
 abbrev pub invariant-loop-i : goal.invariant-loop-i

@@ -1,5 +1,4 @@
 -- `capture::blocks::close` meets its contract. Assumes nothing.
-use borrow.Author.Rules.{rules}
 use Rattle.capture.specs.Cutter.{closed}
 use Rattle.words.proofs.Tests.{tests}
 use Rattle.capture.proofs.blocks.close.Goals as goal

@@ -2,7 +2,6 @@
 use mathlib.Core.Path.{sym, ◌∙◌}
 use Prim.Native.Nat.{◌-◌}
 use borrow.Author.Rules.{rules}
-use lib.ListN.{length}
 use Rattle.capture.specs.Cutter.{line_at}
 use Rattle.words.proofs.Tests.{tests}
 use Rattle.capture.proofs.Cuts.{not_too_long}

@@ -1,10 +1,9 @@
 -- `capture::blocks::newline` meets its contract. Assumes nothing.
-use mathlib.Core.Path.{◌≡◌, refl, sym, ◌∙◌}
-use Prim.Native.Nat.{◌≤◌, ◌<◌, ◌+◌, ◌-◌}
+use mathlib.Core.Path.{refl, sym, ◌∙◌}
+use Prim.Native.Nat.{◌≤◌, ◌<◌}
 use native.Mathlib.Omega.{arith}
 use borrow.Author.Rules.{rules}
-use lib.ListN.{length, drop}
-use Rattle.capture.specs.Stream.{line_in}
+use lib.ListN.{length}
 use Rattle.capture.proofs.Stream.{newline_pass, newline_stop, newline_end}
 use Rattle.capture.proofs.blocks.newline.Goals as goal
 

@@ -3,7 +3,6 @@ use mathlib.Core.Path.{sym, ◌∙◌}
 use Prim.Native.Nat.{◌+◌, ◌-◌}
 use native.Mathlib.Omega.{arith}
 use borrow.Author.Tests.{ltb-true, ltb-false, lt-ltb, le-ltb}
-use lib.ListN.{length}
 use Rattle.capture.specs.Cutter.{is_too_long}
 use Rattle.words.proofs.Words.{by_test}
 use Rattle.words.specs.Words.{◌<?◌}

@@ -1,14 +1,13 @@
 -- `capture::spelling::eight_bytes` meets its contract. Assumes nothing.
 use mathlib.Core.Path.{◌≡◌, refl, sym, ◌∙◌, ap}
-use Prim.Native.Nat.{ℕ, ◌≤◌, ◌+◌, ◌-◌, ◌*◌}
+use Prim.Native.Nat.{ℕ, ◌+◌, ◌-◌, ◌*◌}
 use native.Mathlib.Omega.{arith}
 use borrow.Author.Rules.{rules}
-use lib.ListN.{replicate, length, take, drop, length-set}
+use lib.ListN.{replicate, take, drop, length-set}
 use Rattle.capture.specs.Private.{told_spelled}
 use Rattle.capture.specs.Digits.{number_read}
-use Rattle.capture.specs.Line.{bytes_read}
 use Rattle.words.specs.Words.{refused, gives}
-use Rattle.capture.proofs.Lines.{on_to, pairs_start, pairs_pass, pairs_stop, pairs_end, pair_below}
+use Rattle.capture.proofs.Lines.{pairs_start, pairs_pass, pairs_stop, pairs_end, pair_below}
 use Rattle.capture.proofs.spelling.eight_bytes.Goals as goal
 
 pub loop-i-init : goal.loop-i-init

@@ -1,14 +1,9 @@
 -- What the loop of `capture::spelling::eight_bytes` keeps, and why it ends.
-use mathlib.Core.Path.{◌≡◌, refl, sym, ◌∙◌, ap}
-use Prim.Native.Nat.{ℕ, ◌≤◌, ◌+◌, ◌-◌, ◌*◌}
-use native.Mathlib.Omega.{arith}
-use borrow.Author.Rules.{rules}
-use lib.ListN.{replicate, length, take, drop, length-set}
-use Rattle.capture.specs.Private.{told_spelled}
-use Rattle.capture.specs.Digits.{number_read}
+use mathlib.Core.Path.{◌≡◌}
+use Prim.Native.Nat.{◌≤◌, ◌-◌, ◌*◌}
+use lib.ListN.{length, take, drop}
 use Rattle.capture.specs.Line.{bytes_read}
-use Rattle.words.specs.Words.{refused, gives}
-use Rattle.capture.proofs.Lines.{on_to, pairs_start, pairs_pass, pairs_stop, pairs_end, pair_below}
+use Rattle.capture.proofs.Lines.{on_to}
 use Rattle.capture.proofs.spelling.eight_bytes.Given as goal
 
 abbrev pub invariant-loop-i : goal.invariant-loop-i

@@ -1,6 +1,5 @@
 -- `capture::spelling::gap` meets its contract. Assumes nothing.
 use mathlib.Core.Path.{sym, ◌∙◌, ap}
-use borrow.Author.Rules.{rules}
 use Rattle.capture.specs.Private.{told_spelled}
 use Rattle.capture.specs.Line.{gap_read}
 use Rattle.words.proofs.Tests.{tests}

@@ -1,11 +1,11 @@
 -- `capture::spelling::number` meets its contract. Assumes nothing.
-use mathlib.Core.Path.{◌≡◌, refl, sym, ◌∙◌}
-use Prim.Native.Nat.{◌≤◌, ◌<◌, ◌-◌, ◌^◌}
+use mathlib.Core.Path.{refl, sym, ◌∙◌}
+use Prim.Native.Nat.{◌≤◌, ◌<◌}
 use native.Mathlib.Omega.{arith}
 use borrow.Author.Rules.{rules}
-use lib.ListN.{length, drop, get_or}
+use lib.ListN.{length, get_or}
 use Rattle.capture.specs.Digits.{number_read, value_of}
-use Rattle.capture.proofs.Digits.{read_on, read_pass, read_stop, read_end, read_room}
+use Rattle.capture.proofs.Digits.{read_pass, read_stop, read_end, read_room}
 use Rattle.capture.proofs.spelling.number.Goals as goal
 
 pub loop-i-init : goal.loop-i-init

@@ -1,11 +1,9 @@
 -- What the loop of `capture::spelling::number` keeps, and why it ends.
-use mathlib.Core.Path.{◌≡◌, refl, sym, ◌∙◌}
+use mathlib.Core.Path.{◌≡◌}
 use Prim.Native.Nat.{◌≤◌, ◌<◌, ◌-◌, ◌^◌}
-use native.Mathlib.Omega.{arith}
-use borrow.Author.Rules.{rules}
-use lib.ListN.{length, drop, get_or}
-use Rattle.capture.specs.Digits.{number_read, value_of}
-use Rattle.capture.proofs.Digits.{read_on, read_pass, read_stop, read_end, read_room}
+use lib.ListN.{length, drop}
+use Rattle.capture.specs.Digits.{number_read}
+use Rattle.capture.proofs.Digits.{read_on}
 use Rattle.capture.proofs.spelling.number.Given as goal
 
 abbrev pub invariant-loop-i : goal.invariant-loop-i

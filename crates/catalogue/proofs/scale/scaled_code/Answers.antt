@@ -2,7 +2,6 @@
 use mathlib.Core.Path.{◌≡◌, sym, ap, ◌∙◌}
 use native.Mathlib.Omega.{arith}
 use borrow.Author.Tests.{le-leb, lt-leb}
-use borrow.Author.Rules.{rules}
 use mir.ValLaws.{to_z-of_z}
 use mir.Syntax.{w64}
 use Rattle.catalogue.specs.declared.scale.Sign.TheVariants.{From, Below}
@@ -24,7 +23,7 @@ overflow_add-steps c =
 pub stepped_code-requires : goal.stepped_code-requires
 stepped_code-requires c =
     let s = c in
-    (s.requires, rw c.steps_of-steps.ensures (steps_small s.args.row.unit s.args.row.width).some)
+    record { in_frame = s.requires; step_nonzero = rw c.steps_of-steps.ensures (steps_small s.args.row.unit s.args.row.width).some }
 
 pub returns-then-steps-n : goal.returns-then-steps-n
 returns-then-steps-n c =
@@ -37,7 +36,7 @@ returns-then-steps-n c =
 pub stepped_code-requires-in-Below : goal.stepped_code-requires-in-Below
 stepped_code-requires-in-Below c =
     let s = c in
-    (s.requires, rw c.steps_of-steps.ensures (steps_small s.args.row.unit s.args.row.width).some)
+    record { in_frame = s.requires; step_nonzero = rw c.steps_of-steps.ensures (steps_small s.args.row.unit s.args.row.width).some }
 
 pub returns-in-From : goal.returns-in-From
 returns-in-From c =

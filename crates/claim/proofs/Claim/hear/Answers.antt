@@ -1,7 +1,6 @@
 -- `claim::Claim::hear` meets its contract. Assumes nothing.
 use mathlib.Core.Path.{refl, sym}
 use native.Mathlib.Omega.{arith}
-use borrow.Author.Rules.{rules}
 use Rattle.claim.specs.Claim.{repeated, moved, fell_silent, at_next, after, is_sent}
 use Rattle.claim.proofs.Calls.{hear_room, hear_count, hear_sends, hear_keeps}
 use Rattle.claim.proofs.Claim.hear.Goals as goal
@@ -14,7 +13,7 @@ pub at_next-requires : goal.at_next-requires
 unfolding after
 at_next-requires c =
     let h = hear_room _ _ _ _ _ c.answer_to-answer.ensures c.in-SendNextClaim.is (at_next c.args.self) moved refl refl in
-    (omega arith, hear_count _ _ _ _ _ c.answer_to-answer.ensures c.in-SendNextClaim.is moved refl)
+    record { position_bound = omega arith; losses_bound = hear_count _ _ _ _ _ c.answer_to-answer.ensures c.in-SendNextClaim.is moved refl }
 
 pub sends-requires-in-SendNextClaim : goal.sends-requires-in-SendNextClaim
 unfolding after

@@ -18,4 +18,4 @@ slice_bounds-well_formed-end c =
     omega arith
 
 pub returns : goal.returns
-returns c = record { answer = holds_list_lem _ _ (omega arith) c.well-formed-2.ensures }
+returns c = record { answer = holds_list_lem _ _ (omega arith) c.well_formed-2.ensures }

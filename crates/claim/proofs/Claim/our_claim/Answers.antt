@@ -1,7 +1,6 @@
 -- `claim::Claim::our_claim` meets its contract. Assumes nothing.
 use mathlib.Core.Path.{sym, ◌∙◌}
 use borrow.Author.Tests.{not-true, not-false}
-use borrow.Author.Rules.{rules}
 use Rattle.claim.specs.Claim.{claim_bytes}
 use Rattle.claim.proofs.Calls.{sound_broken, sound_ill, sound_well, in_array}
 use Rattle.claim.proofs.Claim.our_claim.Goals as goal

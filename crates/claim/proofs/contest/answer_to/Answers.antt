@@ -1,7 +1,6 @@
 -- `claim::contest::answer_to` meets its contract. Assumes nothing.
 use mathlib.Core.Path.{sym, ◌∙◌}
 use borrow.Author.Tests.{not-true, not-false}
-use borrow.Author.Rules.{rules}
 use Rattle.claim.proofs.Calls.{heard_broken, heard_bad, heard_sound}
 use Rattle.claim.proofs.Sound.{rules_of}
 use Rattle.claim.proofs.contest.answer_to.Goals as goal

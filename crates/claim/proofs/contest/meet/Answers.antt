@@ -3,7 +3,6 @@ use mathlib.Core.Path.{sym, ap, ◌∙◌}
 use Prim.Native.Nat.{ℕ}
 use native.Mathlib.Omega.{arith}
 use borrow.Author.Tests.{not-true, not-false}
-use borrow.Author.Rules.{rules}
 use Rattle.words.specs.Words.{gives}
 use Rattle.claim.specs.Claim.{outcome_of}
 use Rattle.claim.proofs.Calls.{met_ill, met_other, met_claim}

@@ -9,14 +9,14 @@ use Rattle.command.proofs.Host.start.Goals as goal
 pub returns-then-not-well_formed : goal.returns-then-not-well_formed
 unfolding started_of
 returns-then-not-well_formed c =
-    let e = sym c.well-formed-2.ensures ∙ not-true _ c.if-not-well_formed.true-raw in
+    let e = sym c.well_formed-2.ensures ∙ not-true _ c.if-not-well_formed.true-raw in
     record { answer = sym (rw e); state = c.empty.ensures ∙ sym (rw e) }
 
 pub begun-requires : goal.begun-requires
-begun-requires c = well_few _ (sym c.well-formed-2.ensures ∙ not-false _ c.if-not-well_formed.false-raw)
+begun-requires c = well_few _ (sym c.well_formed-2.ensures ∙ not-false _ c.if-not-well_formed.false-raw)
 
 pub returns : goal.returns
 unfolding started_of
 returns c =
-    let e = sym c.well-formed-2.ensures ∙ not-false _ c.if-not-well_formed.false-raw in
+    let e = sym c.well_formed-2.ensures ∙ not-false _ c.if-not-well_formed.false-raw in
     record { answer = sym (rw e); state = c.begun.ensures ∙ sym (rw e) }

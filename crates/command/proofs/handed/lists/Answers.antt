@@ -15,12 +15,12 @@ pub returns-then-not-well_formed : goal.returns-then-not-well_formed
 returns-then-not-well_formed c =
     let w = c in
     let h = sym w.holds_list.ensures.answer ∙ not-false _ w.if-not-holds_list.false-raw in
-    let f = sym w.well-formed-2.ensures ∙ not-true _ c.if-not-well_formed.true-raw in
+    let f = sym w.well_formed-2.ensures ∙ not-true _ c.if-not-well_formed.true-raw in
     rw (h, f) (bare_handed 16 _ ListMalformed _ refl c.bare-then-not-well_formed.ensures)
 
 pub returns : goal.returns
 returns c =
     let w = c in
     let h = sym w.holds_list.ensures.answer ∙ not-false _ w.if-not-holds_list.false-raw in
-    let f = sym w.well-formed-2.ensures ∙ not-false _ c.if-not-well_formed.false-raw in
+    let f = sym w.well_formed-2.ensures ∙ not-false _ c.if-not-well_formed.false-raw in
     rw (h, f) (record { answer = refl; data_bytes = refl })

@@ -12,6 +12,6 @@ returns c =
     let k = c in
     let a = k.args in
     let kept = first_kept a.at a.p a.bytes a.storage.now in
-    let e : k.keep.new.0 ≡ kept = rw k.at_most-count.ensures at k.keep.ensures in
+    let e : k.keep.new.storage ≡ kept = rw k.at_most-count.ensures at k.keep.ensures in
     subst⁻¹ (λ (s : List ℕ). LeftBy (entered a.at a.p a.r kept) c.entered.result s) e
     (c.entered.ensures kept)

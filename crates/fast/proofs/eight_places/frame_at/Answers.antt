@@ -42,7 +42,7 @@ returns c =
     let p = get_or a.r.places a.at free_place in
     let kept = kept_at a.at p a.bytes a.storage.now in
     let n = b.if-number-p.false in
-    let e : k.keep.new.0 ≡ kept = rw (k.at_most-count.ensures, n) at k.keep.ensures in
+    let e : k.keep.new.storage ≡ kept = rw (k.at_most-count.ensures, n) at k.keep.ensures in
     left_as
     (frame_expected a.at p a.r a.storage.now a.sequence a.number a.bytes
     b.if-sequence-p.false n)

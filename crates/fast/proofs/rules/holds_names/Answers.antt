@@ -20,4 +20,4 @@ slice_bounds-well_formed-end c =
 pub returns : goal.returns
 returns c =
     let b = c in
-    holds_names_lem b.args.r _ b.if-named-gt-DGNS.false c.well-formed-2.ensures
+    holds_names_lem b.args.r _ b.if-named-gt-DGNS.false c.well_formed-2.ensures

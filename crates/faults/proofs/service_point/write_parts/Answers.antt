@@ -9,7 +9,7 @@ returns c =
     let second = third in
     let first = second in
     let s = first in
-    parts_written s.args.id s.args.bytes.now s.args.number _ _ _ _ _ _ _ _ _ s.requires.0 s.requires.1
+    parts_written s.args.id s.args.bytes.now s.args.number _ _ _ _ _ _ _ _ _ s.requires.has_service_point s.requires.number_lt_service_points
     first.value_of.ensures first.write.ensures
     second.value_of-2.ensures second.write-2.ensures
     third.value_of-3.ensures third.write-3.ensures

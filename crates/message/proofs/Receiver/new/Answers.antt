@@ -1,6 +1,5 @@
 -- `message::Receiver::new` meets its contract. Assumes nothing.
 use mathlib.Core.Path.{ap}
-use borrow.Author.Rules.{rules}
 use lib.ListN.{replicate}
 use Rattle.message.specs.declared.Place.{Place}
 use Rattle.message.proofs.Receiver.new.Goals as goal

@@ -1,6 +1,5 @@
 -- `message::eight_places::advance` meets its contract. Assumes nothing.
 use mathlib.Core.Path.{refl, ap, ◌∙◌}
-use borrow.Author.Rules.{rules}
 use lib.ListN.{set}
 use Rattle.message.specs.declared.Place.{Place}
 use Rattle.message.specs.declared.Answer.TheVariants.{Finished, Stored}

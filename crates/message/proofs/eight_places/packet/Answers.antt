@@ -1,6 +1,5 @@
 -- `message::eight_places::packet` meets its contract. Assumes nothing.
 use mathlib.Core.Path.{◌≡◌, refl, sym, ◌∙◌}
-use borrow.Author.Rules.{rules}
 use lib.ListN.{length}
 use Rattle.message.specs.Receiver.{is_open_by}
 use Rattle.message.specs.declared.Answer.TheVariants.{NoOpenMessage}

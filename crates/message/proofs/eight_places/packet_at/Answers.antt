@@ -2,7 +2,6 @@
 use mathlib.Core.List.{List}
 use mathlib.Core.Path.{◌≡◌, refl, ap, ◌∙◌, subst⁻¹}
 use Prim.Native.Nat.{ℕ}
-use borrow.Author.Rules.{rules}
 use lib.ListN.{set, get_or}
 use Rattle.message.specs.Promises.{LeftBy}
 use Rattle.message.specs.Receiver.{kept_at, advanced, free_place}
@@ -24,6 +23,6 @@ returns c =
     let ps = a.r.places in
     let p = get_or ps a.at free_place in
     let n = k.if-number-p.false in
-    let e : k.keep.new.0 ≡ kept_at a.at p a.bytes a.storage.now = k.keep.ensures ∙ rw (k.at_most_seven-count.ensures, n) in
+    let e : k.keep.new.storage ≡ kept_at a.at p a.bytes a.storage.now = k.keep.ensures ∙ rw (k.at_most_seven-count.ensures, n) in
     left_as (packet_expected a.at p ps a.storage.now a.number a.bytes n)
     (subst⁻¹ (λ (s : List ℕ). LeftBy (advanced a.at p ps (kept_at a.at p a.bytes a.storage.now)) c.advance.result s) e (c.advance.ensures (kept_at a.at p a.bytes a.storage.now)))

@@ -1,5 +1,4 @@
 -- `message::meaning::announced` meets its contract. Assumes nothing.
-use borrow.Author.Rules.{rules}
 use Rattle.message.specs.LongMessage.{announced}
 use Rattle.words.proofs.Tests.{tests}
 use Rattle.message.proofs.meaning.announced.Goals as goal

@@ -1,6 +1,5 @@
 -- `message::meaning::dgn_in` meets its contract. Assumes nothing.
 use native.Mathlib.Omega.{arith}
-use borrow.Author.Rules.{rules}
 use Rattle.frame.specs.Bytes.{number_of}
 use Rattle.message.proofs.Bytes.{dgn_bytes_lem}
 use Rattle.message.proofs.meaning.dgn_in.Goals as goal

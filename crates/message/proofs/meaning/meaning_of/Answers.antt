@@ -1,6 +1,5 @@
 -- `message::meaning::meaning_of` meets its contract. Assumes nothing.
 use mathlib.Core.Path.{◌∙◌}
-use borrow.Author.Rules.{rules}
 use Rattle.message.specs.LongMessage.{meant}
 use Rattle.words.proofs.Tests.{tests}
 use Rattle.message.proofs.meaning.meaning_of.Goals as goal

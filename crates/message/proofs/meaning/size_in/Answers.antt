@@ -1,6 +1,5 @@
 -- `message::meaning::size_in` meets its contract. Assumes nothing.
 use native.Mathlib.Omega.{arith}
-use borrow.Author.Rules.{rules}
 use Rattle.message.proofs.Bytes.{size_bytes}
 use Rattle.message.proofs.meaning.size_in.Goals as goal
 

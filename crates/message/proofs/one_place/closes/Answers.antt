@@ -1,5 +1,4 @@
 -- `message::one_place::closes` meets its contract. Assumes nothing.
-use borrow.Author.Rules.{rules}
 use Rattle.message.specs.Receiver.{closes}
 use Rattle.words.proofs.Tests.{tests}
 use Rattle.message.proofs.one_place.closes.Goals as goal

@@ -1,5 +1,4 @@
 -- `message::one_place::idled` meets its contract. Assumes nothing.
-use borrow.Author.Rules.{rules}
 use Rattle.message.specs.Receiver.{idled}
 use Rattle.words.proofs.Tests.{tests}
 use Rattle.message.proofs.one_place.idled.Goals as goal

@@ -1,5 +1,4 @@
 -- `message::one_place::keeps_rules` meets its contract. Assumes nothing.
-use borrow.Author.Rules.{rules}
 use Rattle.message.specs.Receiver.{place_keeps_rules}
 use Rattle.words.proofs.Tests.{tests}
 use Rattle.message.proofs.one_place.keeps_rules.Goals as goal

@@ -1,7 +1,6 @@
 -- `message::rules::keep_rules` meets its contract. Assumes nothing.
 use mathlib.Core.Path.{sym, ◌∙◌}
 use borrow.Author.Tests.{not-true, not-false}
-use borrow.Author.Rules.{rules}
 use Rattle.message.specs.Receiver.{keeps_rules}
 use Rattle.message.proofs.rules.keep_rules.Goals as goal
 

@@ -1,5 +1,4 @@
 -- `message::splitter::announcement_bytes` meets its contract. Assumes nothing.
-use borrow.Author.Rules.{rules}
 use Rattle.frame.specs.Bytes.{bytes_of}
 use Rattle.message.specs.Splitter.{announcement_bytes}
 use Rattle.message.proofs.splitter.announcement_bytes.Goals as goal

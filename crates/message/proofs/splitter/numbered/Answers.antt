@@ -1,6 +1,5 @@
 -- `message::splitter::numbered` meets its contract. Assumes nothing.
 use mathlib.Core.Path.{refl}
-use borrow.Author.Rules.{rules}
 use Rattle.message.specs.declared.Splitting.TheVariants.{NoSuchPacket}
 use Rattle.message.proofs.Packets.{split_refused, numbered_zero, numbered_above, numbered_given}
 use Rattle.message.proofs.splitter.numbered.Goals as goal

@@ -1,6 +1,5 @@
 -- `message::splitter::packet_bytes` meets its contract. Assumes nothing.
 use mathlib.Core.Path.{◌∙◌}
-use borrow.Author.Rules.{rules}
 use Rattle.message.proofs.Packets.{packet_copied}
 use Rattle.message.proofs.splitter.packet_bytes.Goals as goal
 

@@ -1,4 +1,5 @@
 -- `nodes::flat::claimed` meets its contract. Assumes nothing.
+use borrow.Author.Rules.{rules}
 use Rattle.words.proofs.Tests.{tests}
 use Rattle.nodes.specs.Table.{claimed_at}
 use Rattle.nodes.proofs.flat.claimed.Goals as goal

@@ -3,7 +3,7 @@ use borrow.Author.Rules.{rules}
 use Rattle.nodes.proofs.flat.holder_again.Goals as goal
 
 pub returns-then-n : goal.returns-then-n
-returns-then-n c = rw c.if-n.true c.Stands-from.ensures
+returns-then-n c = rw c.if-n.true c.stands_from.ensures
 
 pub returns : goal.returns
 returns c = rw c.if-n.false

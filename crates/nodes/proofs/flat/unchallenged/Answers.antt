@@ -1,4 +1,5 @@
 -- `nodes::flat::unchallenged` meets its contract. Assumes nothing.
+use borrow.Author.Rules.{rules}
 use Rattle.nodes.specs.Table.{unchallenged_of}
 use Rattle.nodes.proofs.flat.unchallenged.Goals as goal
 

@@ -18,7 +18,7 @@ hear-requires c =
     let h = c in
     let a = h.args in
     let k = sym h.keep_rules.ensures ∙ not-false _ h.if-not-keep_rules.false-raw in
-    (sound_frame a.id a.bytes.now a.self _ h.check-checked.ensures _ c.in-Sound.is, k)
+    record { fact_1 = sound_frame a.id a.bytes.now a.self _ h.check-checked.ensures _ c.in-Sound.is; fact_2 = k }
 
 pub returns-in-Bad : goal.returns-in-Bad
 returns-in-Bad c =

@@ -12,19 +12,12 @@ mask-mask-requires c = c.packed_rows-table.ensures.answer
 pub heard_by_all-requires : goal.heard_by_all-requires
 heard_by_all-requires c =
     let s = c in
-    let a = s.args in (
-      c.packed_rows-table.ensures.answer,
-      (
-        subst (λ (d : ℕ). IsSound a.id a.bytes.now d a.instance)
-            (sym c.catalogue_form-form.ensures.answer) s.requires.0,
-        s.requires.1,
-      ),
-    )
+    let a = s.args in record { fact_1 = c.packed_rows-table.ensures.answer; fact_2 = ( subst (λ (d : ℕ). IsSound a.id a.bytes.now d a.instance) (sym c.catalogue_form-form.ensures.answer) s.requires.fact_1, s.requires.fact_2, ); fact_3 =  }
 
 pub returns : goal.returns
 returns c =
     let s = c in
     let a = s.args in
     all_heard _ _ a.instance _ a.bytes.now a.p _
-    c.catalogue_form-form.ensures.answer s.requires.0.of_instance
+    c.catalogue_form-form.ensures.answer s.requires.fact_1.of_instance
     c.heard_by_all.ensures c.mask-mask.ensures

@@ -19,7 +19,7 @@ pub loop-i-init : goal.loop-i-init
 unfolding keeps_rules
 loop-i-init c =
     let s = c in
-    (search rules, search length_field, s.requires.0, s.requires.1.0, s.requires.1.1, refl)
+    (search rules, search length_field, s.requires.fact_1, s.requires.fact_2.0, s.requires.fact_2.1, refl)
 
 pub heard_by-requires : goal.heard_by-requires
 heard_by-requires c =
@@ -28,14 +28,7 @@ heard_by-requires c =
     let ts = a.p.tiles in
     let h : l.i < length ts = omega arith in
     let e = ap (λ (x : List Tile). get_or x l.i blank_tile) l.invariant.5 ∙ map_at (heard_by a.dgn a.bytes.now) ts
-    l.i blank_tile h in (
-      l.invariant.2,
-      (
-        l.invariant.3,
-        subst (λ (x : Tile). tile_keeps_rules x ≡ true) (sym e)
-            (every_at tile_keeps_rules ts l.i blank_tile h l.invariant.4),
-      ),
-    )
+    l.i blank_tile h in record { fact_1 = l.invariant.2; fact_2 = ( l.invariant.3, subst (λ (x : Tile). tile_keeps_rules x ≡ true) (sym e) (every_at tile_keeps_rules ts l.i blank_tile h l.invariant.4), ); fact_3 =  }
 
 pub loop-i-preserved : goal.loop-i-preserved
 loop-i-preserved c =
