@@ -13,7 +13,6 @@ use Rattle.capture.specs.Stream.{newline, longest_line, most_lines, line_in}
 use Rattle.capture.specs.Cutter.{is_too_long, carried_on, closed, line_at, cutting_of, cutter_after, read_to}
 use Rattle.capture.specs.declared.Cutter.{Cutter}
 use Rattle.capture.specs.declared.Cutting.{Cutting}
-use Rattle.capture.specs.declared.Cutting.TheVariants as Cutting
 
 -- answer, cutter and position
 pub record CutIs (c : Cutter) (at : ℕ) (rest : List ℕ) (answer : Cutting) (after : Cutter) (to : ℕ) : Type 0 where

@@ -23,9 +23,7 @@ use Rattle.capture.specs.Laws.{EveryStreamIsFed}
 use Rattle.capture.specs.declared.Cutter.{Cutter}
 use Rattle.capture.specs.declared.Cut.{Cut}
 use Rattle.capture.specs.declared.Cutting.{Cutting}
-use Rattle.capture.specs.declared.Cutting.TheVariants as Cutting
 use Rattle.capture.specs.declared.Ending.{Ending}
-use Rattle.capture.specs.declared.Ending.TheVariants as Ending
 use Rattle.capture.proofs.Cuts.{CutIs, all_read_lem, none_left, no_newline, a_line, line_take, not_too_long}
 
 -- Lines of a stream.

@@ -22,7 +22,6 @@ use Rattle.capture.specs.Laws.{MalformedExactly, OnlyNineteen, OneLine, OneFrame
 use Rattle.capture.specs.Laws.{text_of, WrittenTakenApart, TakenApartWritten, NoBytesNoLines, FinalNewline}
 use Rattle.capture.specs.Laws.{NoMoreLines, PieceSays}
 use Rattle.capture.specs.declared.Reading.{Reading}
-use Rattle.capture.specs.declared.Reading.TheVariants as Reading
 use Rattle.capture.specs.declared.Line.{Line}
 use Rattle.capture.specs.declared.Text.{Text}
 use Rattle.capture.proofs.Digits.{spelled_read, read_spelled, read_below}

@@ -15,14 +15,12 @@ use Rattle.capture.specs.Cutter.{has_newline, is_too_long, cutting_of, cutter_af
 use Rattle.capture.specs.Promises.{Next}
 use Rattle.capture.specs.Feeding.{brings, used, over, yield_in, yield_of, last_pieces, Place, inside, Fed}
 use Rattle.capture.specs.Feeding as Feeding
-use Rattle.capture.specs.Runs.{Stop, goes_on, Ran, begun, a_line, all_used, all_read, Prints, InTurn}
+use Rattle.capture.specs.Runs.{Stop, goes_on, Ran, begun, a_line, all_used, no_more_lines, Prints, InTurn}
 use Rattle.capture.specs.Runs as Runs
 use Rattle.capture.specs.declared.Cutter.{Cutter}
 use Rattle.capture.specs.declared.Cut.{Cut}
 use Rattle.capture.specs.declared.Cutting.{Cutting}
-use Rattle.capture.specs.declared.Cutting.TheVariants as Cutting
 use Rattle.capture.specs.declared.Ending.{Ending}
-use Rattle.capture.specs.declared.Ending.TheVariants as Ending
 use Rattle.capture.proofs.Feeding.{blocks_do_not_matter}
 
 -- What a call of `next` cuts: nothing, for all the lines that are read are cut; one line more; or nothing, for no newline is left.
@@ -95,16 +93,16 @@ unfolding ending_of
 ended c h = let t : most_lines ≤? c.lines ≡ true = search tests in rw t
 
 -- Two runs, the one behind the other.
-pub ran_join : {block : List ℕ} {at mid to : ℕ} {c c' c'' : Cutter} {pieces more : List Piece} {stop : Stop}
+pub ran_join : {block : List ℕ} {at mid : ℕ} {c c' : Cutter} {to : ℕ} {c'' : Cutter} {pieces more : List Piece} {stop : Stop}
     → Ran block at c pieces mid c' goes_on → Ran block mid c' more to c'' stop → Ran block at c (pieces ++ more) to c'' stop
 ran_join {pieces = pieces} a begun = rw append-nil a
 ran_join {pieces = pieces} a (a_line {pieces = before} r piece b n y) =
     rw (← append_assoc pieces before (piece ∷ [])) (a_line r piece (ran_join a b) n y)
 ran_join a (all_used r b n y) = all_used r (ran_join a b) n y
-ran_join a (all_read r b n y) = all_read r (ran_join a b) n y
+ran_join a (no_more_lines r b n y) = no_more_lines r (ran_join a b) n y
 
 -- A run in front of what is fed behind it.
-fed_run : {block : List ℕ} {at at' : ℕ} {c c' : Cutter} {pieces more : List Piece} {blocks : List (List ℕ)}
+fed_run : {block : List ℕ} {at : ℕ} {c : Cutter} {at' : ℕ} {c' : Cutter} {pieces more : List Piece} {blocks : List (List ℕ)}
     → Ran block at c pieces at' c' goes_on → Fed c' (inside block at') blocks more
     → Fed c (inside block at) blocks (pieces ++ more)
 fed_run begun f = f
@@ -137,7 +135,7 @@ module _ (say : List Piece → List Piece → List ℕ) (close : List Piece → 
         fed = fed_run ran (Feeding.a_block_used c₁ block at₁ blocks r t.pieces n y t.fed);
         said = in_front before pieces t.pieces t.said;
       }
-  told (Runs.all_lines_read {before = before} {pieces = pieces} {block = block} {blocks = blocks} (all_read {at' = at₁} {c' = c₁} r ran n y)) =
+  told (Runs.all_lines_read {before = before} {pieces = pieces} {block = block} {blocks = blocks} (no_more_lines {at' = at₁} {c' = c₁} r ran n y)) =
       let o = over_same n y in
       let e : ending_of r.cutter ≡ Ending.Nothing = ap ending_of o.0 ∙ ended c₁ o.1 in
       record {

@@ -6,9 +6,7 @@ use Rattle.text.specs.Pieces.{placed}
 use Rattle.capture.specs.Stream.{longest_line, most_lines, line_in}
 use Rattle.capture.specs.declared.Cutter.{Cutter}
 use Rattle.capture.specs.declared.Cutting.{Cutting}
-use Rattle.capture.specs.declared.Cutting.TheVariants as Cutting
 use Rattle.capture.specs.declared.Ending.{Ending}
-use Rattle.capture.specs.declared.Ending.TheVariants as Ending
 
 -- at the start of a stream
 abbrev pub fresh : Cutter

@@ -6,9 +6,7 @@ use Rattle.capture.specs.Promises.{Next, Last}
 use Rattle.capture.specs.declared.Cutter.{Cutter}
 use Rattle.capture.specs.declared.Cut.{Cut}
 use Rattle.capture.specs.declared.Cutting.{Cutting}
-use Rattle.capture.specs.declared.Cutting.TheVariants as Cutting
 use Rattle.capture.specs.declared.Ending.{Ending}
-use Rattle.capture.specs.declared.Ending.TheVariants as Ending
 
 -- the stream that blocks make
 abbrev pub joined : List (List ℕ) → List ℕ

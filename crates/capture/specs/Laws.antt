@@ -13,14 +13,12 @@ use Rattle.capture.specs.Promises.{told_reading, frame_in, no_frame}
 use Rattle.capture.specs.Promises.{TakeApart, Write, New, Next, Last, ReadingRefusal}
 use Rattle.capture.specs.Feeding.{joined, yield_of, brings, between, Fed}
 use Rattle.capture.specs.declared.Reading.{Reading}
-use Rattle.capture.specs.declared.Reading.TheVariants as Reading
 use Rattle.capture.specs.declared.Line.{Line}
 use Rattle.capture.specs.declared.Text.{Text}
 use Rattle.capture.specs.declared.Cutter.{Cutter}
 use Rattle.capture.specs.declared.Cut.{Cut}
 use Rattle.capture.specs.declared.Cutting.TheVariants as Cutting
 use Rattle.capture.specs.declared.Ending.{Ending}
-use Rattle.capture.specs.declared.Ending.TheVariants as Ending
 
 -- An answer read as number and values loses nothing (RULES 2.10).
 abbrev pub ToldReadingSame : Type 0

@@ -7,7 +7,6 @@ use Rattle.frame.specs.Frame.{frame_bytes}
 use Rattle.capture.specs.Line.{Frame, line_of, line_read, longest_sound}
 use Rattle.capture.specs.Cutter.{fresh, cutting_of, cutter_after, read_to, ending_of}
 use Rattle.capture.specs.declared.Reading.{Reading}
-use Rattle.capture.specs.declared.Reading.TheVariants as Reading
 use Rattle.capture.specs.declared.Line.{Line}
 use Rattle.capture.specs.declared.Text.{Text}
 use Rattle.capture.specs.declared.Cutter.{Cutter}

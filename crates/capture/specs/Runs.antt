@@ -24,7 +24,7 @@ pub data Ran (block : List ℕ) (at : ℕ) (c : Cutter) : List Piece → ℕ →
   all_used : {pieces : List Piece} {at' : ℕ} {c' : Cutter} (r : Cut)
       → Ran block at c pieces at' c' goes_on → Next block at' c' r → yield_of block r ≡ used
       → Ran block at c pieces r.read_to r.cutter block_used
-  all_read : {pieces : List Piece} {at' : ℕ} {c' : Cutter} (r : Cut)
+  no_more_lines : {pieces : List Piece} {at' : ℕ} {c' : Cutter} (r : Cut)
       → Ran block at c pieces at' c' goes_on → Next block at' c' r → yield_of block r ≡ over
       → Ran block at c pieces r.read_to r.cutter all_read
 

@@ -39,14 +39,11 @@ use Rattle.command.specs.declared.Entry.{Entry}
 use Rattle.command.specs.declared.Host.{Host}
 use Rattle.command.specs.declared.Positions.{Positions}
 use Rattle.command.specs.declared.Routing.{Routing}
-use Rattle.command.specs.declared.Routing.TheVariants as Routing
 use Rattle.command.specs.declared.Routed.{Routed}
 use Rattle.command.specs.declared.Requesting.{Requesting}
-use Rattle.command.specs.declared.Requesting.TheVariants as Requesting
 use Rattle.command.specs.declared.Requested.{Requested}
 use Rattle.command.specs.declared.Acknowledgment.{Acknowledgment}
 use Rattle.command.specs.declared.Acknowledging.{Acknowledging}
-use Rattle.command.specs.declared.Acknowledging.TheVariants as Acknowledging
 use Rattle.command.specs.declared.Acknowledged.{Acknowledged}
 use Rattle.command.proofs.Picks.{listed_filled}
 

@@ -38,14 +38,10 @@ use Rattle.command.specs.declared.Edition.TheVariants.{One, Two}
 use Rattle.command.specs.declared.Entry.{Entry}
 use Rattle.command.specs.declared.Host.{Host}
 use Rattle.command.specs.declared.Starting.{Starting}
-use Rattle.command.specs.declared.Starting.TheVariants as Starting
 use Rattle.command.specs.declared.Routing.{Routing}
-use Rattle.command.specs.declared.Routing.TheVariants as Routing
 use Rattle.command.specs.declared.Requesting.{Requesting}
-use Rattle.command.specs.declared.Requesting.TheVariants as Requesting
 use Rattle.command.specs.declared.Acknowledgment.{Acknowledgment}
 use Rattle.command.specs.declared.Acknowledging.{Acknowledging}
-use Rattle.command.specs.declared.Acknowledging.TheVariants as Acknowledging
 use Rattle.command.proofs.Handing.{well_few, handed_broken, handed_lists}
 use Rattle.command.proofs.Answers.{acknowledged_broken, acknowledged_nobody, acknowledged_ill}
 use Rattle.command.proofs.Answers.{acknowledged_large, acknowledged_unheld, routed_refused, requested_refused}

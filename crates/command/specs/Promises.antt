@@ -16,17 +16,13 @@ use Rattle.command.specs.declared.Edition.{Edition}
 use Rattle.command.specs.declared.Entry.{Entry}
 use Rattle.command.specs.declared.Host.{Host}
 use Rattle.command.specs.declared.Starting.{Starting}
-use Rattle.command.specs.declared.Starting.TheVariants as Starting
 use Rattle.command.specs.declared.Started.{Started}
 use Rattle.command.specs.declared.Routing.{Routing}
-use Rattle.command.specs.declared.Routing.TheVariants as Routing
 use Rattle.command.specs.declared.Routed.{Routed}
 use Rattle.command.specs.declared.Requesting.{Requesting}
-use Rattle.command.specs.declared.Requesting.TheVariants as Requesting
 use Rattle.command.specs.declared.Requested.{Requested}
 use Rattle.command.specs.declared.Acknowledgment.{Acknowledgment}
 use Rattle.command.specs.declared.Acknowledging.{Acknowledging}
-use Rattle.command.specs.declared.Acknowledging.TheVariants as Acknowledging
 use Rattle.command.specs.declared.Acknowledged.{Acknowledged}
 
 -- Host::start

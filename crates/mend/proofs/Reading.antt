@@ -9,7 +9,7 @@ use Rattle.text.specs.Pieces.{Wrote}
 use Rattle.capture.specs.Stream.{Piece}
 use Rattle.capture.specs.Promises.{Next, Last}
 use Rattle.capture.specs.Feeding.{brings, used, over, yield_of, last_pieces}
-use Rattle.capture.specs.Runs.{Stop, Ran, begun, a_line, all_used, all_read}
+use Rattle.capture.specs.Runs.{Stop, Ran, begun, a_line, all_used, no_more_lines}
 use Rattle.capture.specs.declared.Cutter.{Cutter}
 use Rattle.capture.specs.declared.Cut.{Cut}
 use Rattle.capture.specs.declared.Ending.{Ending}
@@ -56,7 +56,7 @@ pub ran_lines : {block : List ℕ} {at at' : ℕ} {c c' : Cutter} {pieces : List
 ran_lines begun = omega arith
 ran_lines (a_line {pieces = pieces} r piece ran n y) = omega (arith, (brought n y).1, ran_lines ran, length-append pieces (piece ∷ []))
 ran_lines (all_used r ran n y) = used_lines n y ∙ ran_lines ran
-ran_lines (all_read r ran n y) = ap (λ (x : Cutter). x.lines) (over_same n y).0 ∙ ran_lines ran
+ran_lines (no_more_lines r ran n y) = ap (λ (x : Cutter). x.lines) (over_same n y).0 ∙ ran_lines ran
 
 -- A turn that takes a line, and one that takes none.
 
@@ -92,7 +92,7 @@ pub read_up : {pass : Pass} {block out : List ℕ} {read_to written_to : ℕ} {c
     → Turned pass block read_to c out written_to (left_at r.cutter r.read_to written_to Over) out
 read_up {r = r} n y h =
     record {
-      does = λ from first d. record { pieces = d.pieces; ran = all_read r d.ran n y; written = d.written };
+      does = λ from first d. record { pieces = d.pieces; ran = no_more_lines r d.ran n y; written = d.written };
       fits = h;
       advances = λ e. let z : ◌≡◌ {A = ℕ} 0 1 = cc in absurd (omega arith);
     }

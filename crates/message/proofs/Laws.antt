@@ -40,19 +40,15 @@ use Rattle.message.specs.Laws.{AnnouncingRefusalOnly, SplittingRefusalOnly, Refu
 use Rattle.message.specs.Laws.{LowestWins, PauseRefusedKeeps, WritesThePacket, WritesItsOwn, NotBeyond}
 use Rattle.message.specs.Laws.{SplitterAnnounces, SplitterSplits}
 use Rattle.message.specs.declared.Place.{Place}
-use Rattle.message.specs.declared.Receiver.{Receiver}
 use Rattle.message.specs.declared.Answer.{Answer}
 use Rattle.message.specs.declared.Answer.TheVariants.{StorageTooShort, BrokenState, BadFrame}
 use Rattle.message.specs.declared.Answer.TheVariants.{MalformedAnnouncement, NoPlaceFree, NoOpenMessage}
 use Rattle.message.specs.declared.Answer.TheVariants.{UnexpectedPacket, NothingToDo, Opened, Stored, Finished}
 use Rattle.message.specs.declared.Pausing.{Pausing}
-use Rattle.message.specs.declared.Pausing.TheVariants as Pausing
 use Rattle.message.specs.declared.Unsplittable.{Unsplittable}
 use Rattle.message.specs.declared.Unsplittable.TheVariants.{NoCode, LengthNotSplit}
 use Rattle.message.specs.declared.Announcing.{Announcing}
-use Rattle.message.specs.declared.Announcing.TheVariants as Announcing
 use Rattle.message.specs.declared.Splitting.{Splitting}
-use Rattle.message.specs.declared.Splitting.TheVariants as Splitting
 use Rattle.message.proofs.Frames.{Known, meaning_known}
 use Rattle.message.proofs.Steps.{found_below, OpenRules, rules_at, announcing_at, announcing_nowhere}
 use Rattle.message.proofs.Steps.{advanced_last, advanced_next, advanced_storage, packet_expected, packet_other}

@@ -24,7 +24,6 @@ use Rattle.message.specs.Calls.{Held, Pauses}
 use Rattle.message.specs.Pauses.{pause_call, PausesAddUp}
 use Rattle.message.specs.declared.Place.{Place}
 use Rattle.message.specs.declared.Pausing.{Pausing}
-use Rattle.message.specs.declared.Pausing.TheVariants as Pausing
 use Rattle.message.proofs.Steps.{OpenRules, open_rules}
 
 -- an open place that keeps its rules

@@ -24,10 +24,8 @@ use Rattle.message.specs.declared.Pausing.{Pausing}
 use Rattle.message.specs.declared.Paused.{Paused}
 use Rattle.message.specs.declared.Unsplittable.{Unsplittable}
 use Rattle.message.specs.declared.Announcing.{Announcing}
-use Rattle.message.specs.declared.Announcing.TheVariants as Announcing
 use Rattle.message.specs.declared.Announced.{Announced}
 use Rattle.message.specs.declared.Splitting.{Splitting}
-use Rattle.message.specs.declared.Splitting.TheVariants as Splitting
 use Rattle.message.specs.declared.Split.{Split}
 
 -- An answer read as number and values loses nothing (RULES 2.10).

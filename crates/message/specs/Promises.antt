@@ -18,15 +18,12 @@ use Rattle.message.specs.declared.Answer.TheVariants.{MalformedAnnouncement, NoP
 use Rattle.message.specs.declared.Answer.TheVariants.{UnexpectedPacket, NothingToDo, Opened, Stored, Finished}
 use Rattle.message.specs.declared.Heard.{Heard}
 use Rattle.message.specs.declared.Pausing.{Pausing}
-use Rattle.message.specs.declared.Pausing.TheVariants as Pausing
 use Rattle.message.specs.declared.Paused.{Paused}
 use Rattle.message.specs.declared.Unsplittable.{Unsplittable}
 use Rattle.message.specs.declared.Unsplittable.TheVariants.{NoCode, LengthNotSplit}
 use Rattle.message.specs.declared.Announcing.{Announcing}
-use Rattle.message.specs.declared.Announcing.TheVariants as Announcing
 use Rattle.message.specs.declared.Announced.{Announced}
 use Rattle.message.specs.declared.Splitting.{Splitting}
-use Rattle.message.specs.declared.Splitting.TheVariants as Splitting
 use Rattle.message.specs.declared.Split.{Split}
 
 -- Receiver::new

@@ -12,7 +12,7 @@ use Rattle.capture.specs.Line.{line_read}
 use Rattle.capture.specs.Stream.{Piece, whole, too_long, piece_read}
 use Rattle.capture.specs.Promises.{Next, Last}
 use Rattle.capture.specs.Feeding.{brings, used, over, yield_of, last_pieces}
-use Rattle.capture.specs.Runs.{Stop, goes_on, begun, a_line, all_used, all_read}
+use Rattle.capture.specs.Runs.{Stop, goes_on, begun, a_line, all_used, no_more_lines}
 use Rattle.capture.specs.declared.Cutter.{Cutter}
 use Rattle.capture.specs.declared.Cut.{Cut}
 use Rattle.capture.specs.declared.Cutting.TheVariants as Cutting
@@ -108,7 +108,7 @@ read_up {r = r} ok n y h =
       does = λ from first table₀ d.
           let before_it = d.taken in
           record {
-            taken = record { pieces = before_it.pieces; ran = all_read r before_it.ran n y; counted = before_it.counted };
+            taken = record { pieces = before_it.pieces; ran = no_more_lines r before_it.ran n y; counted = before_it.counted };
             printed = d.printed;
           };
       ready = record { lines = ap (λ (x : Cutter). x.lines) (over_same n y).0 ∙ ok.lines; held = ok.held };

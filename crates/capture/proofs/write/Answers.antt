@@ -8,9 +8,6 @@ use Rattle.capture.specs.Line.{Frame}
 use Rattle.capture.proofs.Writing.{line_put}
 use Rattle.capture.proofs.write.Goals as goal
 
-eight : (c : goal.Start) → length c.args.bytes ≡ 8
-eight c = search rules
-
 pub returns : goal.returns
 returns c =
     let p₃ = c in
@@ -20,5 +17,6 @@ returns c =
     let a = start.args in
     let f : Frame = record { gap = a.gap; id = a.id; bytes = a.bytes } in
     let g : a.gap ≤ 65535 = omega arith in
-    let w = line_put f g (eight start) p₁.put_decimal-gap_end.ensures p₂.put_hex-id_end.ensures p₃.put_bytes-count.ensures in
+    let eight : length a.bytes ≡ 8 = search rules in
+    let w = line_put f g eight p₁.put_decimal-gap_end.ensures p₂.put_hex-id_end.ensures p₃.put_bytes-count.ensures in
     record { text = w.0; count = w.1 }

@@ -1,7 +1,6 @@
 -- `command::acknowledge` meets its contract. Assumes nothing.
 use mathlib.Core.Path.{refl, sym, ap, ◌∙◌}
 use borrow.Author.Tests.{not-true, not-false}
-use borrow.Author.Rules.{rules}
 use Rattle.command.specs.Acknowledgment.{acknowledgment_frame}
 use Rattle.command.specs.declared.address.Address.{Address}
 use Rattle.claim.proofs.Calls.{sound_well}

@@ -1,6 +1,5 @@
 -- `command::Host::request` meets its contract. Assumes nothing.
 use mathlib.Core.Path.{refl}
-use borrow.Author.Rules.{rules}
 use Rattle.command.specs.declared.handed.Handing.TheVariants as Handing
 use Rattle.command.specs.declared.Requesting.TheVariants as Requesting
 use Rattle.frame.specs.Promises.{refusal_of}

@@ -1,7 +1,6 @@
 -- `command::Host::start` meets its contract. Assumes nothing.
 use mathlib.Core.Path.{sym, ◌∙◌}
 use borrow.Author.Tests.{not-true, not-false}
-use borrow.Author.Rules.{rules}
 use Rattle.command.specs.Promises.{started_of}
 use Rattle.command.proofs.Handing.{well_few}
 use Rattle.command.proofs.Host.start.Goals as goal

@@ -1,5 +1,4 @@
 -- `command::acknowledgments::bytes_of` meets its contract. Assumes nothing.
-use borrow.Author.Rules.{rules}
 use Rattle.frame.specs.Bytes.{bytes_of}
 use Rattle.command.specs.Acknowledgment.{acknowledgment_bytes}
 use Rattle.command.proofs.acknowledgments.bytes_of.Goals as goal

@@ -1,6 +1,5 @@
 -- `command::acknowledgments::id_of` meets its contract. Assumes nothing.
 use native.Mathlib.Omega.{arith}
-use borrow.Author.Rules.{rules}
 use Rattle.command.specs.Acknowledgment.{acknowledgment_id}
 use Rattle.frame.specs.Identifier.{identifier_of}
 use Rattle.command.proofs.acknowledgments.id_of.Goals as goal

@@ -1,6 +1,5 @@
 -- `command::address::stand` meets its contract. Assumes nothing.
 use mathlib.Core.Path.{sym, ap, ◌∙◌}
-use borrow.Author.Rules.{rules}
 use Rattle.words.proofs.Words.{refused_gives, gives_same}
 use Rattle.claim.specs.Promises.{told_standing}
 use Rattle.command.proofs.Answers.{sound_stands}

@@ -1,5 +1,4 @@
 -- `command::commands::bare` meets its contract. Assumes nothing.
-use borrow.Author.Rules.{rules}
 use Rattle.command.proofs.commands.bare.Goals as goal
 
 pub returns : goal.returns

@@ -1,5 +1,4 @@
 -- `command::commands::is_elsewhere` meets its contract. Assumes nothing.
-use borrow.Author.Rules.{rules}
 use Rattle.command.specs.Commands.{is_elsewhere}
 use Rattle.command.proofs.commands.is_elsewhere.Goals as goal
 

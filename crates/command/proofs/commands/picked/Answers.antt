@@ -1,7 +1,6 @@
 -- `command::commands::picked` meets its contract. Assumes nothing.
 use mathlib.Core.Path.{refl, sym, ap, ◌∙◌}
 use Prim.Native.Nat.{ℕ}
-use borrow.Author.Rules.{rules}
 use Rattle.command.specs.declared.Routing.TheVariants.{NothingToDo}
 use Rattle.command.specs.Commands.{is_elsewhere, is_meant, nothing_to_do}
 use Rattle.command.specs.Positions.{positions_where, filled}

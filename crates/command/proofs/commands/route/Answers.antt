@@ -1,6 +1,5 @@
 -- `command::commands::route` meets its contract. Assumes nothing.
 use mathlib.Core.Path.{refl, ap}
-use borrow.Author.Rules.{rules}
 use Rattle.command.specs.declared.Routing.TheVariants.{NothingToDo, NoAddressHeld}
 use Rattle.command.specs.declared.address.Address.{Address}
 use Rattle.command.specs.Private.{stand_at}

@@ -1,7 +1,6 @@
 -- `command::handed::hand_in` meets its contract. Assumes nothing.
 use mathlib.Core.Path.{refl, sym, ◌∙◌}
 use borrow.Author.Tests.{not-true, not-false}
-use borrow.Author.Rules.{rules}
 use Rattle.command.specs.declared.handed.Handing.TheVariants.{BrokenState, BadFrame}
 use Rattle.command.proofs.Handing.{bare_handed, handed_broken, handed_bad, handed_sound}
 use Rattle.command.proofs.handed.hand_in.Goals as goal

@@ -1,7 +1,6 @@
 -- `command::handed::lists` meets its contract. Assumes nothing.
 use mathlib.Core.Path.{refl, sym, ◌∙◌}
 use borrow.Author.Tests.{not-true, not-false}
-use borrow.Author.Rules.{rules}
 use Rattle.command.specs.declared.handed.Handing.TheVariants.{ListMalformed}
 use Rattle.command.proofs.Handing.{bare_handed}
 use Rattle.command.proofs.handed.lists.Goals as goal

@@ -1,13 +1,11 @@
 -- `command::hosted::are_entries` meets its contract. Assumes nothing.
-use mathlib.Core.Path.{◌≡◌, refl, sym, ap, ◌∙◌}
-use Prim.Native.Nat.{◌≤◌, ◌<◌, ◌-◌}
+use mathlib.Core.Path.{refl, sym, ap, ◌∙◌}
+use Prim.Native.Nat.{◌<◌}
 use native.Mathlib.Omega.{arith}
 use borrow.Author.Tests.{not-true, not-false}
 use borrow.Author.Rules.{rules}
 use lib.Seq.{get_or-take, length-take-le}
-use lib.ListN.{length, drop}
 use Rattle.words.proofs.Lists.{length_field, every_pass, every_stop, every_end}
-use Rattle.words.specs.Lists.{every}
 use Rattle.command.specs.Hosted.{is_entry, blank_entry, hosted}
 use Rattle.command.proofs.hosted.are_entries.Goals as goal
 

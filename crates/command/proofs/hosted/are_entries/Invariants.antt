@@ -1,14 +1,9 @@
 -- What the loop of `command::hosted::are_entries` keeps, and why it ends.
-use mathlib.Core.Path.{◌≡◌, refl, sym, ap, ◌∙◌}
-use Prim.Native.Nat.{◌≤◌, ◌<◌, ◌-◌}
-use native.Mathlib.Omega.{arith}
-use borrow.Author.Tests.{not-true, not-false}
-use borrow.Author.Rules.{rules}
-use lib.Seq.{get_or-take, length-take-le}
+use mathlib.Core.Path.{◌≡◌}
+use Prim.Native.Nat.{◌≤◌, ◌-◌}
 use lib.ListN.{length, drop}
-use Rattle.words.proofs.Lists.{length_field, every_pass, every_stop, every_end}
 use Rattle.words.specs.Lists.{every}
-use Rattle.command.specs.Hosted.{is_entry, blank_entry, hosted}
+use Rattle.command.specs.Hosted.{is_entry, hosted}
 use Rattle.command.proofs.hosted.are_entries.Given as goal
 
 abbrev pub invariant-loop-i : goal.invariant-loop-i

@@ -1,10 +1,9 @@
 -- `command::hosted::begun` meets its contract. Assumes nothing.
-use mathlib.Core.List.{List, ◌++◌}
+use mathlib.Core.List.{List}
 use mathlib.Core.Path.{◌≡◌, refl, ap}
-use Prim.Native.Nat.{◌≤◌, ◌-◌}
 use native.Mathlib.Omega.{arith}
 use borrow.Author.Rules.{rules}
-use lib.ListN.{length-set, length, take, replicate}
+use lib.ListN.{length-set}
 use Rattle.command.specs.declared.Entry.{Entry}
 use Rattle.words.proofs.Lists.{length_field, fill_turn}
 use Rattle.command.specs.Hosted.{blank_entry, begun}

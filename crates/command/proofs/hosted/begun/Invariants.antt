@@ -1,13 +1,9 @@
 -- What the loop of `command::hosted::begun` keeps, and why it ends.
-use mathlib.Core.List.{List, ◌++◌}
-use mathlib.Core.Path.{◌≡◌, refl, ap}
+use mathlib.Core.List.{◌++◌}
+use mathlib.Core.Path.{◌≡◌}
 use Prim.Native.Nat.{◌≤◌, ◌-◌}
-use native.Mathlib.Omega.{arith}
-use borrow.Author.Rules.{rules}
-use lib.ListN.{length-set, length, take, replicate}
-use Rattle.command.specs.declared.Entry.{Entry}
-use Rattle.words.proofs.Lists.{length_field, fill_turn}
-use Rattle.command.specs.Hosted.{blank_entry, begun}
+use lib.ListN.{length, take, replicate}
+use Rattle.command.specs.Hosted.{blank_entry}
 use Rattle.command.proofs.hosted.begun.Given as goal
 
 abbrev pub invariant-loop-i : goal.invariant-loop-i

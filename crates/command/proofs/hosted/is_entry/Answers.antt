@@ -1,7 +1,6 @@
 -- `command::hosted::is_entry` meets its contract. Assumes nothing.
 use mathlib.Core.Path.{sym, ◌∙◌}
 use borrow.Author.Tests.{not-true, not-false}
-use borrow.Author.Rules.{rules}
 use Rattle.words.proofs.Tests.{tests}
 use Rattle.command.specs.Hosted.{is_entry}
 use Rattle.command.proofs.hosted.is_entry.Goals as goal

@@ -1,5 +1,4 @@
 -- `command::hosted::is_hosted_dgn` meets its contract. Assumes nothing.
-use borrow.Author.Rules.{rules}
 use Rattle.words.proofs.Tests.{tests}
 use Rattle.command.specs.Hosted.{is_hosted_dgn}
 use Rattle.command.proofs.hosted.is_hosted_dgn.Goals as goal

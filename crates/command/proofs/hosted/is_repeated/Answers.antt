@@ -1,10 +1,10 @@
 -- `command::hosted::is_repeated` meets its contract. Assumes nothing.
-use mathlib.Core.Path.{◌≡◌, refl, sym, ap, ◌∙◌}
-use Prim.Native.Nat.{◌≤◌, ◌<◌, ◌-◌, ◌+◌}
+use mathlib.Core.Path.{refl, sym, ap, ◌∙◌}
+use Prim.Native.Nat.{◌<◌, ◌+◌}
 use native.Mathlib.Omega.{arith}
 use borrow.Author.Rules.{rules}
 use lib.Seq.{get_or-take, length-take-le}
-use lib.ListN.{length, drop, get_or}
+use lib.ListN.{drop, get_or}
 use Rattle.command.specs.declared.Entry.{Entry}
 use Rattle.words.proofs.Lists.{length_field, any_pass, any_stop, any_end}
 use Rattle.words.specs.Lists.{any}

@@ -1,11 +1,8 @@
 -- `command::hosted::no_pair_repeats` meets its contract. Assumes nothing.
-use mathlib.Core.Path.{◌≡◌, refl, sym, ◌∙◌}
-use Prim.Native.Nat.{◌≤◌, ◌-◌}
+use mathlib.Core.Path.{refl, sym, ◌∙◌}
 use native.Mathlib.Omega.{arith}
 use borrow.Author.Rules.{rules}
 use lib.Seq.{length-take-le}
-use lib.ListN.{length, drop}
-use Rattle.words.specs.Lists.{no_two}
 use Rattle.words.proofs.Lists.{length_field, no_two_pass, no_two_stop, no_two_end}
 use Rattle.command.specs.Hosted.{is_same_pair, blank_entry, hosted}
 use Rattle.command.proofs.hosted.no_pair_repeats.Goals as goal

@@ -1,13 +1,9 @@
 -- What the loop of `command::hosted::no_pair_repeats` keeps, and why it ends.
-use mathlib.Core.Path.{◌≡◌, refl, sym, ◌∙◌}
+use mathlib.Core.Path.{◌≡◌}
 use Prim.Native.Nat.{◌≤◌, ◌-◌}
-use native.Mathlib.Omega.{arith}
-use borrow.Author.Rules.{rules}
-use lib.Seq.{length-take-le}
 use lib.ListN.{length, drop}
 use Rattle.words.specs.Lists.{no_two}
-use Rattle.words.proofs.Lists.{length_field, no_two_pass, no_two_stop, no_two_end}
-use Rattle.command.specs.Hosted.{is_same_pair, blank_entry, hosted}
+use Rattle.command.specs.Hosted.{is_same_pair, hosted}
 use Rattle.command.proofs.hosted.no_pair_repeats.Given as goal
 
 abbrev pub invariant-loop-i : goal.invariant-loop-i

@@ -1,7 +1,6 @@
 -- `command::hosted::well_formed` meets its contract. Assumes nothing.
 use mathlib.Core.Path.{sym, ◌∙◌}
 use borrow.Author.Tests.{not-true, not-false, le-leb}
-use borrow.Author.Rules.{rules}
 use Rattle.words.proofs.Tests.{tests}
 use Rattle.command.specs.Hosted.{is_well_formed}
 use Rattle.command.proofs.hosted.well_formed.Goals as goal

@@ -1,6 +1,5 @@
 -- `command::picking::is_wanted` meets its contract. Assumes nothing.
 use mathlib.Core.Path.{sym, ap, ◌∙◌}
-use borrow.Author.Rules.{rules}
 use Rattle.command.specs.Private.{is_wanted}
 use Rattle.command.specs.declared.picking.Wanted.{Wanted}
 use Rattle.command.proofs.picking.is_wanted.Goals as goal

@@ -1,7 +1,6 @@
 -- `command::picking::passed` meets its contract. Assumes nothing.
 use mathlib.Core.Path.{sym, ◌∙◌}
 use borrow.Author.Tests.{not-true, not-false}
-use borrow.Author.Rules.{rules}
 use Rattle.command.proofs.picking.passed.Goals as goal
 
 pub returns-then-not-is_wanted : goal.returns-then-not-is_wanted

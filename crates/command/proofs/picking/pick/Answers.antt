@@ -1,10 +1,10 @@
 -- `command::picking::pick` meets its contract. Assumes nothing.
 use mathlib.Core.Path.{◌≡◌, ap, ◌∙◌}
-use Prim.Native.Nat.{◌≤◌, ◌<◌, ◌-◌}
+use Prim.Native.Nat.{◌<◌}
 use native.Mathlib.Omega.{arith}
 use borrow.Author.Rules.{rules}
 use lib.Seq.{get_or-take, length-take-le, take_all}
-use lib.ListN.{length, take, get_or}
+use lib.ListN.{get_or}
 use Rattle.command.specs.declared.Positions.{Positions}
 use Rattle.words.specs.Words.{if◌then◌else◌}
 use Rattle.words.proofs.Lists.{length_field}

@@ -1,17 +1,10 @@
 -- What the loop of `command::picking::pick` keeps, and why it ends.
-use mathlib.Core.Path.{◌≡◌, ap, ◌∙◌}
-use Prim.Native.Nat.{◌≤◌, ◌<◌, ◌-◌}
-use native.Mathlib.Omega.{arith}
-use borrow.Author.Rules.{rules}
-use lib.Seq.{get_or-take, length-take-le, take_all}
-use lib.ListN.{length, take, get_or}
-use Rattle.command.specs.declared.Positions.{Positions}
-use Rattle.words.specs.Words.{if◌then◌else◌}
-use Rattle.words.proofs.Lists.{length_field}
-use Rattle.command.specs.Private.{is_wanted, added}
+use mathlib.Core.Path.{◌≡◌}
+use Prim.Native.Nat.{◌≤◌, ◌-◌}
+use lib.ListN.{length, take}
+use Rattle.command.specs.Private.{is_wanted}
 use Rattle.command.specs.Positions.{positions_where, filled}
-use Rattle.command.specs.Hosted.{hosted, blank_entry}
-use Rattle.command.proofs.Picks.{pick_few, pick_turn}
+use Rattle.command.specs.Hosted.{hosted}
 use Rattle.command.proofs.picking.pick.Given as goal
 
 abbrev pub invariant-loop-i : goal.invariant-loop-i

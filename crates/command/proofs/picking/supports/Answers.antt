@@ -1,6 +1,5 @@
 -- `command::picking::supports` meets its contract. Assumes nothing.
 use mathlib.Core.Path.{◌∙◌}
-use borrow.Author.Rules.{rules}
 use Rattle.words.proofs.Tests.{tests}
 use Rattle.command.specs.Requests.{supports}
 use Rattle.command.proofs.picking.supports.Goals as goal

@@ -1,6 +1,5 @@
 -- `command::requests::answer` meets its contract. Assumes nothing.
 use mathlib.Core.Path.{refl, sym, ◌∙◌}
-use borrow.Author.Rules.{rules}
 use Rattle.command.specs.declared.Requesting.TheVariants.{NothingToDo, DgnTooLarge}
 use Rattle.command.specs.Requests.{nothing_to_do}
 use Rattle.words.specs.Words.{refused, gives}

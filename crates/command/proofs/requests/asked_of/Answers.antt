@@ -1,5 +1,4 @@
 -- `command::requests::asked_of` meets its contract. Assumes nothing.
-use borrow.Author.Rules.{rules}
 use Rattle.command.proofs.Answers.{asked_read}
 use Rattle.command.proofs.requests.asked_of.Goals as goal
 

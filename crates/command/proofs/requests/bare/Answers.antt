@@ -1,5 +1,4 @@
 -- `command::requests::bare` meets its contract. Assumes nothing.
-use borrow.Author.Rules.{rules}
 use Rattle.command.proofs.requests.bare.Goals as goal
 
 pub returns : goal.returns

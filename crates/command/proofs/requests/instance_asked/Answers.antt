@@ -1,5 +1,4 @@
 -- `command::requests::instance_asked` meets its contract. Assumes nothing.
-use borrow.Author.Rules.{rules}
 use Rattle.command.specs.Requests.{instance_asked}
 use Rattle.command.proofs.requests.instance_asked.Goals as goal
 

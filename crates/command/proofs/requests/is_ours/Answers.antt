@@ -1,6 +1,5 @@
 -- `command::requests::is_ours` meets its contract. Assumes nothing.
 use mathlib.Core.Path.{◌∙◌}
-use borrow.Author.Rules.{rules}
 use Rattle.words.proofs.Tests.{tests}
 use Rattle.command.specs.Requests.{is_ours, is_our_address}
 use Rattle.command.proofs.requests.is_ours.Goals as goal

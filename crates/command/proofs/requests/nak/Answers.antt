@@ -1,5 +1,4 @@
 -- `command::requests::nak` meets its contract. Assumes nothing.
-use borrow.Author.Rules.{rules}
 use Rattle.command.specs.Acknowledgment.{acknowledgment_frame}
 use Rattle.command.specs.Requests.{nak_to}
 use Rattle.command.specs.Private.{asked_by}

@@ -1,6 +1,5 @@
 -- `command::requests::our_claim` meets its contract. Assumes nothing.
 use mathlib.Core.Path.{◌∙◌}
-use borrow.Author.Rules.{rules}
 use Rattle.claim.specs.Claim.{claim_frame}
 use Rattle.command.proofs.Answers.{claims_requested}
 use Rattle.command.proofs.requests.our_claim.Goals as goal

@@ -1,7 +1,6 @@
 -- `command::requests::reply` meets its contract. Assumes nothing.
 use mathlib.Core.Path.{refl, sym, ap, ◌∙◌}
 use borrow.Author.Tests.{not-true, not-false}
-use borrow.Author.Rules.{rules}
 use Rattle.command.specs.declared.Requesting.TheVariants.{NothingToDo, NoAddressHeld}
 use Rattle.command.specs.declared.address.Address.{Address}
 use Rattle.command.specs.Private.{asked_by, stand_at}

@@ -1,7 +1,6 @@
 -- `command::requests::status` meets its contract. Assumes nothing.
 use mathlib.Core.Path.{◌≡◌, refl}
 use native.Mathlib.Omega.{arith}
-use borrow.Author.Rules.{rules}
 use Rattle.command.specs.Hosted.{hosted}
 use Rattle.command.specs.declared.Requesting.TheVariants.{Unsupported}
 use Rattle.command.specs.Requests.{supports, unsupported}

@@ -1,7 +1,6 @@
 -- `message::Receiver::pause` meets its contract. Assumes nothing.
 use mathlib.Core.Path.{sym, ◌∙◌}
 use borrow.Author.Tests.{not-true, not-false}
-use borrow.Author.Rules.{rules}
 use Rattle.message.specs.Receiver.{paused_places, paused_answer}
 use Rattle.message.proofs.Receiver.pause.Goals as goal
 

@@ -1,6 +1,5 @@
 -- `message::eight_places::announce` meets its contract. Assumes nothing.
 use mathlib.Core.Path.{◌≡◌, refl, sym, ◌∙◌}
-use borrow.Author.Rules.{rules}
 use lib.ListN.{length}
 use Rattle.message.specs.declared.Answer.TheVariants.{NoPlaceFree}
 use Rattle.words.proofs.Lists.{length_field}

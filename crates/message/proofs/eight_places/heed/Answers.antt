@@ -1,6 +1,5 @@
 -- `message::eight_places::heed` meets its contract. Assumes nothing.
 use mathlib.Core.Path.{refl, sym, ap, ◌∙◌}
-use borrow.Author.Rules.{rules}
 use Rattle.message.specs.Receiver.{by_meaning}
 use Rattle.message.specs.LongMessage.{Meaning}
 use Rattle.words.specs.Words.{Told}

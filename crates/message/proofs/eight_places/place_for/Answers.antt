@@ -1,6 +1,5 @@
 -- `message::eight_places::place_for` meets its contract. Assumes nothing.
 use mathlib.Core.Path.{sym, ◌∙◌}
-use borrow.Author.Rules.{rules}
 use Rattle.message.specs.Receiver.{place_for}
 use Rattle.message.proofs.eight_places.place_for.Goals as goal
 
