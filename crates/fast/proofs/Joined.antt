@@ -155,28 +155,28 @@ module _ (names message : List ℕ) (dgn sender sequence : ℕ) (well_formed : i
     abbrev f₀ : Frame
     f₀ = sent priority dgn sender r.bytes
 
-    first_bytes : r.bytes ≡ first_bytes_of message sequence
-    first_bytes = first_is message sequence w.numbered w.long w.short r cut
+    first_bytes_lem : r.bytes ≡ first_bytes_of message sequence
+    first_bytes_lem = first_is message sequence w.numbered w.long w.short r cut
 
     first_means : meaning_of names f₀.id f₀.bytes
         ≡ gives (begins (record { sender = sender; dgn = dgn; sequence = sequence; size = length message }))
     first_means =
-        let l : length r.bytes ≡ frame_bytes = rw first_bytes (first_length message sequence) in
+        let l : length r.bytes ≡ frame_bytes = rw first_bytes_lem (first_length message sequence) in
         means priority r.bytes high l
-        ∙ rw first_bytes (first_carried message sequence w.numbered w.long w.short sender dgn)
+        ∙ rw first_bytes_lem (first_carried message sequence w.numbered w.long w.short sender dgn)
 
     hears_whole : length message ≤ first_bytes
         → hear_alone (fast_packets names) f₀ before
         ≡ step none (gives (finished (record { sender = sender; dgn = dgn; bytes = message })))
     hears_whole h =
-        let c : take (length message) (drop 2 r.bytes) ≡ message = rw first_bytes (all_bytes message sequence h) in
+        let c : take (length message) (drop 2 r.bytes) ≡ message = rw first_bytes_lem (all_bytes message sequence h) in
         rw (first_means, le-leb _ _ h, c)
 
     hears_first : first_bytes < length message
         → hear_alone (fast_packets names) f₀ before ≡ step (some (open_at message dgn sender sequence 1 0)) (gives opened)
     hears_first h =
         let c : take first_bytes (drop 2 r.bytes) ≡ take first_bytes message =
-        rw first_bytes (six_bytes message sequence h) in
+        rw first_bytes_lem (six_bytes message sequence h) in
         rw (first_means, lt-leb _ _ h, c)
 
   -- a later frame, heard alone
@@ -188,18 +188,18 @@ module _ (names message : List ℕ) (dgn sender sequence : ℕ) (well_formed : i
     abbrev m : Open
     m = open_at message dgn sender sequence number sum
 
-    later_bytes : r.bytes ≡ later_bytes_of message sequence number
-    later_bytes = later_is message sequence w.numbered w.long w.short number r one most cut
+    later_bytes_lem : r.bytes ≡ later_bytes_of message sequence number
+    later_bytes_lem = later_is message sequence w.numbered w.long w.short number r one most cut
 
     later_means : meaning_of names f.id f.bytes
         ≡ gives (continues (record { sender = sender; dgn = dgn; sequence = sequence; number = number }))
     later_means =
-        let l : length r.bytes ≡ frame_bytes = rw later_bytes (later_length message sequence number) in
+        let l : length r.bytes ≡ frame_bytes = rw later_bytes_lem (later_length message sequence number) in
         means priority r.bytes high l
-        ∙ rw later_bytes (later_carried message sequence w.numbered w.long w.short sender dgn number one most)
+        ∙ rw later_bytes_lem (later_carried message sequence w.numbered w.long w.short sender dgn number one most)
 
     later_joins : joined m (drop 1 r.bytes) ≡ take (offset_of number + needed (length message) number) message
-    later_joins = rw later_bytes (joins message dgn sender sequence number sum)
+    later_joins = rw later_bytes_lem (joins message dgn sender sequence number sum)
 
     hears_next : number < last_frame (length message)
         → hear_alone (fast_packets names) f (some m)

@@ -49,15 +49,12 @@ use Rattle.fast.specs.Laws.{WritesItsOwn, NotBeyond, SplitterSplits}
 use Rattle.fast.specs.declared.Place.{Place}
 use Rattle.fast.specs.declared.Receiver.{Receiver}
 use Rattle.fast.specs.declared.Starting.{Starting}
-use Rattle.fast.specs.declared.Starting.TheVariants as Starting
 use Rattle.fast.specs.declared.Answer.{Answer}
 use Rattle.fast.specs.declared.Answer.TheVariants.{StorageTooShort, BrokenState, BadFrame, MalformedLength}
 use Rattle.fast.specs.declared.Answer.TheVariants.{NoPlaceFree, NoOpenMessage, UnexpectedFrame, NothingToDo}
 use Rattle.fast.specs.declared.Answer.TheVariants.{Opened, Stored, Finished}
 use Rattle.fast.specs.declared.Pausing.{Pausing}
-use Rattle.fast.specs.declared.Pausing.TheVariants as Pausing
 use Rattle.fast.specs.declared.Splitting.{Splitting}
-use Rattle.fast.specs.declared.Splitting.TheVariants as Splitting
 use Rattle.fast.proofs.Splits.{frame_given}
 use Rattle.fast.proofs.Frames.{Known, meaning_known}
 use Rattle.fast.proofs.Steps.{found_below, place_for_below, begins_at, begins_nowhere, entered_short}

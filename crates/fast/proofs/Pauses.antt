@@ -19,7 +19,6 @@ use Rattle.fast.specs.Pauses.{pause_call, PausesAddUp}
 use Rattle.fast.specs.declared.Place.{Place}
 use Rattle.fast.specs.declared.Receiver.{Receiver}
 use Rattle.fast.specs.declared.Pausing.{Pausing}
-use Rattle.fast.specs.declared.Pausing.TheVariants as Pausing
 use Rattle.fast.proofs.Steps.{rules_of, open_rules}
 use Rattle.fast.proofs.KeepsPlaces.{idled_keeps}
 

@@ -2,12 +2,10 @@
 -- Assumes nothing.
 use mathlib.Core.Path.{◌≡◌, refl, sym, ap, ◌∙◌}
 use mathlib.Core.Bool.{Bool, true, false}
-use mathlib.Core.List.{List, [], ◌∷◌, ◌++◌}
-use Prim.Native.Nat.{ℕ, suc, ◌+◌, ◌*◌, ◌≤◌, ◌<◌, min}
+use mathlib.Core.List.{List, ◌∷◌, ◌++◌}
+use Prim.Native.Nat.{ℕ, suc, ◌+◌, ◌*◌, ◌≤◌, min}
 use native.Mathlib.Omega.{arith}
 use borrow.Author.Tests.{ltb-false}
-use denote.Enum.Declared.{tag_of}
-use types.Run.{OneOf, miss}
 use lib.ListN.{length, take, drop, replicate, length-drop}
 use lib.Seq.{paste}
 use Rattle.words.specs.Words.{if◌then◌else◌, ◌<?◌, gives}
@@ -20,7 +18,6 @@ use Rattle.fast.specs.Splitter.{refusal_in, first_bytes_of, later_bytes_of, fram
 use Rattle.fast.specs.Promises.{splitting_number, FrameOf}
 use Rattle.fast.specs.declared.Splitting.{Splitting}
 use Rattle.fast.specs.declared.Splitting.TheVariants.{Bytes, NoCode, LengthNotSplit, NoSuchFrame}
-use Rattle.fast.specs.contracts.Splitting.{the_type}
 
 -- what was copied over the filling is frame 0
 pub first_copied : (message : List ℕ) (sequence : ℕ)
@@ -78,11 +75,11 @@ module _ (message : List ℕ) (sequence number : ℕ) where
   frame_given e = rw e
 
   -- the answers beside the bytes, each with zeros
-  pub split_refused : (a : Splitting) → OneOf (1 ∷ 2 ∷ 3 ∷ []) (tag_of the_type a)
+  pub split_refused : (a : Splitting) → (a ≡ Bytes → ⊥)
       → splitting_number a ≡ refusal_in (length message) sequence number
       → FrameOf message sequence number (record { answer = a; bytes = replicate frame_bytes 0 })
   unfolding frame_of
-  split_refused Bytes h e = absurd (miss (1 ∷ 2 ∷ 3 ∷ []) 0 tt h)
+  split_refused Bytes h e = absurd (h refl)
   split_refused NoCode h e = rw (← e) (record { number = refl; bytes = refl })
   split_refused LengthNotSplit h e = rw (← e) (record { number = refl; bytes = refl })
   split_refused NoSuchFrame h e = rw (← e) (record { number = refl; bytes = refl })

@@ -24,7 +24,6 @@ use Rattle.fast.specs.Promises.{SplittingRefusal}
 use Rattle.fast.specs.declared.Place.{Place}
 use Rattle.fast.specs.declared.Receiver.{Receiver}
 use Rattle.fast.specs.declared.Starting.{Starting}
-use Rattle.fast.specs.declared.Starting.TheVariants as Starting
 use Rattle.fast.specs.declared.Started.{Started}
 use Rattle.fast.specs.declared.Answer.{Answer}
 use Rattle.fast.specs.declared.Answer.TheVariants.{UnexpectedFrame}
@@ -32,7 +31,6 @@ use Rattle.fast.specs.declared.Heard.{Heard}
 use Rattle.fast.specs.declared.Pausing.{Pausing}
 use Rattle.fast.specs.declared.Paused.{Paused}
 use Rattle.fast.specs.declared.Splitting.{Splitting}
-use Rattle.fast.specs.declared.Splitting.TheVariants as Splitting
 use Rattle.fast.specs.declared.Split.{Split}
 
 -- An answer read as number and values loses nothing (RULES 2.10).

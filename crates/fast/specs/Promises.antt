@@ -14,7 +14,6 @@ use Rattle.fast.specs.Receiver.{paused_state, paused_answer}
 use Rattle.fast.specs.Splitter.{frame_of}
 use Rattle.fast.specs.declared.Receiver.{Receiver}
 use Rattle.fast.specs.declared.Starting.{Starting}
-use Rattle.fast.specs.declared.Starting.TheVariants as Starting
 use Rattle.fast.specs.declared.Started.{Started}
 use Rattle.fast.specs.declared.Answer.{Answer}
 use Rattle.fast.specs.declared.Answer.TheVariants.{StorageTooShort, BrokenState, BadFrame, MalformedLength}
@@ -22,10 +21,8 @@ use Rattle.fast.specs.declared.Answer.TheVariants.{NoPlaceFree, NoOpenMessage, U
 use Rattle.fast.specs.declared.Answer.TheVariants.{Opened, Stored, Finished}
 use Rattle.fast.specs.declared.Heard.{Heard}
 use Rattle.fast.specs.declared.Pausing.{Pausing}
-use Rattle.fast.specs.declared.Pausing.TheVariants as Pausing
 use Rattle.fast.specs.declared.Paused.{Paused}
 use Rattle.fast.specs.declared.Splitting.{Splitting}
-use Rattle.fast.specs.declared.Splitting.TheVariants as Splitting
 use Rattle.fast.specs.declared.Split.{Split}
 
 -- Receiver::start

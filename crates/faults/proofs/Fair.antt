@@ -25,7 +25,7 @@ use Rattle.faults.proofs.Passing.{active_true, active_says, due_says, ripe, ripe
 use Rattle.faults.proofs.Passing.{ripe_of_due, due_of_ripe, ripe_later, sent_unripe, added_unripe, none_unripe}
 use Rattle.faults.proofs.Passing.{ripe_suc}
 use Rattle.faults.proofs.Chosen.{chosen_at, chosen_nowhere}
-use Rattle.faults.proofs.Moves.{Move, add_refused, added_at, clear_refused, cleared_at, step_refused, rested}
+use Rattle.faults.proofs.Moves.{Move, add_refused, added_at_lem, clear_refused, cleared_at, step_refused, rested}
 use Rattle.faults.proofs.Moves.{sent_at, asked, move, inside, fault_passed, length_passed, neither}
 
 -- a fault that is ripe is active
@@ -142,7 +142,7 @@ no_step j a b g = (omega (arith, g.0), omega (arith, g.1))
 turn : (p j : ℕ) (s m : Sender) (h : Happened) (hs : List Happened) → Move s h m → Standing p j s → Spared p (h ∷ hs)
     → ((i : ℕ) → Standing p i m → Spared p hs → Goes i hs) → Goes j (h ∷ hs)
 turn p j s _ _ hs (add_refused _ bytes period n) w a ih = no_step j (steps_in hs) (sent_in hs) (ih j w a)
-turn p j s _ _ hs (added_at _ bytes period at e k) w a ih =
+turn p j s _ _ hs (added_at_lem _ bytes period at e k) w a ih =
     no_step j (steps_in hs) (sent_in hs)
     (ih j (put_aside p j at s (added bytes period) (not_empty p j at s e w) (λ i. added_unripe i bytes period) w) a)
 turn p j s _ _ hs (clear_refused _ place n) w a ih = no_step j (steps_in hs) (sent_in hs) (ih j w a)

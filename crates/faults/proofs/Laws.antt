@@ -45,7 +45,7 @@ use Rattle.faults.specs.declared.Requesting.{Requesting}
 use Rattle.faults.specs.declared.Requesting.TheVariants as Requesting
 use Rattle.faults.proofs.Passing.{Phase, vacant, ready, coming, phase, due_says}
 use Rattle.faults.proofs.Chosen.{chosen_at}
-use Rattle.faults.proofs.Moves.{Move, add_refused, added_at, clear_refused, cleared_at, step_refused, rested}
+use Rattle.faults.proofs.Moves.{Move, add_refused, added_at_lem, clear_refused, cleared_at, step_refused, rested}
 use Rattle.faults.proofs.Moves.{sent_at, asked, move, was_added, made, fault_passed}
 use Rattle.faults.proofs.Waiting.{allowed_says}
 
@@ -327,7 +327,7 @@ rules_sent f n k =
 sound_move : (s m : Sender) (h : Happened) → Move s h m → keeps_rules s ≡ true → keeps_rules m ≡ true
 unfolding keeps_rules
 sound_move s _ _ (add_refused _ bytes period n) k = k
-sound_move s _ _ (added_at _ bytes period at e a) k =
+sound_move s _ _ (added_at_lem _ bytes period at e a) k =
     every_set place_keeps_rules s.faults at (added bytes period) k (rules_added bytes period a)
 sound_move s _ _ (clear_refused _ place n) k = k
 sound_move s _ _ (cleared_at _ at e) k = every_set place_keeps_rules s.faults at no_fault k rules_none

@@ -24,7 +24,7 @@ use Rattle.faults.proofs.Counting.{count_one, count_none}
 use Rattle.faults.proofs.Passing.{Phase, vacant, ready, coming, phase, active_true, due_true, due_says, ripe}
 use Rattle.faults.proofs.Passing.{ripe_suc, ripe_says, added_unripe, none_unripe, sent_unripe}
 use Rattle.faults.proofs.Chosen.{chosen_at, chosen_nowhere}
-use Rattle.faults.proofs.Moves.{Move, add_refused, added_at, clear_refused, cleared_at, step_refused, rested}
+use Rattle.faults.proofs.Moves.{Move, add_refused, added_at_lem, clear_refused, cleared_at, step_refused, rested}
 use Rattle.faults.proofs.Moves.{sent_at, asked, move, inside, active_at, fault_passed, length_passed}
 use Rattle.faults.proofs.Fair.{Few, few_zero, few_set, few_sent}
 use Rattle.faults.proofs.Waiting.{allowed_says}
@@ -179,7 +179,7 @@ if_other p q a b n = rw (ne_eqb p q n)
 
 turn : (s m : Sender) (h : Happened) (ks : ℕ → Known) → Move s h m → Knows s ks → Knows m (λ p. learns p h (ks p))
 turn s _ _ ks (add_refused _ bytes period n) k = k
-turn s _ _ ks (added_at _ bytes period at e a) k =
+turn s _ _ ks (added_at_lem _ bytes period at e a) k =
     let t = found_at at is_empty s.faults no_fault e in
     let w = allowed_says period a in
     put s ks (λ p. learns p (adds bytes period (gives at)) (ks p)) at (added bytes period) k t.below

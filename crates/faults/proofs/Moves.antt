@@ -33,7 +33,7 @@ pub record Made (c : Claim) (s : Sender) (outcome : Outcome) : Type 0 where
 
 pub data Move : Sender → Happened → Sender → Type 0 where
   add_refused : (s : Sender) (bytes : List ℕ) (period n : ℕ) → Move s (adds bytes period (refused n)) s
-  added_at : (s : Sender) (bytes : List ℕ) (period at : ℕ) → first is_empty s.faults ≡ At at → is_allowed period ≡ true
+  added_at_lem : (s : Sender) (bytes : List ℕ) (period at : ℕ) → first is_empty s.faults ≡ At at → is_allowed period ≡ true
       → Move s (adds bytes period (gives at)) (replacing s at (added bytes period))
   clear_refused : (s : Sender) (place n : ℕ) → Move s (clears place (refused n)) s
   cleared_at : (s : Sender) (at : ℕ) → is_active_at at s ≡ true → Move s (clears at (gives at)) (replacing s at no_fault)
@@ -69,7 +69,7 @@ move_add : (s m : Sender) (bytes : List ℕ) (period : ℕ) (told : Told ℕ) �
 move_add s m bytes period (refused n) e k = rw k (add_refused s bytes period n)
 move_add s m bytes period (gives at) e k =
     let t = was_added s period at (sym e) in
-    rw k (added_at s bytes period at t.0 t.1)
+    rw k (added_at_lem s bytes period at t.0 t.1)
 
 -- a fault cleared
 

@@ -20,7 +20,7 @@ use Rattle.frame.specs.declared.Parts.{Parts}
 use Rattle.words.proofs.Words.{by_test, both_true}
 use Rattle.words.specs.declared.Found.{Found}
 use Rattle.words.specs.declared.Found.TheVariants.{At, Nowhere}
-use Rattle.words.proofs.Lists.{search_pass, search_stop, search_end, found_at}
+use Rattle.words.proofs.Lists.{search_pass, search_stop, search_end, found_at as found_at_lem}
 use Rattle.claim.specs.Claim as Claim
 use Rattle.claim.specs.Claim.{Stand, claiming, silent}
 use Rattle.claim.specs.Promises.{told_standing, Stands}
@@ -134,7 +134,7 @@ longest_end fs i longest h e = sym (e ∙ rw (drop_of_length-le fs h) (omega ari
 -- a place that is found is there
 pub found_below : (f : Fault → Bool) (fs : List Fault) (at : ℕ) → length fs ≡ fault_places → first f fs ≡ At at
     → at < fault_places
-found_below f fs at n e = let b = (found_at at f fs no_fault e).below in omega arith
+found_below f fs at n e = let b = (found_at_lem at f fs no_fault e).below in omega arith
 
 pub chosen_below : (fs : List Fault) (at : ℕ) → length fs ≡ fault_places → chosen fs ≡ At at → at < fault_places
 unfolding chosen

@@ -27,7 +27,7 @@ use Rattle.faults.specs.declared.Sender.{Sender}
 use Rattle.faults.proofs.Passing.{due_says, passed_bytes, passed_period, passed_until}
 use Rattle.faults.proofs.Passing.{ripe_zero, due_of_ripe, ripe_of_due, ripe_zero_says}
 use Rattle.faults.proofs.Chosen.{chosen_at}
-use Rattle.faults.proofs.Moves.{Move, add_refused, added_at, clear_refused, cleared_at, step_refused, rested}
+use Rattle.faults.proofs.Moves.{Move, add_refused, added_at_lem, clear_refused, cleared_at, step_refused, rested}
 use Rattle.faults.proofs.Moves.{sent_at, asked, move, inside, outside, active_at, fault_passed, length_passed}
 use Rattle.faults.proofs.Moves.{neither}
 use Rattle.faults.proofs.Fair.{fair}
@@ -44,7 +44,7 @@ allowed_says period e =
 
 pub length_move : (s m : Sender) (h : Happened) → Move s h m → length m.faults ≡ length s.faults
 length_move s _ _ (add_refused _ bytes period n) = refl
-length_move s _ _ (added_at _ bytes period at e k) = length-set s.faults at (added bytes period)
+length_move s _ _ (added_at_lem _ bytes period at e k) = length-set s.faults at (added bytes period)
 length_move s _ _ (clear_refused _ place n) = refl
 length_move s _ _ (cleared_at _ at e) = length-set s.faults at no_fault
 length_move s _ _ (step_refused _ c n) = refl
@@ -70,7 +70,7 @@ pub record Entered (p period : ℕ) (bytes : List ℕ) (s a : Sender) : Type 0 w
 
 entered_by : (p period : ℕ) (bytes : List ℕ) (s a : Sender) → Move s (adds bytes period (gives p)) a
     → Entered p period bytes s a
-entered_by p period bytes s _ (added_at _ _ _ _ e k) =
+entered_by p period bytes s _ (added_at_lem _ _ _ _ e k) =
     let t = found_at p is_empty s.faults no_fault e in
     record {
       below = t.below;
@@ -154,7 +154,7 @@ holds_sent period bytes p at s l o =
 holds_move : (p period : ℕ) (bytes : List ℕ) (s m : Sender) (h : Happened) → (period ≡ 0 → ⊥) → Move s h m
     → clears_at p h ≡ false → Holds period bytes (fault_at p s) → Holds period bytes (fault_at p m)
 holds_move p period bytes s _ _ n (add_refused _ b q i) a o = o
-holds_move p period bytes s _ _ n (added_at _ b q at e k) a o =
+holds_move p period bytes s _ _ n (added_at_lem _ b q at e k) a o =
     other_place period bytes p at s (added b q) (taken_other p at s e (λ z. n (sym o.own_period ∙ z))) o
 holds_move p period bytes s _ _ n (clear_refused _ place i) a o = o
 holds_move p period bytes s _ _ n (cleared_at _ at e) a o = other_place period bytes p at s no_fault (eqb-false at p a) o
@@ -258,7 +258,7 @@ alone_move : (p : ℕ) (s m : Sender) (h : Happened) → Move s h m → (sends_f
     → ((fault_at p s).period ≡ 0 → ⊥)
     → fault_at p m ≡ passes (if is_step h then 1 else 0) (fault_at p s)
 alone_move p s _ _ (add_refused _ bytes period n) a k = refl
-alone_move p s _ _ (added_at _ bytes period at e j) a k =
+alone_move p s _ _ (added_at_lem _ bytes period at e j) a k =
     get_or-set_other s.faults at p (added bytes period) no_fault (λ z. taken_other p at s e k (sym z))
 alone_move p s _ _ (clear_refused _ place n) a k = refl
 alone_move p s _ _ (cleared_at _ at e) a k = get_or-set_other s.faults at p no_fault no_fault (λ z. eqb-false at p a
@@ -354,7 +354,7 @@ empty_unsent p at s z e y =
 empty_move : (p : ℕ) (s m : Sender) (h : Happened) → Move s h m → adds_at p h ≡ false → Empty p s
     → Empty p m × (sends_for p h ≡ false)
 empty_move p s _ _ (add_refused _ bytes period n) a z = (z, refl)
-empty_move p s _ _ (added_at _ bytes period at e k) a z = (
+empty_move p s _ _ (added_at_lem _ bytes period at e k) a z = (
   empty_other p at s (added bytes period)
       (eqb-false at p a) z,
   refl,

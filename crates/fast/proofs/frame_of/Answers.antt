@@ -37,5 +37,5 @@ pub returns-in_default : goal.returns-in_default
 returns-in_default c =
     let b = c in
     let a = b.args in
-    split_refused a.message.now a.sequence a.number b.splittable.result c.in-Bytes.keys2
+    split_refused a.message.now a.sequence a.number b.splittable.result c.in_default.not-Bytes
     b.splittable.ensures

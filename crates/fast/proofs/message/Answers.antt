@@ -1,23 +1,19 @@
 -- `fast::message` meets its contract. Assumes nothing.
-use mathlib.Core.List.{List, [], ◌∷◌}
+use mathlib.Core.List.{List, []}
 use mathlib.Core.Path.{◌≡◌, refl, sym, ◌∙◌}
 use Prim.Native.Nat.{ℕ}
 use borrow.Author.Tests.{le-ltb}
-use borrow.Author.Rules.{rules}
 use Rattle.fast.specs.declared.Answer.TheVariants.{StorageTooShort, BrokenState, BadFrame, MalformedLength}
 use Rattle.fast.specs.declared.Answer.TheVariants.{NoPlaceFree, NoOpenMessage, UnexpectedFrame, NothingToDo}
 use Rattle.fast.specs.declared.Answer.TheVariants.{Opened, Stored, Finished}
 use Rattle.fast.specs.declared.Answer.{Answer}
 use Rattle.fast.specs.Promises.{told_answer, message_in}
-use denote.Enum.Declared.{tag_of}
-use types.Run.{OneOf, miss}
 use Rattle.words.proofs.Tests.{tests}
-use Rattle.fast.specs.contracts.Answer.{the_type}
 use Rattle.fast.proofs.message.Goals as goal
 
 -- the other answers tell of no finished message
 unfinished : (s : List ℕ) (a : Answer)
-    → OneOf (0 ∷ 1 ∷ 2 ∷ 3 ∷ 4 ∷ 5 ∷ 6 ∷ 7 ∷ 8 ∷ 9 ∷ []) (tag_of the_type a) → message_in s (told_answer a) ≡ []
+    → ((place sender dgn size : ℕ) → a ≡ Finished place sender dgn size → ⊥) → message_in s (told_answer a) ≡ []
 unfinished s StorageTooShort h = refl
 unfinished s BrokenState h = refl
 unfinished s (BadFrame why) h = refl
@@ -28,7 +24,7 @@ unfinished s UnexpectedFrame h = refl
 unfinished s NothingToDo h = refl
 unfinished s Opened h = refl
 unfinished s Stored h = refl
-unfinished s (Finished place sender dgn size) h = absurd (miss (0 ∷ 1 ∷ 2 ∷ 3 ∷ 4 ∷ 5 ∷ 6 ∷ 7 ∷ 8 ∷ 9 ∷ []) 10 tt h)
+unfinished s (Finished place sender dgn size) h = absurd (h place sender dgn size refl)
 
 pub returns-then-storage-lt-STORAGE_BYTES : goal.returns-then-storage-lt-STORAGE_BYTES
 returns-then-storage-lt-STORAGE_BYTES c = record { bytes = search tests }
@@ -42,5 +38,5 @@ pub returns-in_default : goal.returns-in_default
 returns-in_default c =
     let b = c in
     let a = b.args in
-    let u = unfinished a.storage.now a.answer c.in-Finished.keys2 in
+    let u = unfinished a.storage.now a.answer c.in_default.not-Finished in
     record { bytes = sym (rw (le-ltb _ _ b.if-storage-lt-STORAGE_BYTES.false) u) }

@@ -1,6 +1,5 @@
 -- `faults::nth` meets its contract. Assumes nothing.
 use mathlib.Core.Path.{sym, ap, ◌∙◌}
-use borrow.Author.Rules.{rules}
 use Rattle.catalogue.specs.Promises.{told_looked}
 use Rattle.faults.proofs.Table.{looked_row, looked_none}
 use Rattle.faults.proofs.nth.Goals as goal

@@ -1,5 +1,4 @@
 -- `faults::read` meets its contract. Assumes nothing.
-use borrow.Author.Rules.{rules}
 use Rattle.faults.proofs.Table.{read_by}
 use Rattle.faults.proofs.read.Goals as goal
 

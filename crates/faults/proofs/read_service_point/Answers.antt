@@ -1,6 +1,5 @@
 -- `faults::read_service_point` meets its contract. Assumes nothing.
 use mathlib.Core.Path.{sym, ap, ◌∙◌}
-use borrow.Author.Rules.{rules}
 use Rattle.frame.specs.Promises.{refusal_of}
 use Rattle.catalogue.specs.Promises.{told_reading}
 use Rattle.faults.proofs.Parts.{number_none, parts_below, parts_joined}

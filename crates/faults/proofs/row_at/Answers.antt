@@ -2,7 +2,6 @@
 use mathlib.Core.Path.{ap, ◌∙◌}
 use mathlib.Core.List.{List}
 use Prim.Native.Nat.{ℕ}
-use borrow.Author.Rules.{rules}
 use Rattle.catalogue.specs.Packed.{table_row}
 use Rattle.faults.proofs.Table.{row_in_packed}
 use Rattle.faults.proofs.row_at.Goals as goal

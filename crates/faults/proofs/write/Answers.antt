@@ -1,5 +1,4 @@
 -- `faults::write` meets its contract. Assumes nothing.
-use borrow.Author.Rules.{rules}
 use Rattle.faults.proofs.Table.{write_by}
 use Rattle.faults.proofs.write.Goals as goal
 

@@ -1,6 +1,5 @@
 -- `faults::write_service_point` meets its contract. Assumes nothing.
 use mathlib.Core.Path.{refl, sym, ap, ◌∙◌}
-use borrow.Author.Rules.{rules}
 use Rattle.frame.specs.Promises.{refusal_of}
 use Rattle.catalogue.specs.declared.Writing.TheVariants.{BadFrame, NoSuchRow}
 use Rattle.faults.specs.Promises.{told_service_point}

@@ -1,7 +1,6 @@
 -- `fast::Receiver::hear` meets its contract. Assumes nothing.
 use mathlib.Core.Path.{refl, sym, ◌∙◌}
 use borrow.Author.Tests.{not-true, not-false}
-use borrow.Author.Rules.{rules}
 use Rattle.fast.specs.declared.Answer.TheVariants.{StorageTooShort, BrokenState}
 use Rattle.fast.proofs.Steps.{left, left_as, heard_short, heard_broken, heard_kept}
 use Rattle.fast.proofs.Receiver.hear.Goals as goal

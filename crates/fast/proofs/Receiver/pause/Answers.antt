@@ -1,7 +1,6 @@
 -- `fast::Receiver::pause` meets its contract. Assumes nothing.
 use mathlib.Core.Path.{sym, ◌∙◌}
 use borrow.Author.Tests.{not-true, not-false}
-use borrow.Author.Rules.{rules}
 use Rattle.fast.specs.Receiver.{paused_state, paused_answer}
 use Rattle.fast.proofs.Receiver.pause.Goals as goal
 

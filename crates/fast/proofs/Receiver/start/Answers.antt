@@ -1,7 +1,6 @@
 -- `fast::Receiver::start` meets its contract. Assumes nothing.
 use mathlib.Core.Path.{sym, ◌∙◌}
 use borrow.Author.Tests.{not-true, not-false}
-use borrow.Author.Rules.{rules}
 use Rattle.fast.proofs.Dgns.{few_named}
 use Rattle.fast.proofs.Receiver.start.Goals as goal
 

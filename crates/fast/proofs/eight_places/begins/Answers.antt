@@ -1,7 +1,6 @@
 -- `fast::eight_places::begins` meets its contract. Assumes nothing.
 use mathlib.Core.Path.{◌≡◌, refl, sym, ap, ◌∙◌}
 use Prim.Native.Nat.{ℕ}
-use borrow.Author.Rules.{rules}
 use lib.ListN.{length}
 use Rattle.words.proofs.Lists.{length_field}
 use Rattle.fast.specs.FastPacket.{pair_of}

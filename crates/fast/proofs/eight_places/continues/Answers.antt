@@ -1,6 +1,5 @@
 -- `fast::eight_places::continues` meets its contract. Assumes nothing.
 use mathlib.Core.Path.{◌≡◌, refl, sym, ◌∙◌}
-use borrow.Author.Rules.{rules}
 use lib.ListN.{length}
 use Rattle.words.proofs.Lists.{length_field}
 use Rattle.fast.specs.Receiver.{is_open_by}

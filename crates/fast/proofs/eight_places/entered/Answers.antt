@@ -1,6 +1,5 @@
 -- `fast::eight_places::entered` meets its contract. Assumes nothing.
 use mathlib.Core.Path.{refl, ap, ◌∙◌}
-use borrow.Author.Rules.{rules}
 use Rattle.fast.specs.Receiver.{placing}
 use Rattle.fast.specs.declared.Place.{Place}
 use Rattle.fast.specs.declared.Answer.TheVariants.{Finished, Opened}

@@ -2,7 +2,6 @@
 use mathlib.Core.List.{List}
 use mathlib.Core.Path.{◌≡◌, subst⁻¹}
 use Prim.Native.Nat.{ℕ}
-use borrow.Author.Rules.{rules}
 use Rattle.fast.specs.Promises.{LeftBy}
 use Rattle.fast.specs.Receiver.{first_kept, entered}
 use Rattle.fast.proofs.eight_places.enters_at.Goals as goal

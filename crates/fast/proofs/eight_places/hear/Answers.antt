@@ -2,7 +2,6 @@
 use mathlib.Core.List.{List}
 use mathlib.Core.Path.{◌≡◌, refl, sym, ap, ◌∙◌}
 use Prim.Native.Nat.{ℕ}
-use borrow.Author.Rules.{rules}
 use Rattle.words.specs.Words.{Told}
 use Rattle.frame.specs.Promises.{told_verdict, bytes_if}
 use Rattle.frame.specs.declared.Parts.{Parts}

@@ -2,7 +2,6 @@
 use mathlib.Core.Path.{refl, sym, ap, ◌∙◌}
 use Prim.Native.Nat.{ℕ}
 use borrow.Author.Tests.{not-true, not-false}
-use borrow.Author.Rules.{rules}
 use Rattle.words.specs.Words.{Told}
 use Rattle.fast.specs.FastPacket.{Meaning}
 use Rattle.fast.specs.Receiver.{names_of, hears_later, by_meaning}
@@ -55,9 +54,8 @@ returns-in-Continues c =
     let m = meant_carried (names_of a.r) a.sender a.dgn a.bytes
     (sym n.named_by.ensures ∙ not-false n.named_by.result b.if-not-named_by.false-raw)
     ∙ sym b.meaning_of.ensures ∙ ap told_meant s.in-Continues.is in
-    let part = s.sender-in-Continues-1.given.0.1.1 in
     left_as
     (ap (λ (t : Told Meaning). by_meaning t a.bytes a.r a.storage.now) m
-    ∙ ap (λ (pair : ℕ). hears_later pair part.0 part.1.0 a.bytes a.r a.storage.now)
+    ∙ ap (λ (pair : ℕ). hears_later pair c.in-Continues.sequence c.in-Continues.number a.bytes a.r a.storage.now)
     (sym c.pair_of.ensures))
     c.continues.ensures

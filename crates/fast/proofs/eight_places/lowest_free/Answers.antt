@@ -1,16 +1,15 @@
 -- `fast::eight_places::lowest_free` meets its contract. Assumes nothing.
-use mathlib.Core.Logic.{⊎_elim}
-use mathlib.Core.Path.{◌≡◌, refl, sym, ap, ◌∙◌}
-use Prim.Native.Nat.{◌≤◌, ◌<◌, ◌-◌}
+use mathlib.Core.Path.{refl, sym, ap, ◌∙◌}
+use Prim.Native.Nat.{◌<◌}
 use native.Mathlib.Omega.{arith}
 use borrow.Author.Tests.{eq-eqb, ne_eqb}
 use borrow.Author.Rules.{rules}
-use lib.ListN.{length, drop}
+use lib.ListN.{length}
 use Rattle.words.specs.declared.Found.TheVariants.{At}
 use Rattle.fast.specs.Receiver.{free_place, is_free}
-use Rattle.words.specs.Lists.{first_from, first}
 use Rattle.words.proofs.Lists.{length_field, search_pass, search_stop, search_end}
 use Rattle.fast.proofs.eight_places.lowest_free.Goals as goal
+use Rattle.fast.proofs.eight_places.lowest_free.Goals.{then-i-ge-PLACES, else-i-ge-PLACES+then-p-eq0}
 
 pub loop-i-init : goal.loop-i-init
 loop-i-init c = (search rules, search length_field, refl)
@@ -26,18 +25,17 @@ pub returns-then-at-lt-PLACES : goal.returns-then-at-lt-PLACES
 returns-then-at-lt-PLACES c =
     let l = c.loop-i in
     let ps = c.args.r.places in
-    ⊎_elim
-    (λ w. absurd (omega arith))
-    (λ w.
-    let h : l.i < length ps = omega arith in
-    ap At w.4 ∙ sym (l.invariant.2 ∙ search_stop is_free ps l.i free_place h (eq-eqb _ _ w.3.taken)))
-    c.if-i-ge-PLACES.branch
+    elim c.if-i-ge-PLACES.branch [
+      then-i-ge-PLACES w ↦ absurd (omega arith)
+    | else-i-ge-PLACES+then-p-eq0 w ↦
+        (let h : l.i < length ps = omega arith in ap At w.at-is ∙ sym (l.invariant.2 ∙ search_stop is_free ps l.i free_place h (eq-eqb _ _ w.if-p-eq0.true)))
+    ]
 
 pub returns-else-at-lt-PLACES : goal.returns-else-at-lt-PLACES
 returns-else-at-lt-PLACES c =
     let l = c.loop-i in
     let ps = c.args.r.places in
-    ⊎_elim
-    (λ w. sym (l.invariant.2 ∙ search_end is_free ps l.i (omega arith)))
-    (λ w. absurd (omega arith))
-    c.if-i-ge-PLACES.branch
+    elim c.if-i-ge-PLACES.branch [
+      then-i-ge-PLACES w ↦ sym (l.invariant.2 ∙ search_end is_free ps l.i (omega arith))
+    | else-i-ge-PLACES+then-p-eq0 w ↦ absurd (omega arith)
+    ]

@@ -1,15 +1,9 @@
 -- What the loop of `fast::eight_places::lowest_free` keeps, and why it ends.
-use mathlib.Core.Logic.{⊎_elim}
-use mathlib.Core.Path.{◌≡◌, refl, sym, ap, ◌∙◌}
-use Prim.Native.Nat.{◌≤◌, ◌<◌, ◌-◌}
-use native.Mathlib.Omega.{arith}
-use borrow.Author.Tests.{eq-eqb, ne_eqb}
-use borrow.Author.Rules.{rules}
+use mathlib.Core.Path.{◌≡◌}
+use Prim.Native.Nat.{◌≤◌, ◌-◌}
 use lib.ListN.{length, drop}
-use Rattle.words.specs.declared.Found.TheVariants.{At}
-use Rattle.fast.specs.Receiver.{free_place, is_free}
+use Rattle.fast.specs.Receiver.{is_free}
 use Rattle.words.specs.Lists.{first_from, first}
-use Rattle.words.proofs.Lists.{length_field, search_pass, search_stop, search_end}
 use Rattle.fast.proofs.eight_places.lowest_free.Given as goal
 
 abbrev pub invariant-loop-i : goal.invariant-loop-i

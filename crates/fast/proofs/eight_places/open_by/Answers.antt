@@ -1,11 +1,10 @@
 -- `fast::eight_places::open_by` meets its contract. Assumes nothing.
-use mathlib.Core.Path.{◌≡◌, refl, sym, ◌∙◌}
-use Prim.Native.Nat.{◌≤◌, ◌<◌, ◌-◌}
+use mathlib.Core.Path.{refl, sym, ◌∙◌}
+use Prim.Native.Nat.{◌<◌}
 use native.Mathlib.Omega.{arith}
 use borrow.Author.Rules.{rules}
-use lib.ListN.{length, drop}
+use lib.ListN.{length}
 use Rattle.fast.specs.Receiver.{free_place, is_open_by}
-use Rattle.words.specs.Lists.{first_from, first}
 use Rattle.words.proofs.Lists.{length_field, search_pass, search_stop, search_end}
 use Rattle.fast.proofs.eight_places.open_by.Goals as goal
 

@@ -1,16 +1,14 @@
 -- `fast::eight_places::pause` meets its contract. Assumes nothing.
-use mathlib.Core.Logic.{⊎_elim}
-use mathlib.Core.List.{map, ◌++◌}
-use mathlib.Core.Path.{◌≡◌, refl, ap, ◌∙◌}
-use Prim.Native.Nat.{◌≤◌, ◌<◌, ◌-◌}
+use mathlib.Core.Path.{refl, ap, ◌∙◌}
+use Prim.Native.Nat.{◌≤◌, ◌<◌}
 use native.Mathlib.Omega.{arith}
 use borrow.Author.Rules.{rules}
-use lib.ListN.{length, take, drop}
+use lib.ListN.{length}
 use Rattle.fast.specs.Receiver.{free_place, holding, closes, idled}
 use Rattle.words.proofs.Lists.{length_field, image_turn, image_end, count_turn, count_end}
 use Rattle.words.specs.Words.{gives}
-use Rattle.words.specs.Lists.{count}
 use Rattle.fast.proofs.eight_places.pause.Goals as goal
+use Rattle.fast.proofs.eight_places.pause.Goals.{then-closes, else-closes}
 
 pub loop-i-init : goal.loop-i-init
 loop-i-init c = (search rules, search length_field, refl, refl, search rules)
@@ -27,8 +25,8 @@ loop-i-preserved c =
       image_turn (idled a.ms) ps l.places l.i free_place c.idled.result h l.invariant.2 c.idled.ensures,
       count_turn (closes a.ms) (idled a.ms) ps l.places l.i free_place c.closes.result
           l.closed c.if-closes.closed h l.invariant.2 l.invariant.3 b
-          (⊎_elim (λ w. w.1 ∙ rw w.0.taken) (λ w. w.1 ∙ rw w.0.left (omega arith)) c.if-closes.branch),
-      ⊎_elim (λ w. omega arith) (λ w. omega arith) c.if-closes.branch,
+          (elim c.if-closes.branch [ then-closes w ↦ w.closed-is ∙ rw w.if-closes.true | else-closes w ↦ w.closed-is ∙ rw w.if-closes.false (omega arith) ]),
+      elim c.if-closes.branch [ then-closes w ↦ omega arith | else-closes w ↦ omega arith ],
     )
 
 pub returns : goal.returns

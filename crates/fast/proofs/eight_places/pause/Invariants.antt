@@ -1,14 +1,9 @@
 -- What the loop of `fast::eight_places::pause` keeps, and why it ends.
-use mathlib.Core.Logic.{⊎_elim}
 use mathlib.Core.List.{map, ◌++◌}
-use mathlib.Core.Path.{◌≡◌, refl, ap, ◌∙◌}
-use Prim.Native.Nat.{◌≤◌, ◌<◌, ◌-◌}
-use native.Mathlib.Omega.{arith}
-use borrow.Author.Rules.{rules}
+use mathlib.Core.Path.{◌≡◌}
+use Prim.Native.Nat.{◌≤◌, ◌-◌}
 use lib.ListN.{length, take, drop}
-use Rattle.fast.specs.Receiver.{free_place, holding, closes, idled}
-use Rattle.words.proofs.Lists.{length_field, image_turn, image_end, count_turn, count_end}
-use Rattle.words.specs.Words.{gives}
+use Rattle.fast.specs.Receiver.{closes, idled}
 use Rattle.words.specs.Lists.{count}
 use Rattle.fast.proofs.eight_places.pause.Given as goal
 

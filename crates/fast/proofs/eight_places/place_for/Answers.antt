@@ -1,6 +1,5 @@
 -- `fast::eight_places::place_for` meets its contract. Assumes nothing.
 use mathlib.Core.Path.{sym, ◌∙◌}
-use borrow.Author.Rules.{rules}
 use Rattle.fast.specs.Receiver.{place_for}
 use Rattle.fast.proofs.eight_places.place_for.Goals as goal
 

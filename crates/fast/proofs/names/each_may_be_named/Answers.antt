@@ -1,11 +1,10 @@
 -- `fast::names::each_may_be_named` meets its contract. Assumes nothing.
-use mathlib.Core.Path.{◌≡◌, refl, sym, ◌∙◌}
-use Prim.Native.Nat.{◌≤◌, ◌<◌, ◌-◌}
+use mathlib.Core.Path.{refl, sym, ◌∙◌}
+use Prim.Native.Nat.{◌≤◌, ◌<◌}
 use native.Mathlib.Omega.{arith}
 use borrow.Author.Tests.{not-true, not-false}
 use borrow.Author.Rules.{rules}
-use lib.ListN.{length, drop}
-use Rattle.words.specs.Lists.{every}
+use lib.ListN.{length}
 use Rattle.words.proofs.Lists.{every_pass, every_stop, every_end}
 use Rattle.fast.specs.Names.{may_be_named}
 use Rattle.fast.proofs.names.each_may_be_named.Goals as goal

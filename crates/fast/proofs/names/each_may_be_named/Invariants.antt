@@ -1,12 +1,8 @@
 -- What the loop of `fast::names::each_may_be_named` keeps, and why it ends.
-use mathlib.Core.Path.{◌≡◌, refl, sym, ◌∙◌}
-use Prim.Native.Nat.{◌≤◌, ◌<◌, ◌-◌}
-use native.Mathlib.Omega.{arith}
-use borrow.Author.Tests.{not-true, not-false}
-use borrow.Author.Rules.{rules}
+use mathlib.Core.Path.{◌≡◌}
+use Prim.Native.Nat.{◌≤◌, ◌-◌}
 use lib.ListN.{length, drop}
 use Rattle.words.specs.Lists.{every}
-use Rattle.words.proofs.Lists.{every_pass, every_stop, every_end}
 use Rattle.fast.specs.Names.{may_be_named}
 use Rattle.fast.proofs.names.each_may_be_named.Given as goal
 

@@ -1,10 +1,9 @@
 -- `fast::names::filled` meets its contract. Assumes nothing.
 use mathlib.Core.Path.{◌≡◌, refl}
-use mathlib.Core.List.{◌++◌}
-use Prim.Native.Nat.{◌≤◌, ◌<◌, ◌-◌}
+use Prim.Native.Nat.{◌<◌}
 use native.Mathlib.Omega.{arith}
 use borrow.Author.Rules.{rules}
-use lib.ListN.{length, take, replicate}
+use lib.ListN.{length}
 use Rattle.words.proofs.Lists.{fill_turn, fill_end}
 use Rattle.fast.proofs.names.filled.Goals as goal
 

@@ -1,11 +1,8 @@
 -- What the loop of `fast::names::filled` keeps, and why it ends.
-use mathlib.Core.Path.{◌≡◌, refl}
+use mathlib.Core.Path.{◌≡◌}
 use mathlib.Core.List.{◌++◌}
-use Prim.Native.Nat.{◌≤◌, ◌<◌, ◌-◌}
-use native.Mathlib.Omega.{arith}
-use borrow.Author.Rules.{rules}
+use Prim.Native.Nat.{◌≤◌, ◌-◌}
 use lib.ListN.{length, take, replicate}
-use Rattle.words.proofs.Lists.{fill_turn, fill_end}
 use Rattle.fast.proofs.names.filled.Given as goal
 
 abbrev pub invariant-loop-i : goal.invariant-loop-i

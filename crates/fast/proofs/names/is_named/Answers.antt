@@ -1,13 +1,12 @@
 -- `fast::names::is_named` meets its contract. Assumes nothing.
-use mathlib.Core.Path.{◌≡◌, refl, sym, ◌∙◌}
-use Prim.Native.Nat.{◌≤◌, ◌<◌, ◌-◌}
+use mathlib.Core.Path.{refl, sym, ◌∙◌}
+use Prim.Native.Nat.{◌≤◌, ◌<◌}
 use native.Mathlib.Omega.{arith}
 use borrow.Author.Tests.{eq-eqb, ne_eqb}
 use borrow.Author.Rules.{rules}
-use lib.ListN.{length, drop}
+use lib.ListN.{length}
 use Rattle.words.specs.Words.{◌=?◌}
 use Rattle.words.proofs.Lists.{any_pass, any_stop, any_end}
-use Rattle.fast.specs.Names.{is_named}
 use Rattle.fast.proofs.names.is_named.Goals as goal
 
 pub loop-i-init : goal.loop-i-init

@@ -1,11 +1,10 @@
 -- `fast::names::none_twice` meets its contract. Assumes nothing.
-use mathlib.Core.Path.{◌≡◌, refl, sym, ◌∙◌}
-use Prim.Native.Nat.{◌≤◌, ◌<◌, ◌-◌}
+use mathlib.Core.Path.{refl, sym, ◌∙◌}
+use Prim.Native.Nat.{◌≤◌, ◌<◌}
 use native.Mathlib.Omega.{arith}
 use borrow.Author.Rules.{rules}
-use lib.ListN.{length, drop}
+use lib.ListN.{length}
 use Rattle.words.specs.Words.{◌=?◌}
-use Rattle.words.specs.Lists.{no_two}
 use Rattle.words.proofs.Lists.{no_two_pass, no_two_stop, no_two_end}
 use Rattle.fast.proofs.names.none_twice.Goals as goal
 

@@ -1,12 +1,9 @@
 -- What the loop of `fast::names::none_twice` keeps, and why it ends.
-use mathlib.Core.Path.{◌≡◌, refl, sym, ◌∙◌}
-use Prim.Native.Nat.{◌≤◌, ◌<◌, ◌-◌}
-use native.Mathlib.Omega.{arith}
-use borrow.Author.Rules.{rules}
+use mathlib.Core.Path.{◌≡◌}
+use Prim.Native.Nat.{◌≤◌, ◌-◌}
 use lib.ListN.{length, drop}
 use Rattle.words.specs.Words.{◌=?◌}
 use Rattle.words.specs.Lists.{no_two}
-use Rattle.words.proofs.Lists.{no_two_pass, no_two_stop, no_two_end}
 use Rattle.fast.proofs.names.none_twice.Given as goal
 
 abbrev pub invariant-loop-i : goal.invariant-loop-i

@@ -1,7 +1,6 @@
 -- `fast::names::well_formed` meets its contract. Assumes nothing.
 use mathlib.Core.Path.{sym, ◌∙◌}
 use borrow.Author.Tests.{le-leb, not-true, not-false}
-use borrow.Author.Rules.{rules}
 use Rattle.words.proofs.Tests.{tests}
 use Rattle.fast.specs.Names.{is_well_formed}
 use Rattle.fast.proofs.names.well_formed.Goals as goal

@@ -1,5 +1,4 @@
 -- `fast::one_place::closes` meets its contract. Assumes nothing.
-use borrow.Author.Rules.{rules}
 use Rattle.fast.specs.Receiver.{closes}
 use Rattle.words.proofs.Tests.{tests}
 use Rattle.fast.proofs.one_place.closes.Goals as goal

@@ -1,5 +1,4 @@
 -- `fast::one_place::idled` meets its contract. Assumes nothing.
-use borrow.Author.Rules.{rules}
 use Rattle.fast.specs.Receiver.{idled}
 use Rattle.words.proofs.Tests.{tests}
 use Rattle.fast.proofs.one_place.idled.Goals as goal

@@ -1,5 +1,4 @@
 -- `fast::one_place::is_open_by` meets its contract. Assumes nothing.
-use borrow.Author.Rules.{rules}
 use Rattle.words.proofs.Tests.{tests}
 use Rattle.fast.proofs.one_place.is_open_by.Goals as goal
 

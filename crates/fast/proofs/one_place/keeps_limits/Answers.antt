@@ -1,5 +1,4 @@
 -- `fast::one_place::keeps_limits` meets its contract. Assumes nothing.
-use borrow.Author.Rules.{rules}
 use Rattle.fast.specs.Receiver.{keeps_limits}
 use Rattle.words.proofs.Tests.{tests}
 use Rattle.fast.proofs.one_place.keeps_limits.Goals as goal

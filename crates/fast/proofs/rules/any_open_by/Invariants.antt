@@ -1,12 +1,9 @@
 -- What the loop of `fast::rules::any_open_by` keeps, and why it ends.
-use mathlib.Core.Path.{◌≡◌, refl, sym, ◌∙◌}
-use Prim.Native.Nat.{◌≤◌, ◌<◌, ◌-◌}
-use native.Mathlib.Omega.{arith}
-use borrow.Author.Rules.{rules}
+use mathlib.Core.Path.{◌≡◌}
+use Prim.Native.Nat.{◌≤◌, ◌-◌}
 use lib.ListN.{length, drop}
-use Rattle.fast.specs.Receiver.{free_place, is_open_by}
+use Rattle.fast.specs.Receiver.{is_open_by}
 use Rattle.words.specs.Lists.{any}
-use Rattle.words.proofs.Lists.{length_field, any_pass, any_stop, any_end}
 use Rattle.fast.proofs.rules.any_open_by.Given as goal
 
 abbrev pub invariant-loop-i : goal.invariant-loop-i

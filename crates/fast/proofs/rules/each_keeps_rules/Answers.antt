@@ -1,11 +1,10 @@
 -- `fast::rules::each_keeps_rules` meets its contract. Assumes nothing.
-use mathlib.Core.Path.{◌≡◌, refl, sym, ◌∙◌}
-use Prim.Native.Nat.{◌≤◌, ◌<◌, ◌-◌}
+use mathlib.Core.Path.{refl, sym, ◌∙◌}
+use Prim.Native.Nat.{◌<◌}
 use native.Mathlib.Omega.{arith}
 use borrow.Author.Tests.{not-true, not-false}
 use borrow.Author.Rules.{rules}
-use lib.ListN.{length, drop}
-use Rattle.words.specs.Lists.{every}
+use lib.ListN.{length}
 use Rattle.words.proofs.Lists.{length_field, every_pass, every_stop, every_end}
 use Rattle.fast.specs.Receiver.{free_place, names_of, place_keeps_rules}
 use Rattle.fast.proofs.rules.each_keeps_rules.Goals as goal

@@ -1,13 +1,9 @@
 -- What the loop of `fast::rules::each_keeps_rules` keeps, and why it ends.
-use mathlib.Core.Path.{◌≡◌, refl, sym, ◌∙◌}
-use Prim.Native.Nat.{◌≤◌, ◌<◌, ◌-◌}
-use native.Mathlib.Omega.{arith}
-use borrow.Author.Tests.{not-true, not-false}
-use borrow.Author.Rules.{rules}
+use mathlib.Core.Path.{◌≡◌}
+use Prim.Native.Nat.{◌≤◌, ◌-◌}
 use lib.ListN.{length, drop}
 use Rattle.words.specs.Lists.{every}
-use Rattle.words.proofs.Lists.{length_field, every_pass, every_stop, every_end}
-use Rattle.fast.specs.Receiver.{free_place, names_of, place_keeps_rules}
+use Rattle.fast.specs.Receiver.{names_of, place_keeps_rules}
 use Rattle.fast.proofs.rules.each_keeps_rules.Given as goal
 
 abbrev pub invariant-loop-i : goal.invariant-loop-i

@@ -1,7 +1,6 @@
 -- `fast::rules::keep_rules` meets its contract. Assumes nothing.
 use mathlib.Core.Path.{sym, ◌∙◌}
 use borrow.Author.Tests.{not-true, not-false}
-use borrow.Author.Rules.{rules}
 use Rattle.fast.specs.Receiver.{keeps_rules}
 use Rattle.fast.proofs.Dgns.{few_held}
 use Rattle.fast.proofs.rules.keep_rules.Goals as goal

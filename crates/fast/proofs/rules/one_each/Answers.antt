@@ -1,13 +1,13 @@
 -- `fast::rules::one_each` meets its contract. Assumes nothing.
 use mathlib.Core.Path.{◌≡◌, refl, sym, ◌∙◌}
 use mathlib.Core.Bool.{true, false}
-use Prim.Native.Nat.{◌+◌, ◌≤◌, ◌<◌, ◌-◌}
+use Prim.Native.Nat.{◌+◌, ◌<◌}
 use native.Mathlib.Omega.{arith}
 use borrow.Author.Tests.{not-true, not-false}
 use borrow.Author.Rules.{rules}
 use lib.ListN.{length, drop, get_or}
 use Rattle.fast.specs.Receiver.{free_place, layout}
-use Rattle.places.specs.Layout.{same_holder, one_each}
+use Rattle.places.specs.Layout.{same_holder}
 use Rattle.words.specs.Lists.{any}
 use Rattle.words.proofs.Words.{not_flips}
 use Rattle.words.proofs.Lists.{length_field, no_two_pass, no_two_stop, no_two_end}

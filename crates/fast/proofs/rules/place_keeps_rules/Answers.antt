@@ -1,7 +1,6 @@
 -- `fast::rules::place_keeps_rules` meets its contract. Assumes nothing.
 use mathlib.Core.Path.{sym, ◌∙◌}
 use borrow.Author.Tests.{ne_eqb, not-true, not-false}
-use borrow.Author.Rules.{rules}
 use Rattle.words.proofs.Tests.{tests}
 use Rattle.fast.specs.Receiver.{place_keeps_rules}
 use Rattle.fast.proofs.rules.place_keeps_rules.Goals as goal

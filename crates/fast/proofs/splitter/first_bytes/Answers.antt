@@ -1,5 +1,4 @@
 -- `fast::splitter::first_bytes` meets its contract. Assumes nothing.
-use borrow.Author.Rules.{rules}
 use Rattle.fast.proofs.Splits.{first_copied}
 use Rattle.fast.proofs.splitter.first_bytes.Goals as goal
 

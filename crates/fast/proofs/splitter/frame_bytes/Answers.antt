@@ -1,6 +1,5 @@
 -- `fast::splitter::frame_bytes` meets its contract. Assumes nothing.
 use borrow.Author.Tests.{eq-eqb, ne_eqb}
-use borrow.Author.Rules.{rules}
 use Rattle.fast.specs.Splitter.{frame_bytes_of}
 use Rattle.fast.proofs.splitter.frame_bytes.Goals as goal
 

@@ -1,5 +1,4 @@
 -- `fast::splitter::later_bytes` meets its contract. Assumes nothing.
-use borrow.Author.Rules.{rules}
 use Rattle.fast.proofs.Splits.{later_copied}
 use Rattle.fast.proofs.splitter.later_bytes.Goals as goal
 

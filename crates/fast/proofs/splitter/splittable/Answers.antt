@@ -1,5 +1,4 @@
 -- `fast::splitter::splittable` meets its contract. Assumes nothing.
-use borrow.Author.Rules.{rules}
 use Rattle.fast.specs.Splitter.{refusal_in}
 use Rattle.words.proofs.Tests.{tests}
 use Rattle.fast.proofs.splitter.splittable.Goals as goal

@@ -1,9 +1,9 @@
 -- `fast::storage::copy` meets its contract. Assumes nothing.
 use mathlib.Core.Path.{◌≡◌, refl}
-use Prim.Native.Nat.{◌≤◌, ◌<◌, ◌-◌, ◌+◌}
+use Prim.Native.Nat.{◌<◌, ◌+◌}
 use native.Mathlib.Omega.{arith}
 use borrow.Author.Rules.{rules}
-use lib.Seq.{paste, paste-zero}
+use lib.Seq.{paste-zero}
 use lib.ListN.{length, drop, length-set}
 use Rattle.places.proofs.Stretch.{paste_turn}
 use Rattle.fast.proofs.storage.copy.Goals as goal

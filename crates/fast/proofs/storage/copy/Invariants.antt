@@ -1,11 +1,8 @@
 -- What the loop of `fast::storage::copy` keeps, and why it ends.
-use mathlib.Core.Path.{◌≡◌, refl}
-use Prim.Native.Nat.{◌≤◌, ◌<◌, ◌-◌, ◌+◌}
-use native.Mathlib.Omega.{arith}
-use borrow.Author.Rules.{rules}
-use lib.Seq.{paste, paste-zero}
-use lib.ListN.{length, drop, length-set}
-use Rattle.places.proofs.Stretch.{paste_turn}
+use mathlib.Core.Path.{◌≡◌}
+use Prim.Native.Nat.{◌≤◌, ◌-◌}
+use lib.Seq.{paste}
+use lib.ListN.{length, drop}
 use Rattle.fast.proofs.storage.copy.Given as goal
 
 abbrev pub invariant-loop-i : goal.invariant-loop-i

@@ -1,6 +1,5 @@
 -- `fast::storage::keep` meets its contract. Assumes nothing.
 use Prim.Native.Nat.{◌*◌}
-use borrow.Author.Rules.{rules}
 use Rattle.places.proofs.Stretch.{paste_part}
 use Rattle.fast.specs.FastPacket.{longest}
 use Rattle.fast.proofs.storage.keep.Goals as goal

@@ -1,6 +1,5 @@
 -- `fast::storage::part` meets its contract. Assumes nothing.
 use native.Mathlib.Nat.{add-sub_cancel_left}
-use borrow.Author.Rules.{rules}
 use Rattle.words.proofs.Tests.{tests}
 use Rattle.fast.proofs.storage.part.Goals as goal
 

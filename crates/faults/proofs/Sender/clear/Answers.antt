@@ -1,7 +1,6 @@
 -- `faults::Sender::clear` meets its contract. Assumes nothing.
 use mathlib.Core.Path.{sym, ap, ◌∙◌}
 use borrow.Author.Tests.{not-true, not-false}
-use borrow.Author.Rules.{rules}
 use Rattle.faults.specs.Sender.{cleared_of, replacing}
 use Rattle.faults.proofs.Steps.{active_below}
 use Rattle.faults.proofs.Sender.clear.Goals as goal

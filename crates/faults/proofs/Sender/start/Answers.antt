@@ -1,5 +1,4 @@
 -- `faults::Sender::start` meets its contract. Assumes nothing.
-use borrow.Author.Rules.{rules}
 use Rattle.faults.proofs.Sender.start.Goals as goal
 
 pub returns : goal.returns

@@ -1,6 +1,5 @@
 -- `faults::place::is_zero` meets its contract. Assumes nothing.
 use mathlib.Core.Path.{sym}
-use borrow.Author.Rules.{rules}
 use Rattle.words.proofs.Tests.{tests}
 use Rattle.faults.specs.Fault.{is_zero}
 use Rattle.faults.proofs.place.is_zero.Goals as goal

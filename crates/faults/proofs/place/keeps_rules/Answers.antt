@@ -1,7 +1,6 @@
 -- `faults::place::keeps_rules` meets its contract. Assumes nothing.
 use mathlib.Core.Path.{sym, ◌∙◌}
 use borrow.Author.Tests.{not-true, not-false}
-use borrow.Author.Rules.{rules}
 use Rattle.words.proofs.Tests.{tests}
 use Rattle.faults.specs.Fault.{place_keeps_rules}
 use Rattle.faults.proofs.place.keeps_rules.Goals as goal

@@ -1,5 +1,4 @@
 -- `faults::place::passed` meets its contract. Assumes nothing.
-use borrow.Author.Rules.{rules}
 use Rattle.words.proofs.Tests.{tests}
 use Rattle.faults.specs.Fault.{passed}
 use Rattle.faults.proofs.place.passed.Goals as goal

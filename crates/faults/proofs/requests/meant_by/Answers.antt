@@ -2,7 +2,6 @@
 use mathlib.Core.Path.{sym, ◌∙◌}
 use native.Mathlib.Nat.{div-one}
 use borrow.Author.Tests.{le-ltb}
-use borrow.Author.Rules.{rules}
 use Rattle.frame.specs.Identifier.{greatest_dgn, destination_of}
 use Rattle.words.proofs.Tests.{tests}
 use Rattle.faults.specs.Requests.{meant_by}

@@ -1,6 +1,5 @@
 -- `faults::requests::reply_bytes` meets its contract. Assumes nothing.
 use mathlib.Core.Path.{◌≡◌, sym, ◌∙◌}
-use borrow.Author.Rules.{rules}
 use lib.ListN.{length}
 use Rattle.words.proofs.Lists.{length_field}
 use Rattle.faults.specs.Fault.{is_active}

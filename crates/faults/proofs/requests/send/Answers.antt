@@ -1,5 +1,4 @@
 -- `faults::requests::send` meets its contract. Assumes nothing.
-use borrow.Author.Rules.{rules}
 use Rattle.faults.proofs.Steps.{sends_answered}
 use Rattle.faults.proofs.requests.send.Goals as goal
 

@@ -1,11 +1,10 @@
 -- `faults::rules::keep_rules` meets its contract. Assumes nothing.
-use mathlib.Core.Path.{◌≡◌, refl, sym, ◌∙◌}
-use Prim.Native.Nat.{◌≤◌, ◌<◌, ◌-◌}
+use mathlib.Core.Path.{refl, sym, ◌∙◌}
+use Prim.Native.Nat.{◌<◌}
 use native.Mathlib.Omega.{arith}
 use borrow.Author.Rules.{rules}
 use borrow.Author.Tests.{not-true, not-false}
-use lib.ListN.{length, drop}
-use Rattle.words.specs.Lists.{every}
+use lib.ListN.{length}
 use Rattle.words.proofs.Lists.{length_field, every_pass, every_stop, every_end}
 use Rattle.faults.specs.Fault.{place_keeps_rules}
 use Rattle.faults.specs.Sender.{keeps_rules}

@@ -1,15 +1,9 @@
 -- What the loop of `faults::rules::keep_rules` keeps, and why it ends.
-use mathlib.Core.Path.{◌≡◌, refl, sym, ◌∙◌}
-use Prim.Native.Nat.{◌≤◌, ◌<◌, ◌-◌}
-use native.Mathlib.Omega.{arith}
-use borrow.Author.Rules.{rules}
-use borrow.Author.Tests.{not-true, not-false}
+use mathlib.Core.Path.{◌≡◌}
+use Prim.Native.Nat.{◌≤◌, ◌-◌}
 use lib.ListN.{length, drop}
 use Rattle.words.specs.Lists.{every}
-use Rattle.words.proofs.Lists.{length_field, every_pass, every_stop, every_end}
 use Rattle.faults.specs.Fault.{place_keeps_rules}
-use Rattle.faults.specs.Sender.{keeps_rules}
-use Rattle.faults.proofs.Steps.{outside}
 use Rattle.faults.proofs.rules.keep_rules.Given as goal
 
 abbrev pub invariant-loop-i : goal.invariant-loop-i

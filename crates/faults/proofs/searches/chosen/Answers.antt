@@ -1,12 +1,12 @@
 -- `faults::searches::chosen` meets its contract. Assumes nothing.
-use mathlib.Core.Path.{◌≡◌, sym, ◌∙◌}
-use Prim.Native.Nat.{◌≤◌, ◌<◌, ◌-◌}
+use mathlib.Core.Path.{sym, ◌∙◌}
+use Prim.Native.Nat.{◌<◌}
 use native.Mathlib.Omega.{arith}
 use borrow.Author.Rules.{rules}
 use lib.ListN.{length}
 use Rattle.words.proofs.Lists.{length_field}
 use Rattle.faults.specs.Sender.{is_chosen, chosen}
-use Rattle.faults.proofs.Steps.{outside, found_or, pass_turn, pass_end}
+use Rattle.faults.proofs.Steps.{outside, pass_turn, pass_end}
 use Rattle.faults.proofs.searches.chosen.Goals as goal
 
 pub loop-i-init : goal.loop-i-init

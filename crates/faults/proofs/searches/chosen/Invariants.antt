@@ -1,12 +1,9 @@
 -- What the loop of `faults::searches::chosen` keeps, and why it ends.
-use mathlib.Core.Path.{◌≡◌, sym, ◌∙◌}
-use Prim.Native.Nat.{◌≤◌, ◌<◌, ◌-◌}
-use native.Mathlib.Omega.{arith}
-use borrow.Author.Rules.{rules}
+use mathlib.Core.Path.{◌≡◌}
+use Prim.Native.Nat.{◌≤◌, ◌-◌}
 use lib.ListN.{length}
-use Rattle.words.proofs.Lists.{length_field}
 use Rattle.faults.specs.Sender.{is_chosen, chosen}
-use Rattle.faults.proofs.Steps.{outside, found_or, pass_turn, pass_end}
+use Rattle.faults.proofs.Steps.{found_or}
 use Rattle.faults.proofs.searches.chosen.Given as goal
 
 abbrev pub invariant-loop-i : goal.invariant-loop-i

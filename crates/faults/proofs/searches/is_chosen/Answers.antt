@@ -1,7 +1,6 @@
 -- `faults::searches::is_chosen` meets its contract. Assumes nothing.
 use mathlib.Core.Path.{sym, ◌∙◌}
 use borrow.Author.Tests.{not-true, not-false}
-use borrow.Author.Rules.{rules}
 use Rattle.faults.proofs.searches.is_chosen.Goals as goal
 
 pub returns-then-not-is_due : goal.returns-then-not-is_due

@@ -1,7 +1,6 @@
 -- `faults::searches::longer` meets its contract. Assumes nothing.
 use mathlib.Core.Path.{sym, ◌∙◌}
 use borrow.Author.Tests.{not-true, not-false}
-use borrow.Author.Rules.{rules}
 use Rattle.words.proofs.Tests.{tests}
 use Rattle.faults.specs.Sender.{longer}
 use Rattle.faults.proofs.searches.longer.Goals as goal

@@ -1,11 +1,9 @@
 -- `faults::searches::longest_due` meets its contract. Assumes nothing.
-use mathlib.Core.Path.{◌≡◌}
-use Prim.Native.Nat.{◌≤◌, ◌<◌, ◌-◌, max}
+use Prim.Native.Nat.{◌<◌}
 use native.Mathlib.Omega.{arith}
 use borrow.Author.Rules.{rules}
-use lib.ListN.{length, drop}
+use lib.ListN.{length}
 use Rattle.words.proofs.Lists.{length_field}
-use Rattle.faults.specs.Sender.{longest_due}
 use Rattle.faults.proofs.Steps.{outside, longest_pass, longest_end}
 use Rattle.faults.proofs.searches.longest_due.Goals as goal
 

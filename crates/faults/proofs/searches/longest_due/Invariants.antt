@@ -1,12 +1,8 @@
 -- What the loop of `faults::searches::longest_due` keeps, and why it ends.
 use mathlib.Core.Path.{◌≡◌}
-use Prim.Native.Nat.{◌≤◌, ◌<◌, ◌-◌, max}
-use native.Mathlib.Omega.{arith}
-use borrow.Author.Rules.{rules}
+use Prim.Native.Nat.{◌≤◌, ◌-◌, max}
 use lib.ListN.{length, drop}
-use Rattle.words.proofs.Lists.{length_field}
 use Rattle.faults.specs.Sender.{longest_due}
-use Rattle.faults.proofs.Steps.{outside, longest_pass, longest_end}
 use Rattle.faults.proofs.searches.longest_due.Given as goal
 
 abbrev pub invariant-loop-i : goal.invariant-loop-i

@@ -1,15 +1,9 @@
 -- What the loop of `faults::searches::lowest_active` keeps, and why it ends.
-use mathlib.Core.Path.{◌≡◌, refl, sym, ap, ◌∙◌}
-use mathlib.Core.Bool.{not}
-use Prim.Native.Nat.{◌≤◌, ◌<◌, ◌-◌}
-use native.Mathlib.Omega.{arith}
-use borrow.Author.Rules.{rules}
-use borrow.Author.Tests.{eq-eqb, ne_eqb}
+use mathlib.Core.Path.{◌≡◌}
+use Prim.Native.Nat.{◌≤◌, ◌-◌}
 use lib.ListN.{length, drop}
 use Rattle.words.specs.Lists.{first_from, first}
-use Rattle.words.proofs.Lists.{length_field, search_pass, search_stop, search_end}
 use Rattle.faults.specs.Fault.{is_active}
-use Rattle.faults.proofs.Steps.{outside}
 use Rattle.faults.proofs.searches.lowest_active.Given as goal
 
 abbrev pub invariant-loop-i : goal.invariant-loop-i

@@ -1,7 +1,6 @@
 -- `faults::sending::add` meets its contract. Assumes nothing.
 use mathlib.Core.Path.{sym, ap, ◌∙◌}
 use borrow.Author.Tests.{not-true, not-false}
-use borrow.Author.Rules.{rules}
 use Rattle.faults.specs.Sender.{added_at, replacing}
 use Rattle.faults.proofs.sending.add.Goals as goal
 

@@ -1,10 +1,9 @@
 -- `faults::sending::all_passed` meets its contract. Assumes nothing.
-use mathlib.Core.List.{map, ◌++◌}
-use mathlib.Core.Path.{◌≡◌, refl}
-use Prim.Native.Nat.{◌≤◌, ◌<◌, ◌-◌}
+use mathlib.Core.Path.{refl}
+use Prim.Native.Nat.{◌≤◌, ◌<◌}
 use native.Mathlib.Omega.{arith}
 use borrow.Author.Rules.{rules}
-use lib.ListN.{length, take, drop}
+use lib.ListN.{length}
 use Rattle.words.proofs.Lists.{length_field, image_turn, image_end}
 use Rattle.faults.specs.Fault.{passed}
 use Rattle.faults.proofs.Steps.{outside}

@@ -1,13 +1,9 @@
 -- What the loop of `faults::sending::all_passed` keeps, and why it ends.
 use mathlib.Core.List.{map, ◌++◌}
-use mathlib.Core.Path.{◌≡◌, refl}
-use Prim.Native.Nat.{◌≤◌, ◌<◌, ◌-◌}
-use native.Mathlib.Omega.{arith}
-use borrow.Author.Rules.{rules}
+use mathlib.Core.Path.{◌≡◌}
+use Prim.Native.Nat.{◌≤◌, ◌-◌}
 use lib.ListN.{length, take, drop}
-use Rattle.words.proofs.Lists.{length_field, image_turn, image_end}
 use Rattle.faults.specs.Fault.{passed}
-use Rattle.faults.proofs.Steps.{outside}
 use Rattle.faults.proofs.sending.all_passed.Given as goal
 
 abbrev pub invariant-loop-i : goal.invariant-loop-i

@@ -1,6 +1,5 @@
 -- `faults::sending::step` meets its contract. Assumes nothing.
 use mathlib.Core.Path.{◌≡◌, sym, ap, ◌∙◌}
-use borrow.Author.Rules.{rules}
 use lib.ListN.{length, length-map}
 use Rattle.words.proofs.Lists.{length_field}
 use Rattle.faults.specs.Fault.{passed}

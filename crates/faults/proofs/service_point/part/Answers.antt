@@ -1,6 +1,5 @@
 -- `faults::service_point::part` meets its contract. Assumes nothing.
 use mathlib.Core.Path.{sym, ap, ◌∙◌}
-use borrow.Author.Rules.{rules}
 use Rattle.catalogue.specs.Promises.{told_reading}
 use Rattle.faults.specs.ServicePoint.{code_in}
 use Rattle.faults.proofs.service_point.part.Goals as goal

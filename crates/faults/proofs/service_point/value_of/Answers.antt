@@ -1,7 +1,6 @@
 -- `faults::service_point::value_of` meets its contract. Assumes nothing.
 use mathlib.Core.Path.{ap}
 use native.Mathlib.Omega.{arith}
-use borrow.Author.Rules.{rules}
 use mir.ValLaws.{to_z_pos}
 use mir.Syntax.{w64}
 use Rattle.catalogue.specs.declared.Value.TheVariants.{Scaled}

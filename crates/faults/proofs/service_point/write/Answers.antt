@@ -3,7 +3,6 @@ use mathlib.Core.Path.{sym, ap}
 use mathlib.Core.List.{List}
 use Prim.Native.Nat.{ℕ}
 use native.Mathlib.Omega.{arith}
-use borrow.Author.Rules.{rules}
 use Rattle.words.specs.Words.{Told}
 use Rattle.catalogue.specs.Promises.{done_if, bytes_after}
 use Rattle.faults.proofs.Parts.{with_more}

@@ -1,5 +1,4 @@
 -- `faults::service_point::write_parts` meets its contract. Assumes nothing.
-use borrow.Author.Rules.{rules}
 use Rattle.faults.proofs.Parts.{parts_written}
 use Rattle.faults.proofs.service_point.write_parts.Goals as goal
 

@@ -1,13 +1,11 @@
 -- `nodes::flat::address_in` meets its contract. Assumes nothing.
 use mathlib.Core.Path.{◌≡◌, refl, sym, ap, ◌∙◌}
-use Prim.Native.Nat.{◌-◌, ◌≤◌, ◌<◌}
+use Prim.Native.Nat.{◌≤◌, ◌<◌}
 use native.Mathlib.Omega.{arith}
-use borrow.Author.Rules.{rules}
-use lib.ListN.{length, drop}
+use lib.ListN.{length}
 use Rattle.words.specs.Words.{gives}
-use Rattle.words.specs.Lists.{first_from, first}
 use Rattle.words.specs.declared.Found.{Found}
-use Rattle.nodes.specs.Table.{addresses, absent, has_name}
+use Rattle.nodes.specs.Table.{addresses, absent}
 use Rattle.words.proofs.Lists.{length_field, search_pass, search_stop, search_end}
 use Rattle.nodes.proofs.flat.address_in.Goals as goal
 

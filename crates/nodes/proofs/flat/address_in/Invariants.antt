@@ -1,14 +1,9 @@
 -- What the loop of `nodes::flat::address_in` keeps, and why it ends.
-use mathlib.Core.Path.{◌≡◌, refl, sym, ap, ◌∙◌}
-use Prim.Native.Nat.{◌-◌, ◌≤◌, ◌<◌}
-use native.Mathlib.Omega.{arith}
-use borrow.Author.Rules.{rules}
+use mathlib.Core.Path.{◌≡◌}
+use Prim.Native.Nat.{◌-◌, ◌≤◌}
 use lib.ListN.{length, drop}
-use Rattle.words.specs.Words.{gives}
 use Rattle.words.specs.Lists.{first_from, first}
-use Rattle.words.specs.declared.Found.{Found}
-use Rattle.nodes.specs.Table.{addresses, absent, has_name}
-use Rattle.words.proofs.Lists.{length_field, search_pass, search_stop, search_end}
+use Rattle.nodes.specs.Table.{addresses, has_name}
 use Rattle.nodes.proofs.flat.address_in.Given as goal
 
 abbrev pub invariant-loop-i : goal.invariant-loop-i

@@ -1,6 +1,5 @@
 -- `nodes::flat::asked` meets its contract. Assumes nothing.
 use mathlib.Core.Path.{refl, ◌∙◌}
-use borrow.Author.Rules.{rules}
 use Rattle.words.proofs.Tests.{tests}
 use Rattle.nodes.specs.Call.{heard_by}
 use Rattle.nodes.specs.Private.{change_by}

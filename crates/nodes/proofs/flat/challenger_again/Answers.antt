@@ -1,6 +1,5 @@
 -- `nodes::flat::challenger_again` meets its contract. Assumes nothing.
 use mathlib.Core.Path.{sym, ◌∙◌}
-use borrow.Author.Rules.{rules}
 use Rattle.nodes.proofs.flat.challenger_again.Goals as goal
 
 pub returns-then-is_challenged : goal.returns-then-is_challenged

@@ -1,5 +1,4 @@
 -- `nodes::flat::claimed` meets its contract. Assumes nothing.
-use borrow.Author.Rules.{rules}
 use Rattle.words.proofs.Tests.{tests}
 use Rattle.nodes.specs.Table.{claimed_at}
 use Rattle.nodes.proofs.flat.claimed.Goals as goal

@@ -1,6 +1,5 @@
 -- `nodes::flat::claimed_here` meets its contract. Assumes nothing.
 use mathlib.Core.Path.{sym, ap, ◌∙◌}
-use borrow.Author.Rules.{rules}
 use Rattle.nodes.specs.Table.{unchallenged_of, entered_of, claimed_here}
 use Rattle.nodes.proofs.flat.claimed_here.Goals as goal
 

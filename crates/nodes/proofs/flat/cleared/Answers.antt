@@ -1,6 +1,5 @@
 -- `nodes::flat::cleared` meets its contract. Assumes nothing.
 use mathlib.Core.Path.{sym, ◌∙◌}
-use borrow.Author.Rules.{rules}
 use Rattle.nodes.specs.Table.{cleared_of}
 use Rattle.nodes.proofs.flat.cleared.Goals as goal
 

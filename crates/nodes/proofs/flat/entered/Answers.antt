@@ -1,6 +1,5 @@
 -- `nodes::flat::entered` meets its contract. Assumes nothing.
 use mathlib.Core.Path.{sym, ◌∙◌}
-use borrow.Author.Rules.{rules}
 use Rattle.nodes.specs.Table.{entered_of}
 use Rattle.nodes.proofs.flat.entered.Goals as goal
 

@@ -1,7 +1,6 @@
 -- `nodes::flat::found_address` meets its contract. Assumes nothing.
 use mathlib.Core.Path.{sym, ◌∙◌}
 use borrow.Author.Tests.{not-true, not-false}
-use borrow.Author.Rules.{rules}
 use Rattle.nodes.proofs.Call.{sized_short, told_broken, sized_sound}
 use Rattle.nodes.proofs.flat.found_address.Goals as goal
 

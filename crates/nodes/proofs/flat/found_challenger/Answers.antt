@@ -1,7 +1,6 @@
 -- `nodes::flat::found_challenger` meets its contract. Assumes nothing.
 use mathlib.Core.Path.{sym, ap, ◌∙◌}
 use borrow.Author.Tests.{not-true, not-false}
-use borrow.Author.Rules.{rules}
 use Rattle.words.specs.Words.{gives}
 use Rattle.nodes.specs.Call.{rival_of}
 use Rattle.nodes.proofs.Call.{sized_short, told_broken, sized_sound, rival_past, rival_at_lem}

@@ -1,6 +1,5 @@
 -- `nodes::flat::has_challenger` meets its contract. Assumes nothing.
 use mathlib.Core.Path.{sym, ◌∙◌}
-use borrow.Author.Rules.{rules}
 use Rattle.nodes.specs.Table.{has_challenger}
 use Rattle.nodes.proofs.flat.has_challenger.Goals as goal
 

@@ -1,5 +1,4 @@
 -- `nodes::flat::holder_again` meets its contract. Assumes nothing.
-use borrow.Author.Rules.{rules}
 use Rattle.nodes.proofs.flat.holder_again.Goals as goal
 
 pub returns-then-n : goal.returns-then-n

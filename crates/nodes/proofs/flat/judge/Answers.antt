@@ -1,7 +1,6 @@
 -- `nodes::flat::judge` meets its contract. Assumes nothing.
 use mathlib.Core.Path.{sym, ap, ◌∙◌}
 use borrow.Author.Tests.{not-true, not-false}
-use borrow.Author.Rules.{rules}
 use Rattle.frame.specs.declared.Parts.{Parts}
 use Rattle.words.specs.Words.{Told}
 use Rattle.frame.specs.Promises.{told_verdict, bytes_if}

@@ -2,7 +2,6 @@
 use mathlib.Core.Path.{refl, sym, ap, ◌∙◌}
 use Prim.Native.Nat.{ℕ}
 use borrow.Author.Tests.{not-true, not-false}
-use borrow.Author.Rules.{rules}
 use Rattle.words.specs.Words.{gives}
 use Rattle.nodes.specs.Private.{paused_in, pause_in, change_of}
 use Rattle.nodes.proofs.Call.{judged_unpaused, judged_passed, sized_sound, pause_short, pause_broken}

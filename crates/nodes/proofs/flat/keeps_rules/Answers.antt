@@ -1,12 +1,11 @@
 -- `nodes::flat::keeps_rules` meets its contract. Assumes nothing.
 use mathlib.Core.Path.{◌≡◌, refl, sym, ◌∙◌}
-use Prim.Native.Nat.{◌-◌, ◌≤◌, ◌<◌}
+use Prim.Native.Nat.{◌≤◌, ◌<◌}
 use native.Mathlib.Omega.{arith}
 use borrow.Author.Tests.{not-true, not-false}
-use borrow.Author.Rules.{rules}
-use lib.ListN.{length, get_or, drop}
+use lib.ListN.{length, get_or}
 use Rattle.words.proofs.Lists.{length_field}
-use Rattle.nodes.specs.Table.{absent, keeps_rules}
+use Rattle.nodes.specs.Table.{absent}
 use Rattle.nodes.proofs.Rules.{rules_end, rules_unsound, rules_again, rules_turn, rules_absent}
 use Rattle.nodes.proofs.flat.keeps_rules.Goals as goal
 

@@ -1,13 +1,8 @@
 -- What the loop of `nodes::flat::keeps_rules` keeps, and why it ends.
-use mathlib.Core.Path.{◌≡◌, refl, sym, ◌∙◌}
-use Prim.Native.Nat.{◌-◌, ◌≤◌, ◌<◌}
-use native.Mathlib.Omega.{arith}
-use borrow.Author.Tests.{not-true, not-false}
-use borrow.Author.Rules.{rules}
-use lib.ListN.{length, get_or, drop}
-use Rattle.words.proofs.Lists.{length_field}
-use Rattle.nodes.specs.Table.{absent, keeps_rules}
-use Rattle.nodes.proofs.Rules.{rules_end, rules_unsound, rules_again, rules_turn, rules_absent}
+use mathlib.Core.Path.{◌≡◌}
+use Prim.Native.Nat.{◌-◌, ◌≤◌}
+use lib.ListN.{length, drop}
+use Rattle.nodes.specs.Table.{keeps_rules}
 use Rattle.nodes.proofs.flat.keeps_rules.Given as goal
 
 abbrev pub invariant-loop-i : goal.invariant-loop-i

@@ -1,7 +1,6 @@
 -- `nodes::flat::looked_up` meets its contract. Assumes nothing.
 use mathlib.Core.Path.{sym, ap, ◌∙◌}
 use borrow.Author.Tests.{not-true, not-false}
-use borrow.Author.Rules.{rules}
 use Rattle.words.specs.Words.{gives}
 use Rattle.nodes.specs.Call.{holder_of}
 use Rattle.nodes.proofs.Call.{sized_short, told_broken, sized_sound, holder_past, holder_at_lem}

@@ -1,6 +1,5 @@
 -- `nodes::flat::may_challenge` meets its contract. Assumes nothing.
 use mathlib.Core.Path.{sym, ◌∙◌}
-use borrow.Author.Rules.{rules}
 use Rattle.nodes.specs.Table.{may_challenge}
 use Rattle.nodes.proofs.flat.may_challenge.Goals as goal
 

@@ -1,11 +1,10 @@
 -- `nodes::flat::replaced` meets its contract. Assumes nothing.
 use mathlib.Core.Path.{◌≡◌}
-use Prim.Native.Nat.{◌+◌, ◌-◌, ◌≤◌, ◌<◌}
+use Prim.Native.Nat.{◌≤◌, ◌<◌}
 use native.Mathlib.Omega.{arith}
-use borrow.Author.Rules.{rules}
-use lib.ListN.{length, get_or, drop}
+use lib.ListN.{length, get_or}
 use Rattle.words.proofs.Lists.{length_field}
-use Rattle.nodes.specs.Table.{addresses, absent, is_replaced, replaced_in}
+use Rattle.nodes.specs.Table.{addresses, absent, is_replaced}
 use Rattle.nodes.proofs.Rules.{one_at_most, replaced_end, replaced_turn}
 use Rattle.nodes.proofs.flat.replaced.Goals as goal
 

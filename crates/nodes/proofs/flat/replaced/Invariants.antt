@@ -1,12 +1,8 @@
 -- What the loop of `nodes::flat::replaced` keeps, and why it ends.
 use mathlib.Core.Path.{◌≡◌}
-use Prim.Native.Nat.{◌+◌, ◌-◌, ◌≤◌, ◌<◌}
-use native.Mathlib.Omega.{arith}
-use borrow.Author.Rules.{rules}
-use lib.ListN.{length, get_or, drop}
-use Rattle.words.proofs.Lists.{length_field}
-use Rattle.nodes.specs.Table.{addresses, absent, is_replaced, replaced_in}
-use Rattle.nodes.proofs.Rules.{one_at_most, replaced_end, replaced_turn}
+use Prim.Native.Nat.{◌+◌, ◌-◌, ◌≤◌}
+use lib.ListN.{length, drop}
+use Rattle.nodes.specs.Table.{addresses, replaced_in}
 use Rattle.nodes.proofs.flat.replaced.Given as goal
 
 abbrev pub invariant-loop-i : goal.invariant-loop-i

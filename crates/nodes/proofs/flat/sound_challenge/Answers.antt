@@ -1,7 +1,6 @@
 -- `nodes::flat::sound_challenge` meets its contract. Assumes nothing.
 use mathlib.Core.Path.{sym, ◌∙◌}
 use borrow.Author.Tests.{not-true, not-false, le-leb, lt-leb}
-use borrow.Author.Rules.{rules}
 use Rattle.nodes.specs.Table.{sound_challenge}
 use Rattle.nodes.proofs.flat.sound_challenge.Goals as goal
 

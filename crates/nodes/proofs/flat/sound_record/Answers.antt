@@ -1,7 +1,6 @@
 -- `nodes::flat::sound_record` meets its contract. Assumes nothing.
 use mathlib.Core.Path.{sym, ◌∙◌}
 use borrow.Author.Tests.{eq-eqb, ne_eqb}
-use borrow.Author.Rules.{rules}
 use Rattle.nodes.specs.Table.{sound_record}
 use Rattle.nodes.proofs.Rules.{sound_present}
 use Rattle.nodes.proofs.flat.sound_record.Goals as goal

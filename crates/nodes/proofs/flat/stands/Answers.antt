@@ -1,6 +1,5 @@
 -- `nodes::flat::stands` meets its contract. Assumes nothing.
 use mathlib.Core.Path.{sym, ◌∙◌}
-use borrow.Author.Rules.{rules}
 use Rattle.nodes.specs.Table.{stands}
 use Rattle.nodes.proofs.flat.stands.Goals as goal
 

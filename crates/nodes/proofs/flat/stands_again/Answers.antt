@@ -1,6 +1,5 @@
 -- `nodes::flat::stands_again` meets its contract. Assumes nothing.
 use mathlib.Core.Path.{sym, ◌∙◌}
-use borrow.Author.Rules.{rules}
 use lib.ListN.{drop}
 use Rattle.nodes.proofs.Rules.{again_is}
 use Rattle.nodes.proofs.flat.stands_again.Goals as goal

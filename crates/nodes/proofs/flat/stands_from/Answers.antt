@@ -1,12 +1,10 @@
 -- `nodes::flat::stands_from` meets its contract. Assumes nothing.
 use mathlib.Core.Path.{◌≡◌, refl, sym, ◌∙◌}
-use Prim.Native.Nat.{◌-◌, ◌≤◌, ◌<◌}
+use Prim.Native.Nat.{◌≤◌, ◌<◌}
 use native.Mathlib.Omega.{arith}
-use borrow.Author.Rules.{rules}
-use lib.ListN.{length, drop}
-use Rattle.words.specs.Lists.{any}
+use lib.ListN.{length}
 use Rattle.words.proofs.Lists.{length_field, any_pass, any_stop, any_end}
-use Rattle.nodes.specs.Table.{absent, stands}
+use Rattle.nodes.specs.Table.{absent}
 use Rattle.nodes.proofs.flat.stands_from.Goals as goal
 
 pub loop-i-init : goal.loop-i-init

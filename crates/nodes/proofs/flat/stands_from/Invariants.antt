@@ -1,12 +1,9 @@
 -- What the loop of `nodes::flat::stands_from` keeps, and why it ends.
-use mathlib.Core.Path.{◌≡◌, refl, sym, ◌∙◌}
-use Prim.Native.Nat.{◌-◌, ◌≤◌, ◌<◌}
-use native.Mathlib.Omega.{arith}
-use borrow.Author.Rules.{rules}
+use mathlib.Core.Path.{◌≡◌}
+use Prim.Native.Nat.{◌-◌, ◌≤◌}
 use lib.ListN.{length, drop}
 use Rattle.words.specs.Lists.{any}
-use Rattle.words.proofs.Lists.{length_field, any_pass, any_stop, any_end}
-use Rattle.nodes.specs.Table.{absent, stands}
+use Rattle.nodes.specs.Table.{stands}
 use Rattle.nodes.proofs.flat.stands_from.Given as goal
 
 abbrev pub invariant-loop-i : goal.invariant-loop-i

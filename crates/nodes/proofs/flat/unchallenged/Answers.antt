@@ -1,5 +1,4 @@
 -- `nodes::flat::unchallenged` meets its contract. Assumes nothing.
-use borrow.Author.Rules.{rules}
 use Rattle.nodes.specs.Table.{unchallenged_of}
 use Rattle.nodes.proofs.flat.unchallenged.Goals as goal
 

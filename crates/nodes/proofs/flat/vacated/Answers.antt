@@ -1,6 +1,5 @@
 -- `nodes::flat::vacated` meets its contract. Assumes nothing.
 use mathlib.Core.Path.{sym, ◌∙◌}
-use borrow.Author.Rules.{rules}
 use Rattle.nodes.specs.Table.{vacated_of}
 use Rattle.nodes.proofs.flat.vacated.Goals as goal
 
