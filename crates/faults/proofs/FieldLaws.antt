@@ -3,7 +3,7 @@
 use mathlib.Core.Path.{◌≡◌, refl, sym, ap, ◌∙◌}
 use mathlib.Core.Bool.{false}
 use mathlib.Core.List.{List}
-use mathlib.Core.Logic.{◌⊎◌, ⊎_elim}
+use mathlib.Core.Logic.{⊎_elim}
 use Prim.Native.Nat.{ℕ, ◌<◌}
 use native.Mathlib.Omega.{arith}
 use borrow.Author.Tests.{ltb-true, ltb-false}
@@ -38,7 +38,6 @@ use Rattle.faults.specs.Promises.{told_service_point}
 use Rattle.faults.specs.Laws as the
 use Rattle.faults.specs.FieldLaws as Laws
 use Rattle.faults.specs.declared.ServicePoint.{ServicePoint}
-use Rattle.faults.specs.declared.ServicePoint.TheVariants as ServicePoint
 use Rattle.faults.proofs.Table as Table
 use Rattle.faults.proofs.Parts as Points
 

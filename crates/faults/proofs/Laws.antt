@@ -36,17 +36,13 @@ use Rattle.faults.specs.Laws as the
 use Rattle.faults.specs.declared.Fault.{Fault}
 use Rattle.faults.specs.declared.Sender.{Sender}
 use Rattle.faults.specs.declared.Adding.{Adding}
-use Rattle.faults.specs.declared.Adding.TheVariants as Adding
 use Rattle.faults.specs.declared.Clearing.{Clearing}
-use Rattle.faults.specs.declared.Clearing.TheVariants as Clearing
 use Rattle.faults.specs.declared.Stepping.{Stepping}
-use Rattle.faults.specs.declared.Stepping.TheVariants as Stepping
 use Rattle.faults.specs.declared.Requesting.{Requesting}
-use Rattle.faults.specs.declared.Requesting.TheVariants as Requesting
 use Rattle.faults.proofs.Passing.{Phase, vacant, ready, coming, phase, due_says}
 use Rattle.faults.proofs.Chosen.{chosen_at}
 use Rattle.faults.proofs.Moves.{Move, add_refused, added_at_lem, clear_refused, cleared_at, step_refused, rested}
-use Rattle.faults.proofs.Moves.{sent_at, asked, move, was_added, made, fault_passed}
+use Rattle.faults.proofs.Moves.{sent_at, asked, move, was_added, fault_passed}
 use Rattle.faults.proofs.Waiting.{allowed_says}
 
 -- an answer is read back from what it tells

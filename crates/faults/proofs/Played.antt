@@ -25,11 +25,8 @@ use Rattle.faults.specs.Runs.{happens, leaves, played, played_to, EveryRunRuns, 
 use Rattle.faults.specs.Laws.{holding}
 use Rattle.faults.specs.declared.Sender.{Sender}
 use Rattle.faults.specs.declared.Adding.{Adding}
-use Rattle.faults.specs.declared.Adding.TheVariants as Adding
 use Rattle.faults.specs.declared.Clearing.{Clearing}
-use Rattle.faults.specs.declared.Clearing.TheVariants as Clearing
 use Rattle.faults.specs.declared.Stepping.{Stepping}
-use Rattle.faults.specs.declared.Stepping.TheVariants as Stepping
 
 -- every answer of the definitions has a name in the code
 

@@ -388,10 +388,10 @@ empty_run p s t _ (a_call _ m _ h hs l r) a z =
     let y = empty_move p s m h (move s m h l) x.0 z in
     rw y.1 (empty_run p m t hs r x.1 y.0)
 
-emptied_by : (p : ℕ) (s a : Sender) → Move s (clears p (gives p)) a → Empty p a
-emptied_by p s _ (cleared_at _ _ e) =
+emptied_by : (p q : ℕ) (s a : Sender) → Move s (clears p (gives q)) a → Empty p a
+emptied_by p _ s _ (cleared_at _ _ e) =
     let l = inside s.faults p (active_at p s e) in
     ap (λ (g : Fault). g.period) (get_or-set_same s.faults p no_fault no_fault l)
 
 pub never_cleared : NeverCleared
-never_cleared p s a t hs l r k = empty_run p a t hs r k (emptied_by p s a (move s a (clears p (gives p)) l))
+never_cleared p s a t hs l r k = empty_run p a t hs r k (emptied_by p p s a (move s a (clears p (gives p)) l))

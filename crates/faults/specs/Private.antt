@@ -14,7 +14,6 @@ use Rattle.faults.specs.declared.Stepping.{Stepping}
 use Rattle.faults.specs.declared.Stepping.TheVariants.{Send}
 use Rattle.faults.specs.declared.Stepped.{Stepped}
 use Rattle.faults.specs.declared.Requesting.{Requesting}
-use Rattle.faults.specs.declared.Requesting.TheVariants as Requesting
 use Rattle.faults.specs.declared.Requested.{Requested}
 use Rattle.faults.specs.declared.Replied.{Replied}
 use Rattle.faults.specs.declared.requests.Meant.{Meant}

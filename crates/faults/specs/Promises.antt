@@ -23,18 +23,13 @@ use Rattle.faults.specs.Requests as Requests
 use Rattle.faults.specs.Requests.{nothing_to_do, requested_of}
 use Rattle.faults.specs.declared.Sender as Senders
 use Rattle.faults.specs.declared.ServicePoint.{ServicePoint}
-use Rattle.faults.specs.declared.ServicePoint.TheVariants as ServicePoint
 use Rattle.faults.specs.declared.Adding.{Adding}
-use Rattle.faults.specs.declared.Adding.TheVariants as Adding
 use Rattle.faults.specs.declared.Added.{Added}
 use Rattle.faults.specs.declared.Clearing.{Clearing}
-use Rattle.faults.specs.declared.Clearing.TheVariants as Clearing
 use Rattle.faults.specs.declared.Cleared.{Cleared}
 use Rattle.faults.specs.declared.Stepping.{Stepping}
-use Rattle.faults.specs.declared.Stepping.TheVariants as Stepping
 use Rattle.faults.specs.declared.Stepped.{Stepped}
 use Rattle.faults.specs.declared.Requesting.{Requesting}
-use Rattle.faults.specs.declared.Requesting.TheVariants as Requesting
 use Rattle.faults.specs.declared.Requested.{Requested}
 use Rattle.faults.specs.declared.Replied.{Replied}
 

@@ -1,7 +1,6 @@
 -- `faults::Sender::add` meets its contract. Assumes nothing.
 use mathlib.Core.Path.{◌≡◌, refl, sym, ◌∙◌}
 use borrow.Author.Tests.{not-true, not-false}
-use borrow.Author.Rules.{rules}
 use lib.ListN.{length}
 use Rattle.words.specs.declared.Found.TheVariants.{At, Nowhere}
 use Rattle.words.proofs.Lists.{length_field}
@@ -27,8 +26,7 @@ returns-in-At c =
     let e = c in
     let a = e.args in
     let k = sym e.keep_rules.ensures ∙ not-false _ e.if-not-keep_rules.false-raw in
-    let g = c.at-1.given in
-    rw (added_found a.period a.self (At g.0.0) k (sym e.lowest_empty.ensures ∙ g.1)) c.add.ensures
+    rw (added_found a.period a.self (At c.in-At.at) k (sym e.lowest_empty.ensures ∙ c.in-At.is)) c.add.ensures
 
 pub returns-in-Nowhere : goal.returns-in-Nowhere
 returns-in-Nowhere c =

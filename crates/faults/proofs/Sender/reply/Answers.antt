@@ -1,5 +1,4 @@
 -- `faults::Sender::reply` meets its contract. Assumes nothing.
-use borrow.Author.Rules.{rules}
 use Rattle.faults.proofs.Steps.{reply_to_host, reply_alone}
 use Rattle.faults.proofs.Sender.reply.Goals as goal
 

@@ -1,7 +1,6 @@
 -- `faults::Sender::request` meets its contract. Assumes nothing.
 use mathlib.Core.Path.{refl, sym, ap, ◌∙◌}
 use borrow.Author.Tests.{not-true, not-false}
-use borrow.Author.Rules.{rules}
 use Rattle.words.specs.Words.{refused}
 use Rattle.frame.specs.Promises.{refusal_of, told_verdict}
 use Rattle.faults.specs.declared.Requesting.TheVariants.{BrokenState, BadFrame}

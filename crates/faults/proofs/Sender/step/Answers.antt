@@ -1,7 +1,6 @@
 -- `faults::Sender::step` meets its contract. Assumes nothing.
 use mathlib.Core.Path.{refl, sym, ap, ◌∙◌}
 use borrow.Author.Tests.{not-true, not-false}
-use borrow.Author.Rules.{rules}
 use Rattle.words.specs.Words.{refused}
 use Rattle.claim.specs.Claim.{held, claiming, silent}
 use Rattle.claim.specs.Promises.{told_standing}
@@ -22,13 +21,12 @@ returns-then-not-keep_rules c =
 pub returns-in-Held : goal.returns-in-Held
 unfolding address_held
 returns-in-Held c =
-    let g = c.address-1.given in
     let t = c in
     let r = t in
     let a = r.args in
     let k = sym r.keep_rules.ensures ∙ not-false _ t.if-not-keep_rules.false-raw in
-    let e = stands_told _ _ t.stands.ensures ∙ ap told_standing g.1 in
-    stepped_as (stepped_stands a.claim a.self (held g.0.0) k e) c.step.ensures
+    let e = stands_told _ _ t.stands.ensures ∙ ap told_standing c.in-Held.is in
+    stepped_as (stepped_stands a.claim a.self (held c.in-Held.address) k e) c.step.ensures
 
 pub returns-in-Claiming : goal.returns-in-Claiming
 unfolding address_held

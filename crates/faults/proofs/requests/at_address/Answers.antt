@@ -1,7 +1,6 @@
 -- `faults::requests::at_address` meets its contract. Assumes nothing.
 use mathlib.Core.Path.{refl, sym, ◌∙◌}
 use borrow.Author.Tests.{not-true, not-false}
-use borrow.Author.Rules.{rules}
 use Rattle.words.specs.Words.{refused, gives}
 use Rattle.claim.specs.Claim.{held}
 use Rattle.faults.specs.Requests.{nothing_to_do, answer_at}
@@ -13,10 +12,9 @@ pub returns-then-not-is_for_us : goal.returns-then-not-is_for_us
 unfolding answer_at
 returns-then-not-is_for_us c =
     let u = c in
-    let m = u.meant-1.given in
     let a = u.args in
     let e = sym u.is_for_us.ensures ∙ not-true _ c.if-not-is_for_us.true-raw in
-    requested_as (answered_faults (held a.address) a.s a.meant m.0.0 m.1 ∙ rw e)
+    requested_as (answered_faults (held a.address) a.s a.meant u.in-Faults.destination u.in-Faults.is ∙ rw e)
     (bare_requested_lem (gives nothing_to_do) NothingToDo a.s _ refl refl c.bare-then-not-is_for_us.ensures)
 
 pub returns-in-Other : goal.returns-in-Other
@@ -35,7 +33,6 @@ pub returns-else-not-is_for_us : goal.returns-else-not-is_for_us
 unfolding answer_at
 returns-else-not-is_for_us c =
     let u = c in
-    let m = u.meant-1.given in
     let a = u.args in
     let e = sym u.is_for_us.ensures ∙ not-false _ c.if-not-is_for_us.false-raw in
-    requested_as (answered_faults (held a.address) a.s a.meant m.0.0 m.1 ∙ rw e) c.send.ensures
+    requested_as (answered_faults (held a.address) a.s a.meant u.in-Faults.destination u.in-Faults.is ∙ rw e) c.send.ensures

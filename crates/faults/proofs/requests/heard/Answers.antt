@@ -1,6 +1,5 @@
 -- `faults::requests::heard` meets its contract. Assumes nothing.
 use mathlib.Core.Path.{refl, ap, ◌∙◌}
-use borrow.Author.Rules.{rules}
 use Rattle.words.specs.Words.{refused}
 use Rattle.claim.specs.Claim.{held, silent}
 use Rattle.claim.specs.Promises.{told_standing}
@@ -31,10 +30,9 @@ returns-in-Held c =
     let m = c in
     let k = m in
     let a = k.args in
-    let g = m.standing-1.given in
-    let e = stands_told _ _ k.stands-standing.ensures ∙ ap told_standing g.1 in
+    let e = stands_told _ _ k.stands-standing.ensures ∙ ap told_standing m.in-Held.is in
     requested_as
-    (heard_stands a.dgn a.bytes a.claim a.s (held g.0.0) (told_meant m.meant_by.result) e
+    (heard_stands a.dgn a.bytes a.claim a.s (held m.in-Held.address) (told_meant m.meant_by.result) e
     m.meant_by.ensures)
     c.at_address.ensures
 

@@ -1,7 +1,6 @@
 -- `faults::requests::nowhere` meets its contract. Assumes nothing.
 use mathlib.Core.Path.{refl, ◌∙◌}
 use borrow.Author.Tests.{eq-eqb, ne_eqb}
-use borrow.Author.Rules.{rules}
 use Rattle.words.specs.Words.{refused, gives}
 use Rattle.frame.specs.Standard.{everyone}
 use Rattle.claim.specs.Claim.{silent}
@@ -13,10 +12,9 @@ use Rattle.faults.proofs.requests.nowhere.Goals as goal
 pub returns-then-destination : goal.returns-then-destination
 unfolding answer_at
 returns-then-destination c =
-    let m = c.meant-1.given in
     let a = c.args in
-    let e = ne_eqb m.0.0 everyone c.if-destination.true in
-    requested_as (answered_faults silent a.s a.meant m.0.0 m.1 ∙ rw e)
+    let e = ne_eqb c.in-Faults.destination everyone c.if-destination.true in
+    requested_as (answered_faults silent a.s a.meant c.in-Faults.destination c.in-Faults.is ∙ rw e)
     (bare_requested_lem (gives nothing_to_do) NothingToDo a.s _ refl refl c.bare-then-destination.ensures)
 
 pub returns-in-Other : goal.returns-in-Other
@@ -34,8 +32,7 @@ returns-in-DgnTooLarge c =
 pub returns-else-destination : goal.returns-else-destination
 unfolding answer_at
 returns-else-destination c =
-    let m = c.meant-1.given in
     let a = c.args in
-    let e = eq-eqb m.0.0 everyone c.if-destination.false in
-    requested_as (answered_faults silent a.s a.meant m.0.0 m.1 ∙ rw e)
+    let e = eq-eqb c.in-Faults.destination everyone c.if-destination.false in
+    requested_as (answered_faults silent a.s a.meant c.in-Faults.destination c.in-Faults.is ∙ rw e)
     (bare_requested_lem (refused 18) NoAddressHeld a.s _ refl refl c.bare-in-Faults.ensures)
