@@ -18,7 +18,7 @@ use Rattle.frame.specs.declared.Parts.{Parts}
 use Rattle.words.proofs.Words.{gives_same, true_false, by_test}
 use Rattle.nodes.specs.Table.{addresses, takes_after, absent, held, challenged, unchallenged_of, has_name}
 use Rattle.nodes.specs.Table.{is_challenged, has_challenger, gives_way, may_challenge, cleared_of, claimed_at}
-use Rattle.nodes.specs.Call.{challenges, holder, holder_of, Rival, rival, no_rival, rival_of, claim_outcome, heard_of}
+use Rattle.nodes.specs.Call.{challenges, holder_of, Rival, rival, no_rival, rival_of, claim_outcome, heard_of}
 use Rattle.nodes.specs.Call.{source_record, claim_in, heard_by}
 use Rattle.nodes.specs.Promises.{LookUp, FindChallenger}
 use Rattle.nodes.specs.Laws.{ClaimAt}

@@ -37,15 +37,10 @@ use Rattle.nodes.specs.Laws.{RulesRead, RulesKept, PauseRulesKept}
 use Rattle.nodes.specs.declared.Node.{Node}
 use Rattle.nodes.specs.declared.Claim.{Claim}
 use Rattle.nodes.specs.declared.Hearing.{Hearing}
-use Rattle.nodes.specs.declared.Hearing.TheVariants as Hearing
 use Rattle.nodes.specs.declared.Pausing.{Pausing}
-use Rattle.nodes.specs.declared.Pausing.TheVariants as Pausing
 use Rattle.nodes.specs.declared.LookedUp.{LookedUp}
-use Rattle.nodes.specs.declared.LookedUp.TheVariants as LookedUp
 use Rattle.nodes.specs.declared.FoundAddress.{FoundAddress}
-use Rattle.nodes.specs.declared.FoundAddress.TheVariants as FoundAddress
 use Rattle.nodes.specs.declared.FoundChallenger.{FoundChallenger}
-use Rattle.nodes.specs.declared.FoundChallenger.TheVariants as FoundChallenger
 use Rattle.nodes.proofs.Call.{heard_bad, heard_sound, heard_claim, heard_other, left_claim, pause_told_lem}
 use Rattle.nodes.proofs.Call.{pause_left}
 use Rattle.nodes.proofs.Call.{Went, stopped, ignored, claimed, went, Paused, kept, passed, paused}

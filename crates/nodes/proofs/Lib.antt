@@ -2,9 +2,6 @@ pub mod Rules
 pub mod Call
 pub mod Each
 pub mod Copy
-pub mod Record
-pub mod Array
-pub mod Calls
 pub mod Whole
 pub mod Sound
 pub mod Sentences

@@ -3,7 +3,7 @@
 use mathlib.Core.Path.{◌≡◌, refl, sym, ap, ◌∙◌}
 use mathlib.Core.Bool.{true, false, not}
 use mathlib.Core.List.{List, [], ◌∷◌, map}
-use Prim.Native.Nat.{ℕ, zero, suc, ◌+◌, ◌<◌}
+use Prim.Native.Nat.{ℕ, zero, suc, ◌+◌}
 use native.Mathlib.Omega.{arith}
 use borrow.Author.Tests.{ltb-true, ltb-false, le-ltb}
 use lib.ListN.{length, take}
@@ -19,7 +19,6 @@ use Rattle.nodes.specs.Runs.{Sound}
 use Rattle.nodes.specs.Pauses.{Pauses, pause_call, PausesAddUp}
 use Rattle.nodes.specs.declared.Node.{Node}
 use Rattle.nodes.specs.declared.Pausing.{Pausing}
-use Rattle.nodes.specs.declared.Pausing.TheVariants as Pausing
 use Rattle.nodes.proofs.Sound.{facts_of, paused_alone, paused_waits, paused_takes, still_challenged}
 use Rattle.nodes.proofs.Sentences.{counts_none, counts_waiting, counts_one}
 use Rattle.nodes.proofs.Kept.{paused_length, paused_keeps}

@@ -25,7 +25,6 @@ use Rattle.nodes.specs.Runs.{said_in, said_by, record_after, record_after_all, S
 use Rattle.nodes.specs.declared.Node.{Node}
 use Rattle.nodes.specs.declared.Claim.{Claim}
 use Rattle.nodes.specs.declared.Hearing.{Hearing}
-use Rattle.nodes.specs.declared.Hearing.TheVariants as Hearing
 use Rattle.nodes.specs.declared.Pausing.TheVariants as Pausing
 use Rattle.nodes.proofs.Call.{heard_bad, heard_sound, heard_claim, heard_other, pause_told_lem, pause_left}
 use Rattle.nodes.proofs.Kept.{claimed_length, claimed_past, claimed_keeps, claimed_at_lem, paused_length}

@@ -11,15 +11,10 @@ use Rattle.nodes.specs.Call.{pause_told, table_paused, Holder, nobody, holder, l
 use Rattle.nodes.specs.Call.{Rival, no_rival, rival, challenger_of}
 use Rattle.nodes.specs.declared.Node.{Node}
 use Rattle.nodes.specs.declared.Hearing.{Hearing}
-use Rattle.nodes.specs.declared.Hearing.TheVariants as Hearing
 use Rattle.nodes.specs.declared.Pausing.{Pausing}
-use Rattle.nodes.specs.declared.Pausing.TheVariants as Pausing
 use Rattle.nodes.specs.declared.LookedUp.{LookedUp}
-use Rattle.nodes.specs.declared.LookedUp.TheVariants as LookedUp
 use Rattle.nodes.specs.declared.FoundAddress.{FoundAddress}
-use Rattle.nodes.specs.declared.FoundAddress.TheVariants as FoundAddress
 use Rattle.nodes.specs.declared.FoundChallenger.{FoundChallenger}
-use Rattle.nodes.specs.declared.FoundChallenger.TheVariants as FoundChallenger
 
 -- empty
 
