@@ -5,7 +5,7 @@ use mathlib.Core.Path.{◌≡◌, refl, sym, ap, ◌∙◌}
 use mathlib.Core.Bool.{Bool, true, false}
 use mathlib.Core.List.{List, [], ◌∷◌, ◌++◌, map}
 use mathlib.Core.Logic.{◌⊎◌, inl, inr}
-use Prim.Native.Nat.{ℕ, zero, suc, ◌+◌, ◌-◌, ◌≤◌, ◌<◌}
+use Prim.Native.Nat.{ℕ, zero, suc, ◌-◌, ◌≤◌, ◌<◌}
 use native.Mathlib.Omega.{arith}
 use lib.ListN.{length, get_or, set, take, drop, length-set, length-map, length-append}
 use lib.Seq.{get_or-set_same, get_or-set_other}
@@ -49,15 +49,15 @@ pub record Known (names : List ℕ) (x : Sent) : Type 0 where
   pub one_of_us : x.by < length names
   pub is : x ≡ mine names x.by source
 
-source_of : (a : ℕ) → a ≤ no_address → source_of (identifier_of claim_priority claim_dgn a) ≡ a
+source_of_lem : (a : ℕ) → a ≤ no_address → source_of (identifier_of claim_priority claim_dgn a) ≡ a
 unfolding source_of identifier_of
-source_of a h = omega arith
+source_of_lem a h = omega arith
 
 pub mine_source : (names : List ℕ) (i a : ℕ) → a ≤ no_address → source_of (mine names i a).id ≡ a
-mine_source names i a h = source_of a h
+mine_source names i a h = source_of_lem a h
 
 pub known_source : (names : List ℕ) (x : Sent) (k : Known names x) → source_of x.id ≡ k.source
-known_source names x k = ap (λ (s : Sent). source_of s.id) k.is ∙ source_of k.source k.low
+known_source names x k = ap (λ (s : Sent). source_of s.id) k.is ∙ source_of_lem k.source k.low
 
 pub known_mine : (names : List ℕ) (i a : ℕ) → a ≤ no_address → i < length names → Known names (mine names i a)
 known_mine names i a h l = record { source = a; low = h; one_of_us = l; is = refl }

@@ -26,7 +26,7 @@ use Rattle.nodes.proofs.Blank.{empty_keeps_rules, absent_at}
 use Rattle.nodes.proofs.Find.{get_d_front}
 use Rattle.nodes.proofs.Shown.{looked_here}
 use Rattle.nodes.proofs.Runs.{run_by_record, every_run_runs}
-use Rattle.network.specs.Network.{Node, on, Network, name_of, Differ, Fit, fresh, Act, starts, comes}
+use Rattle.network.specs.Network.{on, Network, name_of, Differ, Fit, fresh, Act, starts, comes}
 use Rattle.network.specs.Network.{reads, becomes}
 use Rattle.network.specs.Laws.{At}
 use Rattle.network.specs.Listener.{claims_in, Listened, Shows}

@@ -3,7 +3,7 @@
 use mathlib.Core.Path.{◌≡◌, refl, sym}
 use mathlib.Core.Bool.{Bool, true, false}
 use mathlib.Core.List.{List, [], ◌∷◌, ◌++◌}
-use Prim.Native.Nat.{ℕ, zero, suc, ◌+◌, ◌<◌}
+use Prim.Native.Nat.{ℕ, zero, suc, ◌+◌}
 use native.Mathlib.Omega.{arith}
 use borrow.Author.Tests.{eqb-true, eqb-false, ltb-true}
 use lib.ListN.{length, get_or, take, drop}
@@ -16,10 +16,8 @@ use Rattle.claim.specs.Promises.{told_hearing, told_starting}
 use Rattle.claim.specs.declared.Claim.{Claim}
 use Rattle.claim.specs.declared.Started.{Started}
 use Rattle.claim.specs.declared.Starting.{Starting}
-use Rattle.claim.specs.declared.Starting.TheVariants as Starting
 use Rattle.claim.specs.declared.Heard.{Heard}
 use Rattle.claim.specs.declared.Hearing.{Hearing}
-use Rattle.claim.specs.declared.Hearing.TheVariants as Hearing
 use Rattle.network.specs.Network.{Sent, Node, off, on, Network, node_at, name_of, Act, starts, comes, reads, pauses}
 use Rattle.network.specs.Network.{asked, becomes, sent_if, started_by, Step, Ran, no_act, an_act}
 use Rattle.network.specs.Network as The

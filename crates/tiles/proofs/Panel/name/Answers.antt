@@ -4,7 +4,6 @@ use borrow.Author.Tests.{not-true, not-false}
 use Rattle.catalogue.specs.Promises.{told_looked}
 use Rattle.tiles.specs.declared.Naming.TheVariants as Naming
 use Rattle.tiles.proofs.Steps.{name_refused, name_done, broken, no_row, no_tile, not_accepted, is_named_lem}
-use borrow.Author.Rules.{rules}
 use Rattle.tiles.proofs.Panel.name.Goals as goal
 
 pub returns-then-not-keep_rules : goal.returns-then-not-keep_rules

@@ -2,7 +2,6 @@
 use mathlib.Core.Path.{sym, ◌∙◌}
 use borrow.Author.Tests.{not-true, not-false}
 use Rattle.tiles.proofs.Steps.{read_broken, read_no_tile, read_shown}
-use borrow.Author.Rules.{rules}
 use Rattle.tiles.proofs.Panel.reading.Goals as goal
 
 pub returns-then-not-keep_rules : goal.returns-then-not-keep_rules

@@ -1,6 +1,5 @@
 -- `tiles::frames::is_of_dgn` meets its contract. Assumes nothing.
 use Rattle.tiles.specs.Tile.{of_dgn}
-use borrow.Author.Rules.{rules}
 use Rattle.tiles.proofs.frames.is_of_dgn.Goals as goal
 
 pub returns-in-Is : goal.returns-in-Is

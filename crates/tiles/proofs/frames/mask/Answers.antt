@@ -1,12 +1,9 @@
 -- `tiles::frames::mask` meets its contract. Assumes nothing.
 use mathlib.Core.Path.{◌≡◌}
-use Prim.Native.Nat.{◌≤◌}
 use native.Mathlib.Omega.{arith}
-use lib.ListN.{length, drop}
+use lib.ListN.{length}
 use Rattle.words.proofs.Lists.{length_field}
-use Rattle.catalogue.specs.Packed.{packed_rows}
 use Rattle.tiles.specs.Tile.{matches}
-use Rattle.tiles.specs.Panel.{mask_of}
 use Rattle.tiles.proofs.Steps.{mask_start, mask_room, mask_turn, mask_end}
 use borrow.Author.Rules.{rules}
 use Rattle.tiles.proofs.frames.mask.Goals as goal

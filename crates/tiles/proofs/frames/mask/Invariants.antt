@@ -1,14 +1,10 @@
 -- What the loop of `tiles::frames::mask` keeps, and why it ends.
 use mathlib.Core.Path.{◌≡◌}
 use Prim.Native.Nat.{◌≤◌}
-use native.Mathlib.Omega.{arith}
 use lib.ListN.{length, drop}
-use Rattle.words.proofs.Lists.{length_field}
 use Rattle.catalogue.specs.Packed.{packed_rows}
 use Rattle.tiles.specs.Tile.{matches}
 use Rattle.tiles.specs.Panel.{mask_of}
-use Rattle.tiles.proofs.Steps.{mask_start, mask_room, mask_turn, mask_end}
-use borrow.Author.Rules.{rules}
 use Rattle.tiles.proofs.frames.mask.Given as goal
 
 abbrev pub invariant-loop-i : goal.invariant-loop-i

@@ -2,7 +2,6 @@
 use mathlib.Core.Path.{sym, ◌∙◌}
 use borrow.Author.Tests.{not-true, not-false}
 use Rattle.tiles.proofs.Steps.{looked_row, matches_blank, matches_other, matches_by}
-use borrow.Author.Rules.{rules}
 use Rattle.tiles.proofs.frames.matches.Goals as goal
 
 pub returns-then-is_blank : goal.returns-then-is_blank

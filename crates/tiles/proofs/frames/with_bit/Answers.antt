@@ -1,6 +1,5 @@
 -- `tiles::frames::with_bit` meets its contract. Assumes nothing.
 use native.Mathlib.Omega.{arith}
-use borrow.Author.Rules.{rules}
 use Rattle.tiles.proofs.frames.with_bit.Goals as goal
 
 pub returns-then-bit : goal.returns-then-bit

@@ -1,6 +1,5 @@
 -- `tiles::rules::is_accepted` meets its contract. Assumes nothing.
 use Rattle.tiles.proofs.Steps.{no_steps, some_steps}
-use borrow.Author.Rules.{rules}
 use Rattle.tiles.proofs.rules.is_accepted.Goals as goal
 
 pub returns-then-steps_in_one-eq0 : goal.returns-then-steps_in_one-eq0

@@ -3,7 +3,6 @@ use mathlib.Core.Path.{sym, ap, ◌∙◌}
 use borrow.Author.Tests.{not-true, not-false}
 use Rattle.catalogue.specs.Promises.{told_looked}
 use Rattle.tiles.proofs.Steps.{named_not, named_nothing, named_as}
-use borrow.Author.Rules.{rules}
 use Rattle.tiles.proofs.rules.is_named.Goals as goal
 
 pub returns-then-not-is_accepted : goal.returns-then-not-is_accepted

@@ -1,6 +1,5 @@
 -- `tiles::rules::is_of` meets its contract. Assumes nothing.
 use Rattle.tiles.specs.Tile.{is_of}
-use borrow.Author.Rules.{rules}
 use Rattle.tiles.proofs.rules.is_of.Goals as goal
 
 pub returns-in-Blank : goal.returns-in-Blank

@@ -1,12 +1,10 @@
 -- `tiles::rules::keep_rules` meets its contract. Assumes nothing.
-use mathlib.Core.Path.{◌≡◌, refl, sym, ◌∙◌}
-use Prim.Native.Nat.{◌≤◌, ◌<◌, ◌-◌}
+use mathlib.Core.Path.{refl, sym, ◌∙◌}
+use Prim.Native.Nat.{◌<◌}
 use native.Mathlib.Omega.{arith}
 use borrow.Author.Tests.{not-true, not-false}
-use lib.ListN.{length, drop}
-use Rattle.words.specs.Lists.{every}
+use lib.ListN.{length}
 use Rattle.words.proofs.Lists.{length_field, every_pass, every_stop, every_end}
-use Rattle.catalogue.specs.Packed.{packed_rows}
 use Rattle.tiles.specs.Tile.{tile_keeps_rules, blank_tile}
 use Rattle.tiles.specs.Panel.{keeps_rules}
 use borrow.Author.Rules.{rules}

@@ -1,7 +1,6 @@
 -- `tiles::rules::tile_keeps_rules` meets its contract. Assumes nothing.
 use mathlib.Core.Path.{sym, ◌∙◌}
 use Rattle.tiles.proofs.Steps.{looked_row, keeps_blank, keeps_named}
-use borrow.Author.Rules.{rules}
 use Rattle.tiles.proofs.rules.tile_keeps_rules.Goals as goal
 
 pub returns-then-is_blank : goal.returns-then-is_blank
