@@ -63,10 +63,10 @@ over (negsuc n) k h =
     div_whole (round binary32 true (suc n) 1) true (suc n) k (round_whole binary32 true (suc n) (omega arith))
 
 -- the cast loses nothing
-in_float : (v : ℤ) → mag v < 2 ^ 16 → T (in_float binary32 v)
+in_float_lem : (v : ℤ) → mag v < 2 ^ 16 → T (in_float binary32 v)
 unfolding in_float
-in_float (pos n) h = le→leb n (2 ^ 24) (omega arith)
-in_float (negsuc n) h = lt→ltb n (2 ^ 24) (omega arith)
+in_float_lem (pos n) h = le→leb n (2 ^ 24) (omega arith)
+in_float_lem (negsuc n) h = lt→ltb n (2 ^ 24) (omega arith)
 
 -- The same of a signed word, which the machine reads back from its bits.
 
@@ -80,4 +80,4 @@ over_word v k s h g =
     (e, subst (λ (x : Float). IsExactly x v (2 ^ k)) (sym e) (nearest_exact v k h g))
 
 pub in_float_word : (v : ℤ) → SFits w64 v → mag v < 2 ^ 16 → T (in_float binary32 (to_z w64 (of_z w64 v)))
-in_float_word v s h = subst (λ (z : ℤ). T (in_float binary32 z)) (sym (to_z-of_z w64 v s)) (in_float v h)
+in_float_word v s h = subst (λ (z : ℤ). T (in_float binary32 z)) (sym (to_z-of_z w64 v s)) (in_float_lem v h)

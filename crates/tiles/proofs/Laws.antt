@@ -16,7 +16,6 @@ use Rattle.frame.specs.Identifier.{catalogue_form}
 use Rattle.frame.specs.Frame.{checked_of}
 use Rattle.frame.specs.Laws.{told_but_priority}
 use Rattle.frame.specs.declared.Parts.{Parts}
-use Rattle.frame.specs.declared.BadFrame.{BadFrame}
 use Rattle.frame.specs.declared.BadFrame.TheVariants.{IdentifierTooLarge, NotEightBytes, ReservedBitSet}
 use Rattle.frame.specs.declared.BadFrame.TheVariants.{SourceNotAllowed}
 use Rattle.frame.proofs.Laws as frame_laws
@@ -30,7 +29,6 @@ use Rattle.catalogue.specs.declared.Unit.TheVariants as Unit
 use Rattle.catalogue.specs.declared.Field.{Field}
 use Rattle.catalogue.specs.declared.Class.TheVariants as Class
 use Rattle.catalogue.specs.declared.Value.{Value}
-use Rattle.catalogue.specs.declared.Value.TheVariants as Value
 use Rattle.catalogue.proofs.Laws as catalogue_laws
 use Rattle.tiles.specs.Exact.{nearest, IsExactly}
 use Rattle.tiles.specs.Tile.{is_accepted, shown_number, shown, reading_in, blank_tile, fresh_tile, byte0, matches}
@@ -43,11 +41,8 @@ use Rattle.tiles.specs.declared.Reading.{Reading}
 use Rattle.tiles.specs.declared.Tile.{Tile}
 use Rattle.tiles.specs.declared.Panel.{Panel}
 use Rattle.tiles.specs.declared.Naming.{Naming}
-use Rattle.tiles.specs.declared.Naming.TheVariants as Naming
 use Rattle.tiles.specs.declared.Hearing.{Hearing}
-use Rattle.tiles.specs.declared.Hearing.TheVariants as Hearing
 use Rattle.tiles.specs.declared.Asking.{Asking}
-use Rattle.tiles.specs.declared.Asking.TheVariants as Asking
 use Rattle.tiles.proofs.Exact.{nearest_exact}
 use Rattle.tiles.proofs.OneFrame.{meant_for, for_tile, other_instance, mask_below, mask_given}
 use Rattle.tiles.proofs.OneFrame.{sound_given, after_sound_lem, heard_at}

@@ -23,7 +23,6 @@ use Rattle.catalogue.specs.declared.Row.{Row}
 use Rattle.catalogue.specs.declared.Unit.{Unit as Units}
 use Rattle.catalogue.specs.declared.Unit.TheVariants as Unit
 use Rattle.catalogue.specs.declared.Value.{Value}
-use Rattle.catalogue.specs.declared.Value.TheVariants as Value
 use Rattle.tiles.specs.Tile.{is_accepted, shown_number, shown, reading_in, is_of, shows_nothing, is_blank, is_zero}
 use Rattle.tiles.specs.Tile.{is_named, tile_keeps_rules, blank_tile, fresh_tile, of_dgn, matches, byte0, heard_by}
 use Rattle.tiles.specs.Panel.{keeps_rules, tile_at, sound_of, bit_of, mask_of, tiles_for, heard_of, heard_by_all}

@@ -29,9 +29,7 @@ use Rattle.tiles.specs.declared.Reading.{Reading}
 use Rattle.tiles.specs.declared.Tile.{Tile}
 use Rattle.tiles.specs.declared.Panel.{Panel}
 use Rattle.tiles.specs.declared.Naming.{Naming}
-use Rattle.tiles.specs.declared.Naming.TheVariants as Naming
 use Rattle.tiles.specs.declared.Hearing.{Hearing}
-use Rattle.tiles.specs.declared.Hearing.TheVariants as Hearing
 use Rattle.tiles.proofs.OneFrame.{reading_shows, meant_for, and_false, heard_other, heard_matching, heard_blank}
 use Rattle.tiles.proofs.OneFrame.{fresh_keeps, blank_keeps, heard_keeps, after_sound_lem, after_refused, tile_heard}
 

@@ -36,11 +36,8 @@ use Rattle.catalogue.specs.Laws.{is_scaled}
 use Rattle.catalogue.proofs.Laws.{row_in_packed, scaled_in_frame, value_small}
 use Rattle.catalogue.specs.declared.Row.{Row}
 use Rattle.catalogue.specs.declared.Value.{Value}
-use Rattle.catalogue.specs.declared.Value.TheVariants as Value
 use Rattle.catalogue.specs.declared.ScaledReading.{ScaledReading}
-use Rattle.catalogue.specs.declared.ScaledReading.TheVariants as ScaledReading
 use Rattle.catalogue.specs.declared.Looked.{Looked}
-use Rattle.catalogue.specs.declared.Looked.TheVariants as Looked
 use Rattle.tiles.proofs.OneFrame.{mask_below}
 use Rattle.tiles.specs.Tile.{is_accepted, is_of, is_blank, is_zero, is_named, tile_keeps_rules, of_dgn, matches, byte0}
 use Rattle.tiles.specs.Tile.{reading_in, heard_by, blank_tile, fresh_tile}
@@ -52,10 +49,8 @@ use Rattle.tiles.specs.declared.Reading.{Reading}
 use Rattle.tiles.specs.declared.Tile.{Tile}
 use Rattle.tiles.specs.declared.Panel.{Panel}
 use Rattle.tiles.specs.declared.Naming.{Naming}
-use Rattle.tiles.specs.declared.Naming.TheVariants as Naming
 use Rattle.tiles.specs.declared.Named.{Named}
 use Rattle.tiles.specs.declared.Hearing.{Hearing}
-use Rattle.tiles.specs.declared.Hearing.TheVariants as Hearing
 use Rattle.tiles.specs.declared.Heard.{Heard}
 use Rattle.tiles.specs.declared.Asking.TheVariants as Asking
 

@@ -13,7 +13,6 @@ use Rattle.catalogue.specs.Scale.{scaled_of}
 use Rattle.catalogue.specs.Catalogue.{field_in}
 use Rattle.catalogue.specs.declared.Row.{Row}
 use Rattle.catalogue.specs.declared.Unit.{Unit}
-use Rattle.catalogue.specs.declared.Unit.TheVariants as Unit
 use Rattle.catalogue.specs.declared.Field.{Field}
 use Rattle.catalogue.specs.declared.Class.TheVariants as Class
 use Rattle.tiles.specs.Exact.{nearest, IsExactly}

@@ -11,14 +11,12 @@ use Rattle.catalogue.specs.Catalogue.{field_in, scaled_row_of}
 use Rattle.catalogue.specs.Laws.{is_scaled}
 use Rattle.catalogue.specs.declared.Row.{Row}
 use Rattle.catalogue.specs.declared.Value.{Value}
-use Rattle.catalogue.specs.declared.Value.TheVariants as Value
 use Rattle.tiles.specs.Tile.{byte0, matches}
 use Rattle.tiles.specs.Panel.{mask_of, heard_by_all}
 use Rattle.tiles.specs.declared.Panel.{Panel}
 use Rattle.tiles.specs.declared.Naming.{Naming}
 use Rattle.tiles.specs.declared.Named.{Named}
 use Rattle.tiles.specs.declared.Hearing.{Hearing}
-use Rattle.tiles.specs.declared.Hearing.TheVariants as Hearing
 use Rattle.tiles.specs.declared.Heard.{Heard}
 
 -- a number, if it is one, of few enough digits for the division

@@ -7,13 +7,10 @@ use Rattle.tiles.specs.Panel.{new_panel, named_of, after_name, heard_of, after_h
 use Rattle.tiles.specs.declared.Reading.{Reading}
 use Rattle.tiles.specs.declared.Panel.{Panel}
 use Rattle.tiles.specs.declared.Naming.{Naming}
-use Rattle.tiles.specs.declared.Naming.TheVariants as Naming
 use Rattle.tiles.specs.declared.Named.{Named}
 use Rattle.tiles.specs.declared.Hearing.{Hearing}
-use Rattle.tiles.specs.declared.Hearing.TheVariants as Hearing
 use Rattle.tiles.specs.declared.Heard.{Heard}
 use Rattle.tiles.specs.declared.Asking.{Asking}
-use Rattle.tiles.specs.declared.Asking.TheVariants as Asking
 
 -- Panel::new
 

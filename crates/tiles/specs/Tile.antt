@@ -10,9 +10,7 @@ use Rattle.catalogue.specs.Catalogue.{field_in}
 use Rattle.catalogue.specs.Laws.{is_scaled}
 use Rattle.catalogue.specs.declared.Row.{Row}
 use Rattle.catalogue.specs.declared.Unit.{Unit}
-use Rattle.catalogue.specs.declared.Unit.TheVariants as Unit
 use Rattle.catalogue.specs.declared.Value.{Value}
-use Rattle.catalogue.specs.declared.Value.TheVariants as Value
 use Rattle.tiles.specs.Exact.{nearest}
 use Rattle.tiles.specs.declared.Reading.{Reading}
 use Rattle.tiles.specs.declared.Reading.TheVariants.{Blank, NoData, OutOfRange, Reserved, Degrees, Percent}

@@ -60,9 +60,9 @@ fn reading_in(row: Row, id: u32, bytes: &[u8]) -> Reading
 
 // What a frame makes of a tile.
 fn heard_by(table: &[u64], dgn: u32, instance: u8, id: u32, bytes: &[u8], t: Tile) -> Tile
-    requires fact_1 { table.now ≡ packed_rows }
-    requires fact_2 { IsSound id bytes.now dgn instance }
-    requires fact_3 { tile_keeps_rules t ≡ true }
+    requires rows_held { table.now ≡ packed_rows }
+    requires frame_sound { IsSound id bytes.now dgn instance }
+    requires tile_sound { tile_keeps_rules t ≡ true }
     ensures { result ≡ heard_by dgn bytes.now t }
 {
     if !matches(table, dgn, instance, t) {
@@ -84,9 +84,9 @@ fn heard_by(table: &[u64], dgn: u32, instance: u8, id: u32, bytes: &[u8], t: Til
 
 // What a frame makes of every tile.
 fn heard_by_all(table: &[u64], dgn: u32, instance: u8, id: u32, bytes: &[u8], p: Panel) -> Panel
-    requires fact_1 { table.now ≡ packed_rows }
-    requires fact_2 { IsSound id bytes.now dgn instance }
-    requires fact_3 { keeps_rules p ≡ true }
+    requires rows_held { table.now ≡ packed_rows }
+    requires frame_sound { IsSound id bytes.now dgn instance }
+    requires panel_sound { keeps_rules p ≡ true }
     ensures { result ≡ heard_by_all dgn bytes.now p }
 {
     let mut tiles = p.tiles;
@@ -127,8 +127,8 @@ fn with_bit(mask: u32, bit: bool) -> u32
 
 // A frame that is not refused by itself: its DGN, its byte 0, and the frame.
 pub fn hear(p: Panel, dgn: u32, instance: u8, id: u32, bytes: &[u8]) -> Heard
-    requires fact_1 { IsSound id bytes.now (catalogue_form dgn) instance }
-    requires fact_2 { keeps_rules p ≡ true }
+    requires frame_sound { IsSound id bytes.now (catalogue_form dgn) instance }
+    requires panel_sound { keeps_rules p ≡ true }
     ensures { result ≡ heard_as (catalogue_form dgn) bytes.now p }
 {
     let table = rvc::fields::packed_rows();

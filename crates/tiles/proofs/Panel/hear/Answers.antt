@@ -3,7 +3,6 @@ use mathlib.Core.Path.{refl, sym, ◌∙◌}
 use borrow.Author.Tests.{not-true, not-false}
 use Rattle.tiles.specs.declared.Hearing.TheVariants as Hearing
 use Rattle.tiles.proofs.Steps.{hear_refused, hear_done, unsound, sound_as, frame_sound, frame_bad, sound_frame}
-use borrow.Author.Rules.{rules}
 use Rattle.tiles.proofs.Panel.hear.Goals as goal
 
 pub returns-then-not-keep_rules : goal.returns-then-not-keep_rules
@@ -18,7 +17,7 @@ hear-requires c =
     let h = c in
     let a = h.args in
     let k = sym h.keep_rules.ensures ∙ not-false _ h.if-not-keep_rules.false-raw in
-    record { fact_1 = sound_frame a.id a.bytes.now a.self _ h.check-checked.ensures _ c.in-Sound.is; fact_2 = k }
+    record { frame_sound = sound_frame a.id a.bytes.now a.self _ h.check-checked.ensures _ c.in-Sound.is; panel_sound = k }
 
 pub returns-in-Bad : goal.returns-in-Bad
 returns-in-Bad c =

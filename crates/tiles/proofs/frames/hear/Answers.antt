@@ -3,7 +3,6 @@ use mathlib.Core.Path.{sym, subst}
 use Prim.Native.Nat.{ℕ}
 use Rattle.tiles.specs.Private.{IsSound}
 use Rattle.tiles.proofs.Steps.{all_heard}
-use borrow.Author.Rules.{rules}
 use Rattle.tiles.proofs.frames.hear.Goals as goal
 
 pub mask-mask-requires : goal.mask-mask-requires
@@ -12,12 +11,16 @@ mask-mask-requires c = c.packed_rows-table.ensures.answer
 pub heard_by_all-requires : goal.heard_by_all-requires
 heard_by_all-requires c =
     let s = c in
-    let a = s.args in record { fact_1 = c.packed_rows-table.ensures.answer; fact_2 = ( subst (λ (d : ℕ). IsSound a.id a.bytes.now d a.instance) (sym c.catalogue_form-form.ensures.answer) s.requires.fact_1, s.requires.fact_2, ); fact_3 =  }
+    let a = s.args in record {
+      rows_held = c.packed_rows-table.ensures.answer;
+      frame_sound = subst (λ (d : ℕ). IsSound a.id a.bytes.now d a.instance) (sym c.catalogue_form-form.ensures.answer) s.requires.frame_sound;
+      panel_sound = s.requires.panel_sound;
+    }
 
 pub returns : goal.returns
 returns c =
     let s = c in
     let a = s.args in
     all_heard _ _ a.instance _ a.bytes.now a.p _
-    c.catalogue_form-form.ensures.answer s.requires.fact_1.of_instance
+    c.catalogue_form-form.ensures.answer s.requires.frame_sound.of_instance
     c.heard_by_all.ensures c.mask-mask.ensures

@@ -1,16 +1,13 @@
 -- `tiles::frames::heard_by_all` meets its contract. Assumes nothing.
 use mathlib.Core.Path.{◌≡◌, refl, sym, ap, ◌∙◌, subst}
 use mathlib.Core.Bool.{true}
-use mathlib.Core.List.{List, map, ◌++◌}
-use Prim.Native.Nat.{◌≤◌, ◌<◌, ◌-◌}
+use mathlib.Core.List.{List}
+use Prim.Native.Nat.{◌≤◌, ◌<◌}
 use native.Mathlib.Omega.{arith}
-use lib.ListN.{length, get_or, take, drop}
-use Rattle.words.specs.Lists.{every}
+use lib.ListN.{length, get_or}
 use Rattle.words.proofs.Lists.{length_field, every_at, map_at, image_turn, image_end}
-use Rattle.catalogue.specs.Packed.{packed_rows}
 use Rattle.tiles.specs.Tile.{tile_keeps_rules, blank_tile, heard_by}
 use Rattle.tiles.specs.Panel.{keeps_rules}
-use Rattle.tiles.specs.Private.{IsSound}
 use Rattle.tiles.specs.declared.Tile.{Tile}
 use borrow.Author.Rules.{rules}
 use Rattle.tiles.proofs.frames.heard_by_all.Goals as goal
@@ -19,7 +16,7 @@ pub loop-i-init : goal.loop-i-init
 unfolding keeps_rules
 loop-i-init c =
     let s = c in
-    (search rules, search length_field, s.requires.fact_1, s.requires.fact_2.0, s.requires.fact_2.1, refl)
+    (search rules, search length_field, s.requires.rows_held, s.requires.frame_sound, s.requires.panel_sound, refl)
 
 pub heard_by-requires : goal.heard_by-requires
 heard_by-requires c =
@@ -28,7 +25,11 @@ heard_by-requires c =
     let ts = a.p.tiles in
     let h : l.i < length ts = omega arith in
     let e = ap (λ (x : List Tile). get_or x l.i blank_tile) l.invariant.5 ∙ map_at (heard_by a.dgn a.bytes.now) ts
-    l.i blank_tile h in record { fact_1 = l.invariant.2; fact_2 = ( l.invariant.3, subst (λ (x : Tile). tile_keeps_rules x ≡ true) (sym e) (every_at tile_keeps_rules ts l.i blank_tile h l.invariant.4), ); fact_3 =  }
+    l.i blank_tile h in record {
+      rows_held = l.invariant.2;
+      frame_sound = l.invariant.3;
+      tile_sound = subst (λ (x : Tile). tile_keeps_rules x ≡ true) (sym e) (every_at tile_keeps_rules ts l.i blank_tile h l.invariant.4);
+    }
 
 pub loop-i-preserved : goal.loop-i-preserved
 loop-i-preserved c =

@@ -1,18 +1,13 @@
 -- What the loop of `tiles::frames::heard_by_all` keeps, and why it ends.
-use mathlib.Core.Path.{◌≡◌, refl, sym, ap, ◌∙◌, subst}
+use mathlib.Core.Path.{◌≡◌}
 use mathlib.Core.Bool.{true}
-use mathlib.Core.List.{List, map, ◌++◌}
-use Prim.Native.Nat.{◌≤◌, ◌<◌, ◌-◌}
-use native.Mathlib.Omega.{arith}
-use lib.ListN.{length, get_or, take, drop}
+use mathlib.Core.List.{map, ◌++◌}
+use Prim.Native.Nat.{◌≤◌, ◌-◌}
+use lib.ListN.{length, take, drop}
 use Rattle.words.specs.Lists.{every}
-use Rattle.words.proofs.Lists.{length_field, every_at, map_at, image_turn, image_end}
 use Rattle.catalogue.specs.Packed.{packed_rows}
-use Rattle.tiles.specs.Tile.{tile_keeps_rules, blank_tile, heard_by}
-use Rattle.tiles.specs.Panel.{keeps_rules}
+use Rattle.tiles.specs.Tile.{tile_keeps_rules, heard_by}
 use Rattle.tiles.specs.Private.{IsSound}
-use Rattle.tiles.specs.declared.Tile.{Tile}
-use borrow.Author.Rules.{rules}
 use Rattle.tiles.proofs.frames.heard_by_all.Given as goal
 
 abbrev pub invariant-loop-i : goal.invariant-loop-i

@@ -4,7 +4,6 @@ use Rattle.catalogue.specs.Promises.{told_scaled}
 use Rattle.catalogue.specs.declared.Value.{Value}
 use Rattle.tiles.specs.Tile.{shown, reading_in}
 use Rattle.tiles.proofs.Steps.{read_value, read_small, read_some}
-use borrow.Author.Rules.{rules}
 use Rattle.tiles.proofs.frames.reading_in.Goals as goal
 
 pub shown-requires : goal.shown-requires

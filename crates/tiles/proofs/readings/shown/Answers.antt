@@ -5,21 +5,18 @@ use mir.Syntax.{w64}
 use mir.ValLaws.{to_z-of_z}
 use Rattle.tiles.specs.Tile.{shown_number, shown}
 use Rattle.tiles.proofs.Steps.{small_scaled, small_fits, small_word}
-use borrow.Author.Rules.{rules}
 use Rattle.tiles.proofs.readings.shown.Goals as goal
 
 pub shown_number-requires : goal.shown_number-requires
 shown_number-requires c =
-    let g = c.value-1.given in
-    small_word g.0.0 (small_scaled _ g.0.0 g.1 c.requires)
+    small_word c.in-Scaled.v (small_scaled _ c.in-Scaled.v c.in-Scaled.is c.requires)
 
 pub returns-in-Scaled : goal.returns-in-Scaled
 unfolding shown
 returns-in-Scaled c =
-    let g = c.value-1.given in
     let a = c.args in
-    let s = small_fits g.0.0 (small_scaled _ g.0.0 g.1 c.requires) in
-    rw g.1 (c.shown_number.ensures ∙ ap (λ (z : ℤ). shown_number a.unit z) (to_z-of_z w64 g.0.0 s))
+    let s = small_fits c.in-Scaled.v (small_scaled _ c.in-Scaled.v c.in-Scaled.is c.requires) in
+    rw c.in-Scaled.is (c.shown_number.ensures ∙ ap (λ (z : ℤ). shown_number a.unit z) (to_z-of_z w64 c.in-Scaled.v s))
 
 pub returns-in-NoData : goal.returns-in-NoData
 unfolding shown

@@ -6,7 +6,6 @@ use mir.ValLaws.{to_z-of_z}
 use Rattle.tiles.specs.Exact.{nearest}
 use Rattle.tiles.specs.Tile.{shown_number}
 use Rattle.tiles.specs.declared.Reading.TheVariants.{Degrees, Percent, Hertz, Volts, Amperes}
-use borrow.Author.Rules.{rules}
 use Rattle.tiles.proofs.readings.shown_number.Goals as goal
 
 pub returns-in-Celsius : goal.returns-in-Celsius
