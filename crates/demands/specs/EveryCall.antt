@@ -7,6 +7,8 @@ use base.Logic.{SProp}
 use prog.Memory.{Memory}
 use prog.Model.{Model}
 use prog.Routine.{Routine}
+use prog.Wired.{Code, Wired}
+use mir.Syntax.{Callee}
 use types.Logic.{Logic}
 use contract.Monad.{Fun}
 use contract.Lifetimes.{Lfts}
@@ -17,136 +19,256 @@ use denote.Triple.Clauses.{Ended, Lasts, AtExit, at_exit}
 use denote.Triple.Entry.{Args, Res}
 use denote.Triple.Spec.{Spec, Meets, exits}
 use Rattle.frame.specs.Laws as Frame
-use Rattle.frame.proofs.take_apart as frame_take_apart
-use Rattle.frame.proofs.form as frame_form
-use Rattle.frame.proofs.check as frame_check
-use Rattle.frame.proofs.destination_of as frame_destination_of
-use Rattle.frame.proofs.catalogue_form as frame_catalogue_form
-use Rattle.frame.proofs.number_of as frame_number_of
-use Rattle.frame.proofs.bytes_of as frame_bytes_of
-use Rattle.frame.proofs.Apart.refusal as frame_apart_refusal
-use Rattle.frame.proofs.Formed.refusal as frame_formed_refusal
-use Rattle.frame.proofs.Verdict.refusal as frame_verdict_refusal
-use Rattle.frame.proofs.BadFrame.refusal as frame_bad_frame_refusal
-use Rattle.frame.proofs.dgn_bytes as frame_dgn_bytes
-use Rattle.frame.proofs.dgn_of as frame_dgn_of
+use Rattle.frame.specs.contracts.take_apart as frame_take_apart
+use Rattle.frame.proofs.take_apart.Symbol as frame_take_apart_symbol
+use Rattle.frame.specs.contracts.form as frame_form
+use Rattle.frame.proofs.form.Symbol as frame_form_symbol
+use Rattle.frame.specs.contracts.check as frame_check
+use Rattle.frame.proofs.check.Symbol as frame_check_symbol
+use Rattle.frame.specs.contracts.destination_of as frame_destination_of
+use Rattle.frame.proofs.destination_of.Symbol as frame_destination_of_symbol
+use Rattle.frame.specs.contracts.catalogue_form as frame_catalogue_form
+use Rattle.frame.proofs.catalogue_form.Symbol as frame_catalogue_form_symbol
+use Rattle.frame.specs.contracts.number_of as frame_number_of
+use Rattle.frame.proofs.number_of.Symbol as frame_number_of_symbol
+use Rattle.frame.specs.contracts.bytes_of as frame_bytes_of
+use Rattle.frame.proofs.bytes_of.Symbol as frame_bytes_of_symbol
+use Rattle.frame.specs.contracts.Apart.refusal as frame_apart_refusal
+use Rattle.frame.proofs.Apart.refusal.Symbol as frame_apart_refusal_symbol
+use Rattle.frame.specs.contracts.Formed.refusal as frame_formed_refusal
+use Rattle.frame.proofs.Formed.refusal.Symbol as frame_formed_refusal_symbol
+use Rattle.frame.specs.contracts.Verdict.refusal as frame_verdict_refusal
+use Rattle.frame.proofs.Verdict.refusal.Symbol as frame_verdict_refusal_symbol
+use Rattle.frame.specs.contracts.BadFrame.refusal as frame_bad_frame_refusal
+use Rattle.frame.proofs.BadFrame.refusal.Symbol as frame_bad_frame_refusal_symbol
+use Rattle.frame.specs.contracts.dgn_bytes as frame_dgn_bytes
+use Rattle.frame.proofs.dgn_bytes.Symbol as frame_dgn_bytes_symbol
+use Rattle.frame.specs.contracts.dgn_of as frame_dgn_of
+use Rattle.frame.proofs.dgn_of.Symbol as frame_dgn_of_symbol
 use Rattle.message.specs.Laws as Message
-use Rattle.message.proofs.Receiver.new as message_new
-use Rattle.message.proofs.Receiver.hear as message_hear
-use Rattle.message.proofs.Receiver.pause as message_pause
-use Rattle.message.proofs.message as message_message
-use Rattle.message.proofs.announcement as message_announcement
-use Rattle.message.proofs.packet as message_packet
-use Rattle.message.proofs.Answer.refusal as message_answer_refusal
-use Rattle.message.proofs.Pausing.refusal as message_pausing_refusal
-use Rattle.message.proofs.Announcing.refusal as message_announcing_refusal
-use Rattle.message.proofs.Splitting.refusal as message_splitting_refusal
-use Rattle.message.proofs.Unsplittable.refusal as message_unsplittable_refusal
+use Rattle.message.specs.contracts.Receiver.new as message_new
+use Rattle.message.proofs.Receiver.new.Symbol as message_new_symbol
+use Rattle.message.specs.contracts.Receiver.hear as message_hear
+use Rattle.message.proofs.Receiver.hear.Symbol as message_hear_symbol
+use Rattle.message.specs.contracts.Receiver.pause as message_pause
+use Rattle.message.proofs.Receiver.pause.Symbol as message_pause_symbol
+use Rattle.message.specs.contracts.message as message_message
+use Rattle.message.proofs.message.Symbol as message_message_symbol
+use Rattle.message.specs.contracts.announcement as message_announcement
+use Rattle.message.proofs.announcement.Symbol as message_announcement_symbol
+use Rattle.message.specs.contracts.packet as message_packet
+use Rattle.message.proofs.packet.Symbol as message_packet_symbol
+use Rattle.message.specs.contracts.Answer.refusal as message_answer_refusal
+use Rattle.message.proofs.Answer.refusal.Symbol as message_answer_refusal_symbol
+use Rattle.message.specs.contracts.Pausing.refusal as message_pausing_refusal
+use Rattle.message.proofs.Pausing.refusal.Symbol as message_pausing_refusal_symbol
+use Rattle.message.specs.contracts.Announcing.refusal as message_announcing_refusal
+use Rattle.message.proofs.Announcing.refusal.Symbol as message_announcing_refusal_symbol
+use Rattle.message.specs.contracts.Splitting.refusal as message_splitting_refusal
+use Rattle.message.proofs.Splitting.refusal.Symbol as message_splitting_refusal_symbol
+use Rattle.message.specs.contracts.Unsplittable.refusal as message_unsplittable_refusal
+use Rattle.message.proofs.Unsplittable.refusal.Symbol as message_unsplittable_refusal_symbol
 use Rattle.fast.specs.Laws as Fast
-use Rattle.fast.proofs.Receiver.start as fast_start
-use Rattle.fast.proofs.Starting.refusal as fast_starting_refusal
-use Rattle.fast.proofs.Receiver.hear as fast_hear
-use Rattle.fast.proofs.Answer.refusal as fast_answer_refusal
-use Rattle.fast.proofs.Receiver.pause as fast_pause
-use Rattle.fast.proofs.Pausing.refusal as fast_pausing_refusal
-use Rattle.fast.proofs.message as fast_message
-use Rattle.fast.proofs.frame_of as fast_frame_of
-use Rattle.fast.proofs.Splitting.refusal as fast_splitting_refusal
+use Rattle.fast.specs.contracts.Receiver.start as fast_start
+use Rattle.fast.proofs.Receiver.start.Symbol as fast_start_symbol
+use Rattle.fast.specs.contracts.Starting.refusal as fast_starting_refusal
+use Rattle.fast.proofs.Starting.refusal.Symbol as fast_starting_refusal_symbol
+use Rattle.fast.specs.contracts.Receiver.hear as fast_hear
+use Rattle.fast.proofs.Receiver.hear.Symbol as fast_hear_symbol
+use Rattle.fast.specs.contracts.Answer.refusal as fast_answer_refusal
+use Rattle.fast.proofs.Answer.refusal.Symbol as fast_answer_refusal_symbol
+use Rattle.fast.specs.contracts.Receiver.pause as fast_pause
+use Rattle.fast.proofs.Receiver.pause.Symbol as fast_pause_symbol
+use Rattle.fast.specs.contracts.Pausing.refusal as fast_pausing_refusal
+use Rattle.fast.proofs.Pausing.refusal.Symbol as fast_pausing_refusal_symbol
+use Rattle.fast.specs.contracts.message as fast_message
+use Rattle.fast.proofs.message.Symbol as fast_message_symbol
+use Rattle.fast.specs.contracts.frame_of as fast_frame_of
+use Rattle.fast.proofs.frame_of.Symbol as fast_frame_of_symbol
+use Rattle.fast.specs.contracts.Splitting.refusal as fast_splitting_refusal
+use Rattle.fast.proofs.Splitting.refusal.Symbol as fast_splitting_refusal_symbol
 use Rattle.catalogue.specs.Laws as Catalogue
-use Rattle.catalogue.proofs.rows as catalogue_rows
-use Rattle.catalogue.proofs.row_at as catalogue_row_at
-use Rattle.catalogue.proofs.rows_of as catalogue_rows_of
-use Rattle.catalogue.proofs.has_instance as catalogue_has_instance
-use Rattle.catalogue.proofs.steps_in_one as catalogue_steps_in_one
-use Rattle.catalogue.proofs.classify as catalogue_classify
-use Rattle.catalogue.proofs.read as catalogue_read
-use Rattle.catalogue.proofs.read_scaled as catalogue_read_scaled
-use Rattle.catalogue.proofs.write as catalogue_write
-use Rattle.catalogue.proofs.Looked.refusal as catalogue_looked_refusal
-use Rattle.catalogue.proofs.Reading.refusal as catalogue_reading_refusal
-use Rattle.catalogue.proofs.ScaledReading.refusal as catalogue_scaled_reading_refusal
-use Rattle.catalogue.proofs.Writing.refusal as catalogue_writing_refusal
-use Rattle.catalogue.proofs.row_of as catalogue_row_of
-use Rattle.catalogue.proofs.packed_rows as catalogue_packed_rows
-use Rattle.catalogue.proofs.row_in as catalogue_row_in
-use Rattle.catalogue.proofs.rows_in as catalogue_rows_in
-use Rattle.catalogue.proofs.row_of_in as catalogue_row_of_in
-use Rattle.catalogue.proofs.read_row as catalogue_read_row
-use Rattle.catalogue.proofs.read_row_scaled as catalogue_read_row_scaled
-use Rattle.catalogue.proofs.write_row as catalogue_write_row
+use Rattle.catalogue.specs.contracts.rows as catalogue_rows
+use Rattle.catalogue.proofs.rows.Symbol as catalogue_rows_symbol
+use Rattle.catalogue.specs.contracts.row_at as catalogue_row_at
+use Rattle.catalogue.proofs.row_at.Symbol as catalogue_row_at_symbol
+use Rattle.catalogue.specs.contracts.rows_of as catalogue_rows_of
+use Rattle.catalogue.proofs.rows_of.Symbol as catalogue_rows_of_symbol
+use Rattle.catalogue.specs.contracts.has_instance as catalogue_has_instance
+use Rattle.catalogue.proofs.has_instance.Symbol as catalogue_has_instance_symbol
+use Rattle.catalogue.specs.contracts.steps_in_one as catalogue_steps_in_one
+use Rattle.catalogue.proofs.steps_in_one.Symbol as catalogue_steps_in_one_symbol
+use Rattle.catalogue.specs.contracts.classify as catalogue_classify
+use Rattle.catalogue.proofs.classify.Symbol as catalogue_classify_symbol
+use Rattle.catalogue.specs.contracts.read as catalogue_read
+use Rattle.catalogue.proofs.read.Symbol as catalogue_read_symbol
+use Rattle.catalogue.specs.contracts.read_scaled as catalogue_read_scaled
+use Rattle.catalogue.proofs.read_scaled.Symbol as catalogue_read_scaled_symbol
+use Rattle.catalogue.specs.contracts.write as catalogue_write
+use Rattle.catalogue.proofs.write.Symbol as catalogue_write_symbol
+use Rattle.catalogue.specs.contracts.Looked.refusal as catalogue_looked_refusal
+use Rattle.catalogue.proofs.Looked.refusal.Symbol as catalogue_looked_refusal_symbol
+use Rattle.catalogue.specs.contracts.Reading.refusal as catalogue_reading_refusal
+use Rattle.catalogue.proofs.Reading.refusal.Symbol as catalogue_reading_refusal_symbol
+use Rattle.catalogue.specs.contracts.ScaledReading.refusal as catalogue_scaled_reading_refusal
+use Rattle.catalogue.proofs.ScaledReading.refusal.Symbol as catalogue_scaled_reading_refusal_symbol
+use Rattle.catalogue.specs.contracts.Writing.refusal as catalogue_writing_refusal
+use Rattle.catalogue.proofs.Writing.refusal.Symbol as catalogue_writing_refusal_symbol
+use Rattle.catalogue.specs.contracts.row_of as catalogue_row_of
+use Rattle.catalogue.proofs.row_of.Symbol as catalogue_row_of_symbol
+use Rattle.catalogue.specs.contracts.packed_rows as catalogue_packed_rows
+use Rattle.catalogue.proofs.packed_rows.Symbol as catalogue_packed_rows_symbol
+use Rattle.catalogue.specs.contracts.row_in as catalogue_row_in
+use Rattle.catalogue.proofs.row_in.Symbol as catalogue_row_in_symbol
+use Rattle.catalogue.specs.contracts.rows_in as catalogue_rows_in
+use Rattle.catalogue.proofs.rows_in.Symbol as catalogue_rows_in_symbol
+use Rattle.catalogue.specs.contracts.row_of_in as catalogue_row_of_in
+use Rattle.catalogue.proofs.row_of_in.Symbol as catalogue_row_of_in_symbol
+use Rattle.catalogue.specs.contracts.read_row as catalogue_read_row
+use Rattle.catalogue.proofs.read_row.Symbol as catalogue_read_row_symbol
+use Rattle.catalogue.specs.contracts.read_row_scaled as catalogue_read_row_scaled
+use Rattle.catalogue.proofs.read_row_scaled.Symbol as catalogue_read_row_scaled_symbol
+use Rattle.catalogue.specs.contracts.write_row as catalogue_write_row
+use Rattle.catalogue.proofs.write_row.Symbol as catalogue_write_row_symbol
 use Rattle.claim.specs.Laws as Claim
-use Rattle.claim.proofs.Claim.start as claim_start
-use Rattle.claim.proofs.Claim.hear as claim_hear
-use Rattle.claim.proofs.Claim.pause as claim_pause
-use Rattle.claim.proofs.Claim.stands as claim_stands
-use Rattle.claim.proofs.Claim.our_claim as claim_our_claim
-use Rattle.claim.proofs.Claim.keeps_rules as claim_keeps_rules
-use Rattle.claim.proofs.Claim.holds_list as claim_holds_list
-use Rattle.claim.proofs.Starting.refusal as claim_starting_refusal
-use Rattle.claim.proofs.Hearing.refusal as claim_hearing_refusal
-use Rattle.claim.proofs.Pausing.refusal as claim_pausing_refusal
-use Rattle.claim.proofs.Standing.refusal as claim_standing_refusal
-use Rattle.claim.proofs.Sending.refusal as claim_sending_refusal
+use Rattle.claim.specs.contracts.Claim.start as claim_start
+use Rattle.claim.proofs.Claim.start.Symbol as claim_start_symbol
+use Rattle.claim.specs.contracts.Claim.hear as claim_hear
+use Rattle.claim.proofs.Claim.hear.Symbol as claim_hear_symbol
+use Rattle.claim.specs.contracts.Claim.pause as claim_pause
+use Rattle.claim.proofs.Claim.pause.Symbol as claim_pause_symbol
+use Rattle.claim.specs.contracts.Claim.stands as claim_stands
+use Rattle.claim.proofs.Claim.stands.Symbol as claim_stands_symbol
+use Rattle.claim.specs.contracts.Claim.our_claim as claim_our_claim
+use Rattle.claim.proofs.Claim.our_claim.Symbol as claim_our_claim_symbol
+use Rattle.claim.specs.contracts.Claim.keeps_rules as claim_keeps_rules
+use Rattle.claim.proofs.Claim.keeps_rules.Symbol as claim_keeps_rules_symbol
+use Rattle.claim.specs.contracts.Claim.holds_list as claim_holds_list
+use Rattle.claim.proofs.Claim.holds_list.Symbol as claim_holds_list_symbol
+use Rattle.claim.specs.contracts.Starting.refusal as claim_starting_refusal
+use Rattle.claim.proofs.Starting.refusal.Symbol as claim_starting_refusal_symbol
+use Rattle.claim.specs.contracts.Hearing.refusal as claim_hearing_refusal
+use Rattle.claim.proofs.Hearing.refusal.Symbol as claim_hearing_refusal_symbol
+use Rattle.claim.specs.contracts.Pausing.refusal as claim_pausing_refusal
+use Rattle.claim.proofs.Pausing.refusal.Symbol as claim_pausing_refusal_symbol
+use Rattle.claim.specs.contracts.Standing.refusal as claim_standing_refusal
+use Rattle.claim.proofs.Standing.refusal.Symbol as claim_standing_refusal_symbol
+use Rattle.claim.specs.contracts.Sending.refusal as claim_sending_refusal
+use Rattle.claim.proofs.Sending.refusal.Symbol as claim_sending_refusal_symbol
 use Rattle.nodes.specs.Laws as Nodes
-use Rattle.nodes.proofs.empty as nodes_empty
-use Rattle.nodes.proofs.hear as nodes_hear
-use Rattle.nodes.proofs.pause as nodes_pause
-use Rattle.nodes.proofs.look_up as nodes_look_up
-use Rattle.nodes.proofs.find_address as nodes_find_address
-use Rattle.nodes.proofs.find_challenger as nodes_find_challenger
-use Rattle.nodes.proofs.Hearing.refusal as nodes_hearing_refusal
-use Rattle.nodes.proofs.Pausing.refusal as nodes_pausing_refusal
-use Rattle.nodes.proofs.LookedUp.refusal as nodes_looked_up_refusal
-use Rattle.nodes.proofs.FoundAddress.refusal as nodes_found_address_refusal
-use Rattle.nodes.proofs.FoundChallenger.refusal as nodes_found_challenger_refusal
+use Rattle.nodes.specs.contracts.empty as nodes_empty
+use Rattle.nodes.proofs.empty.Symbol as nodes_empty_symbol
+use Rattle.nodes.specs.contracts.hear as nodes_hear
+use Rattle.nodes.proofs.hear.Symbol as nodes_hear_symbol
+use Rattle.nodes.specs.contracts.pause as nodes_pause
+use Rattle.nodes.proofs.pause.Symbol as nodes_pause_symbol
+use Rattle.nodes.specs.contracts.look_up as nodes_look_up
+use Rattle.nodes.proofs.look_up.Symbol as nodes_look_up_symbol
+use Rattle.nodes.specs.contracts.find_address as nodes_find_address
+use Rattle.nodes.proofs.find_address.Symbol as nodes_find_address_symbol
+use Rattle.nodes.specs.contracts.find_challenger as nodes_find_challenger
+use Rattle.nodes.proofs.find_challenger.Symbol as nodes_find_challenger_symbol
+use Rattle.nodes.specs.contracts.Hearing.refusal as nodes_hearing_refusal
+use Rattle.nodes.proofs.Hearing.refusal.Symbol as nodes_hearing_refusal_symbol
+use Rattle.nodes.specs.contracts.Pausing.refusal as nodes_pausing_refusal
+use Rattle.nodes.proofs.Pausing.refusal.Symbol as nodes_pausing_refusal_symbol
+use Rattle.nodes.specs.contracts.LookedUp.refusal as nodes_looked_up_refusal
+use Rattle.nodes.proofs.LookedUp.refusal.Symbol as nodes_looked_up_refusal_symbol
+use Rattle.nodes.specs.contracts.FoundAddress.refusal as nodes_found_address_refusal
+use Rattle.nodes.proofs.FoundAddress.refusal.Symbol as nodes_found_address_refusal_symbol
+use Rattle.nodes.specs.contracts.FoundChallenger.refusal as nodes_found_challenger_refusal
+use Rattle.nodes.proofs.FoundChallenger.refusal.Symbol as nodes_found_challenger_refusal_symbol
 use Rattle.command.specs.Laws as Command
-use Rattle.command.proofs.Host.start as command_start
-use Rattle.command.proofs.Host.route as command_route
-use Rattle.command.proofs.Host.request as command_request
-use Rattle.command.proofs.acknowledge as command_acknowledge
-use Rattle.command.proofs.Starting.refusal as command_starting_refusal
-use Rattle.command.proofs.Routing.refusal as command_routing_refusal
-use Rattle.command.proofs.Requesting.refusal as command_requesting_refusal
-use Rattle.command.proofs.Acknowledging.refusal as command_acknowledging_refusal
+use Rattle.command.specs.contracts.Host.start as command_start
+use Rattle.command.proofs.Host.start.Symbol as command_start_symbol
+use Rattle.command.specs.contracts.Host.route as command_route
+use Rattle.command.proofs.Host.route.Symbol as command_route_symbol
+use Rattle.command.specs.contracts.Host.request as command_request
+use Rattle.command.proofs.Host.request.Symbol as command_request_symbol
+use Rattle.command.specs.contracts.acknowledge as command_acknowledge
+use Rattle.command.proofs.acknowledge.Symbol as command_acknowledge_symbol
+use Rattle.command.specs.contracts.Starting.refusal as command_starting_refusal
+use Rattle.command.proofs.Starting.refusal.Symbol as command_starting_refusal_symbol
+use Rattle.command.specs.contracts.Routing.refusal as command_routing_refusal
+use Rattle.command.proofs.Routing.refusal.Symbol as command_routing_refusal_symbol
+use Rattle.command.specs.contracts.Requesting.refusal as command_requesting_refusal
+use Rattle.command.proofs.Requesting.refusal.Symbol as command_requesting_refusal_symbol
+use Rattle.command.specs.contracts.Acknowledging.refusal as command_acknowledging_refusal
+use Rattle.command.proofs.Acknowledging.refusal.Symbol as command_acknowledging_refusal_symbol
 use Rattle.faults.specs.Laws as Faults
-use Rattle.faults.proofs.packed_rows as faults_packed_rows
-use Rattle.faults.proofs.row_at as faults_row_at
-use Rattle.faults.proofs.read as faults_read
-use Rattle.faults.proofs.write as faults_write
-use Rattle.faults.proofs.read_service_point as faults_read_service_point
-use Rattle.faults.proofs.write_service_point as faults_write_service_point
-use Rattle.faults.proofs.ServicePoint.refusal as faults_service_point_refusal
-use Rattle.faults.proofs.Sender.start as faults_start
-use Rattle.faults.proofs.Sender.add as faults_add
-use Rattle.faults.proofs.Sender.clear as faults_clear
-use Rattle.faults.proofs.Sender.step as faults_step
-use Rattle.faults.proofs.Sender.request as faults_request
-use Rattle.faults.proofs.Sender.reply as faults_reply
-use Rattle.faults.proofs.Adding.refusal as faults_adding_refusal
-use Rattle.faults.proofs.Clearing.refusal as faults_clearing_refusal
-use Rattle.faults.proofs.Stepping.refusal as faults_stepping_refusal
-use Rattle.faults.proofs.Requesting.refusal as faults_requesting_refusal
+use Rattle.faults.specs.contracts.packed_rows as faults_packed_rows
+use Rattle.faults.proofs.packed_rows.Symbol as faults_packed_rows_symbol
+use Rattle.faults.specs.contracts.row_at as faults_row_at
+use Rattle.faults.proofs.row_at.Symbol as faults_row_at_symbol
+use Rattle.faults.specs.contracts.read as faults_read
+use Rattle.faults.proofs.read.Symbol as faults_read_symbol
+use Rattle.faults.specs.contracts.write as faults_write
+use Rattle.faults.proofs.write.Symbol as faults_write_symbol
+use Rattle.faults.specs.contracts.read_service_point as faults_read_service_point
+use Rattle.faults.proofs.read_service_point.Symbol as faults_read_service_point_symbol
+use Rattle.faults.specs.contracts.write_service_point as faults_write_service_point
+use Rattle.faults.proofs.write_service_point.Symbol as faults_write_service_point_symbol
+use Rattle.faults.specs.contracts.ServicePoint.refusal as faults_service_point_refusal
+use Rattle.faults.proofs.ServicePoint.refusal.Symbol as faults_service_point_refusal_symbol
+use Rattle.faults.specs.contracts.Sender.start as faults_start
+use Rattle.faults.proofs.Sender.start.Symbol as faults_start_symbol
+use Rattle.faults.specs.contracts.Sender.add as faults_add
+use Rattle.faults.proofs.Sender.add.Symbol as faults_add_symbol
+use Rattle.faults.specs.contracts.Sender.clear as faults_clear
+use Rattle.faults.proofs.Sender.clear.Symbol as faults_clear_symbol
+use Rattle.faults.specs.contracts.Sender.step as faults_step
+use Rattle.faults.proofs.Sender.step.Symbol as faults_step_symbol
+use Rattle.faults.specs.contracts.Sender.request as faults_request
+use Rattle.faults.proofs.Sender.request.Symbol as faults_request_symbol
+use Rattle.faults.specs.contracts.Sender.reply as faults_reply
+use Rattle.faults.proofs.Sender.reply.Symbol as faults_reply_symbol
+use Rattle.faults.specs.contracts.Adding.refusal as faults_adding_refusal
+use Rattle.faults.proofs.Adding.refusal.Symbol as faults_adding_refusal_symbol
+use Rattle.faults.specs.contracts.Clearing.refusal as faults_clearing_refusal
+use Rattle.faults.proofs.Clearing.refusal.Symbol as faults_clearing_refusal_symbol
+use Rattle.faults.specs.contracts.Stepping.refusal as faults_stepping_refusal
+use Rattle.faults.proofs.Stepping.refusal.Symbol as faults_stepping_refusal_symbol
+use Rattle.faults.specs.contracts.Requesting.refusal as faults_requesting_refusal
+use Rattle.faults.proofs.Requesting.refusal.Symbol as faults_requesting_refusal_symbol
 use Rattle.capture.specs.Laws as Capture
-use Rattle.capture.proofs.take_apart as capture_take_apart
-use Rattle.capture.proofs.write as capture_write
-use Rattle.capture.proofs.Cutter.new as capture_new
-use Rattle.capture.proofs.Cutter.next as capture_next
-use Rattle.capture.proofs.Cutter.last as capture_last
-use Rattle.capture.proofs.Reading.refusal as capture_reading_refusal
+use Rattle.capture.specs.contracts.take_apart as capture_take_apart
+use Rattle.capture.proofs.take_apart.Symbol as capture_take_apart_symbol
+use Rattle.capture.specs.contracts.write as capture_write
+use Rattle.capture.proofs.write.Symbol as capture_write_symbol
+use Rattle.capture.specs.contracts.Cutter.new as capture_new
+use Rattle.capture.proofs.Cutter.new.Symbol as capture_new_symbol
+use Rattle.capture.specs.contracts.Cutter.next as capture_next
+use Rattle.capture.proofs.Cutter.next.Symbol as capture_next_symbol
+use Rattle.capture.specs.contracts.Cutter.last as capture_last
+use Rattle.capture.proofs.Cutter.last.Symbol as capture_last_symbol
+use Rattle.capture.specs.contracts.Reading.refusal as capture_reading_refusal
+use Rattle.capture.proofs.Reading.refusal.Symbol as capture_reading_refusal_symbol
 use Rattle.text.specs.Laws as Text
-use Rattle.text.proofs.put as text_put
-use Rattle.text.proofs.put_decimal as text_put_decimal
-use Rattle.text.proofs.put_hex as text_put_hex
-use Rattle.text.proofs.put_bytes as text_put_bytes
-use Rattle.text.proofs.decimal_width as text_decimal_width
+use Rattle.text.specs.contracts.put as text_put
+use Rattle.text.proofs.put.Symbol as text_put_symbol
+use Rattle.text.specs.contracts.put_decimal as text_put_decimal
+use Rattle.text.proofs.put_decimal.Symbol as text_put_decimal_symbol
+use Rattle.text.specs.contracts.put_hex as text_put_hex
+use Rattle.text.proofs.put_hex.Symbol as text_put_hex_symbol
+use Rattle.text.specs.contracts.put_bytes as text_put_bytes
+use Rattle.text.proofs.put_bytes.Symbol as text_put_bytes_symbol
+use Rattle.text.specs.contracts.decimal_width as text_decimal_width
+use Rattle.text.proofs.decimal_width.Symbol as text_decimal_width_symbol
 use Rattle.tiles.specs.Laws as Tiles
-use Rattle.tiles.proofs.Panel.new as tiles_new
-use Rattle.tiles.proofs.Panel.name as tiles_name
-use Rattle.tiles.proofs.Panel.hear as tiles_hear
-use Rattle.tiles.proofs.Panel.reading as tiles_reading
-use Rattle.tiles.proofs.Naming.refusal as tiles_naming_refusal
-use Rattle.tiles.proofs.Hearing.refusal as tiles_hearing_refusal
-use Rattle.tiles.proofs.Asking.refusal as tiles_asking_refusal
+use Rattle.tiles.specs.contracts.Panel.new as tiles_new
+use Rattle.tiles.proofs.Panel.new.Symbol as tiles_new_symbol
+use Rattle.tiles.specs.contracts.Panel.name as tiles_name
+use Rattle.tiles.proofs.Panel.name.Symbol as tiles_name_symbol
+use Rattle.tiles.specs.contracts.Panel.hear as tiles_hear
+use Rattle.tiles.proofs.Panel.hear.Symbol as tiles_hear_symbol
+use Rattle.tiles.specs.contracts.Panel.reading as tiles_reading
+use Rattle.tiles.proofs.Panel.reading.Symbol as tiles_reading_symbol
+use Rattle.tiles.specs.contracts.Naming.refusal as tiles_naming_refusal
+use Rattle.tiles.proofs.Naming.refusal.Symbol as tiles_naming_refusal_symbol
+use Rattle.tiles.specs.contracts.Hearing.refusal as tiles_hearing_refusal
+use Rattle.tiles.proofs.Hearing.refusal.Symbol as tiles_hearing_refusal_symbol
+use Rattle.tiles.specs.contracts.Asking.refusal as tiles_asking_refusal
+use Rattle.tiles.proofs.Asking.refusal.Symbol as tiles_asking_refusal_symbol
 
 -- A contract's `requires` asks nothing of a caller: there is a value of what the contract binds, and at each it is ⊤ₛ.
 pub record AsksNothing {M : Type 1} (𝓤 : Ura M) {Ghost : Type 0} (requires : Ghost → SProp 𝓤) : Type 2 where
@@ -164,11 +286,12 @@ module _ (M : Type 1) where
     Contract = (𝓤 : Ura M) (𝓛 : Logic 𝓤) → (Memory → SProp 𝓤) → (Routine → Fun 𝓤) → Spec 𝓤 S
 
     -- A call, by its code and its contract, where `Same` says when two answers are the same one.
-    pub record AnswersBy (routine : Routine) (contract : Contract)
+    pub record AnswersBy (code : Code) (name : Callee) (contract : Contract)
         (Same : (κs : Lfts S.lifetimes) (r s : Res S κs) → Type 0) (Only : Type 0) : Type 2 where
-      -- The code meets the contract: it ends with an answer for which the contract's `ensures` holds.
-      pub meets : (𝓤 : Ura M) (𝓛 : Logic 𝓤) (𝓜 : Model 𝓤 𝓛.H) (𝓡 : Running 𝓤 𝓛.H 𝓜)
-          → Meets 𝓛 S (𝓡.run routine) (contract 𝓤 𝓛 𝓜.mem 𝓡.run)
+      -- The code meets the contract: where names mean the functions that have this code, the call by this name ends with
+      -- an answer for which the contract's `ensures` holds.
+      pub meets : (𝓤 : Ura M) (𝓛 : Logic 𝓤) (𝓜 : Model 𝓤 𝓛.H) (𝓡 : Running 𝓤 𝓛.H 𝓜) → Wired 𝓡.env code
+          → Meets 𝓛 S (𝓡.run (𝓡.env name)) (contract 𝓤 𝓛 𝓜.mem 𝓡.returns)
       -- The contract asks nothing of its caller, whatever it is handed.
       pub asks_nothing : {𝓤 : Ura M} {𝓛 : Logic 𝓤} {mem : Memory → SProp 𝓤} {run : Routine → Fun 𝓤}
           {κs : Lfts S.lifetimes} {args : Args S κs}
@@ -186,299 +309,299 @@ module _ (M : Type 1) where
       -- The same, in the words of the part's own laws.
       pub only : Only
 
-    abbrev pub Answers : Routine → Contract → Type 0 → Type 2
-    Answers routine contract Only = AnswersBy routine contract (λ κs r s. r ≡ s) Only
+    abbrev pub Answers : Code → Callee → Contract → Type 0 → Type 2
+    Answers code name contract Only = AnswersBy code name contract (λ κs r s. r ≡ s) Only
 
   pub record EveryCallOver : Type 2 where
     -- Identifier
     pub frame_take_apart :
-        Answers frame_take_apart.ended frame_take_apart.Symbol.routine frame_take_apart.spec Frame.TakeApartOnly
+        Answers frame_take_apart.ended frame_take_apart_symbol.code frame_take_apart_symbol.name (λ 𝓤 𝓛. frame_take_apart.spec 𝓛) Frame.TakeApartOnly
     pub frame_apart_refusal :
-        Answers frame_apart_refusal.ended frame_apart_refusal.Symbol.routine frame_apart_refusal.spec
+        Answers frame_apart_refusal.ended frame_apart_refusal_symbol.code frame_apart_refusal_symbol.name (λ 𝓤 𝓛. frame_apart_refusal.spec 𝓛)
         Frame.ApartRefusalOnly
-    pub frame_form : Answers frame_form.ended frame_form.Symbol.routine frame_form.spec Frame.FormOnly
+    pub frame_form : Answers frame_form.ended frame_form_symbol.code frame_form_symbol.name (λ 𝓤 𝓛. frame_form.spec 𝓛) Frame.FormOnly
     pub frame_formed_refusal :
-        Answers frame_formed_refusal.ended frame_formed_refusal.Symbol.routine frame_formed_refusal.spec
+        Answers frame_formed_refusal.ended frame_formed_refusal_symbol.code frame_formed_refusal_symbol.name (λ 𝓤 𝓛. frame_formed_refusal.spec 𝓛)
         Frame.FormedRefusalOnly
-    pub frame_check : Answers frame_check.ended frame_check.Symbol.routine frame_check.spec Frame.CheckOnly
+    pub frame_check : Answers frame_check.ended frame_check_symbol.code frame_check_symbol.name (λ 𝓤 𝓛. frame_check.spec 𝓛) Frame.CheckOnly
     pub frame_verdict_refusal :
-        Answers frame_verdict_refusal.ended frame_verdict_refusal.Symbol.routine frame_verdict_refusal.spec
+        Answers frame_verdict_refusal.ended frame_verdict_refusal_symbol.code frame_verdict_refusal_symbol.name (λ 𝓤 𝓛. frame_verdict_refusal.spec 𝓛)
         Frame.VerdictRefusalOnly
     pub frame_bad_frame_refusal :
-        Answers frame_bad_frame_refusal.ended frame_bad_frame_refusal.Symbol.routine frame_bad_frame_refusal.spec
+        Answers frame_bad_frame_refusal.ended frame_bad_frame_refusal_symbol.code frame_bad_frame_refusal_symbol.name (λ 𝓤 𝓛. frame_bad_frame_refusal.spec 𝓛)
         Frame.BadFrameRefusalOnly
     pub frame_destination_of :
-        Answers frame_destination_of.ended frame_destination_of.Symbol.routine frame_destination_of.spec
+        Answers frame_destination_of.ended frame_destination_of_symbol.code frame_destination_of_symbol.name (λ 𝓤 𝓛. frame_destination_of.spec 𝓛)
         Frame.DestinationOfOnly
     pub frame_catalogue_form :
-        Answers frame_catalogue_form.ended frame_catalogue_form.Symbol.routine frame_catalogue_form.spec
+        Answers frame_catalogue_form.ended frame_catalogue_form_symbol.code frame_catalogue_form_symbol.name (λ 𝓤 𝓛. frame_catalogue_form.spec 𝓛)
         Frame.CatalogueFormOnly
     pub frame_number_of :
-        Answers frame_number_of.ended frame_number_of.Symbol.routine frame_number_of.spec Frame.NumberOfOnly
+        Answers frame_number_of.ended frame_number_of_symbol.code frame_number_of_symbol.name (λ 𝓤 𝓛. frame_number_of.spec 𝓛) Frame.NumberOfOnly
     pub frame_bytes_of :
-        Answers frame_bytes_of.ended frame_bytes_of.Symbol.routine frame_bytes_of.spec Frame.BytesOfOnly
+        Answers frame_bytes_of.ended frame_bytes_of_symbol.code frame_bytes_of_symbol.name (λ 𝓤 𝓛. frame_bytes_of.spec 𝓛) Frame.BytesOfOnly
     pub frame_dgn_bytes :
-        Answers frame_dgn_bytes.ended frame_dgn_bytes.Symbol.routine frame_dgn_bytes.spec Frame.DgnBytesOnly
-    pub frame_dgn_of : Answers frame_dgn_of.ended frame_dgn_of.Symbol.routine frame_dgn_of.spec Frame.DgnOfOnly
+        Answers frame_dgn_bytes.ended frame_dgn_bytes_symbol.code frame_dgn_bytes_symbol.name (λ 𝓤 𝓛. frame_dgn_bytes.spec 𝓛) Frame.DgnBytesOnly
+    pub frame_dgn_of : Answers frame_dgn_of.ended frame_dgn_of_symbol.code frame_dgn_of_symbol.name (λ 𝓤 𝓛. frame_dgn_of.spec 𝓛) Frame.DgnOfOnly
     -- Long messages, eight senders at once
-    pub message_new : Answers message_new.ended message_new.Symbol.routine message_new.spec Message.NewOnly
-    pub message_hear : Answers message_hear.ended message_hear.Symbol.routine message_hear.spec Message.HearOnly
+    pub message_new : Answers message_new.ended message_new_symbol.code message_new_symbol.name (λ 𝓤 𝓛. message_new.spec 𝓛) Message.NewOnly
+    pub message_hear : Answers message_hear.ended message_hear_symbol.code message_hear_symbol.name (λ 𝓤 𝓛. message_hear.spec 𝓛) Message.HearOnly
     pub message_answer_refusal :
-        Answers message_answer_refusal.ended message_answer_refusal.Symbol.routine message_answer_refusal.spec
+        Answers message_answer_refusal.ended message_answer_refusal_symbol.code message_answer_refusal_symbol.name (λ 𝓤 𝓛. message_answer_refusal.spec 𝓛)
         Message.AnswerRefusalOnly
     pub message_pause :
-        Answers message_pause.ended message_pause.Symbol.routine message_pause.spec Message.PauseOnly
+        Answers message_pause.ended message_pause_symbol.code message_pause_symbol.name (λ 𝓤 𝓛. message_pause.spec 𝓛) Message.PauseOnly
     pub message_pausing_refusal :
-        Answers message_pausing_refusal.ended message_pausing_refusal.Symbol.routine message_pausing_refusal.spec
+        Answers message_pausing_refusal.ended message_pausing_refusal_symbol.code message_pausing_refusal_symbol.name (λ 𝓤 𝓛. message_pausing_refusal.spec 𝓛)
         Message.PausingRefusalOnly
     -- the answer is a part of the storage: two are the same that have the same bytes
     pub message_message :
-        AnswersBy message_message.ended message_message.Symbol.routine message_message.spec (λ κs r s. r.now ≡ s.now)
+        AnswersBy message_message.ended message_message_symbol.code message_message_symbol.name (λ 𝓤 𝓛. message_message.spec 𝓛) (λ κs r s. r.now ≡ s.now)
         Message.MessageOnly
     pub message_announcement :
-        Answers message_announcement.ended message_announcement.Symbol.routine message_announcement.spec
+        Answers message_announcement.ended message_announcement_symbol.code message_announcement_symbol.name (λ 𝓤 𝓛. message_announcement.spec 𝓛)
         Message.AnnouncementOnly
     pub message_announcing_refusal :
-        Answers message_announcing_refusal.ended message_announcing_refusal.Symbol.routine
-        message_announcing_refusal.spec Message.AnnouncingRefusalOnly
+        Answers message_announcing_refusal.ended message_announcing_refusal_symbol.code message_announcing_refusal_symbol.name
+        (λ 𝓤 𝓛. message_announcing_refusal.spec 𝓛) Message.AnnouncingRefusalOnly
     pub message_packet :
-        Answers message_packet.ended message_packet.Symbol.routine message_packet.spec Message.PacketOnly
+        Answers message_packet.ended message_packet_symbol.code message_packet_symbol.name (λ 𝓤 𝓛. message_packet.spec 𝓛) Message.PacketOnly
     pub message_splitting_refusal :
-        Answers message_splitting_refusal.ended message_splitting_refusal.Symbol.routine message_splitting_refusal.spec
+        Answers message_splitting_refusal.ended message_splitting_refusal_symbol.code message_splitting_refusal_symbol.name (λ 𝓤 𝓛. message_splitting_refusal.spec 𝓛)
         Message.SplittingRefusalOnly
     pub message_unsplittable_refusal :
-        Answers message_unsplittable_refusal.ended message_unsplittable_refusal.Symbol.routine
-        message_unsplittable_refusal.spec Message.UnsplittableRefusalOnly
+        Answers message_unsplittable_refusal.ended message_unsplittable_refusal_symbol.code message_unsplittable_refusal_symbol.name
+        (λ 𝓤 𝓛. message_unsplittable_refusal.spec 𝓛) Message.UnsplittableRefusalOnly
     -- Fast packets
-    pub fast_start : Answers fast_start.ended fast_start.Symbol.routine fast_start.spec Fast.StartOnly
+    pub fast_start : Answers fast_start.ended fast_start_symbol.code fast_start_symbol.name (λ 𝓤 𝓛. fast_start.spec 𝓛) Fast.StartOnly
     pub fast_starting_refusal :
-        Answers fast_starting_refusal.ended fast_starting_refusal.Symbol.routine fast_starting_refusal.spec
+        Answers fast_starting_refusal.ended fast_starting_refusal_symbol.code fast_starting_refusal_symbol.name (λ 𝓤 𝓛. fast_starting_refusal.spec 𝓛)
         Fast.StartingRefusalOnly
-    pub fast_hear : Answers fast_hear.ended fast_hear.Symbol.routine fast_hear.spec Fast.HearOnly
+    pub fast_hear : Answers fast_hear.ended fast_hear_symbol.code fast_hear_symbol.name (λ 𝓤 𝓛. fast_hear.spec 𝓛) Fast.HearOnly
     pub fast_answer_refusal :
-        Answers fast_answer_refusal.ended fast_answer_refusal.Symbol.routine fast_answer_refusal.spec
+        Answers fast_answer_refusal.ended fast_answer_refusal_symbol.code fast_answer_refusal_symbol.name (λ 𝓤 𝓛. fast_answer_refusal.spec 𝓛)
         Fast.AnswerRefusalOnly
-    pub fast_pause : Answers fast_pause.ended fast_pause.Symbol.routine fast_pause.spec Fast.PauseOnly
+    pub fast_pause : Answers fast_pause.ended fast_pause_symbol.code fast_pause_symbol.name (λ 𝓤 𝓛. fast_pause.spec 𝓛) Fast.PauseOnly
     pub fast_pausing_refusal :
-        Answers fast_pausing_refusal.ended fast_pausing_refusal.Symbol.routine fast_pausing_refusal.spec
+        Answers fast_pausing_refusal.ended fast_pausing_refusal_symbol.code fast_pausing_refusal_symbol.name (λ 𝓤 𝓛. fast_pausing_refusal.spec 𝓛)
         Fast.PausingRefusalOnly
     pub fast_message :
-        AnswersBy fast_message.ended fast_message.Symbol.routine fast_message.spec (λ κs r s. r.now ≡ s.now)
+        AnswersBy fast_message.ended fast_message_symbol.code fast_message_symbol.name (λ 𝓤 𝓛. fast_message.spec 𝓛) (λ κs r s. r.now ≡ s.now)
         Fast.MessageOnly
-    pub fast_frame_of : Answers fast_frame_of.ended fast_frame_of.Symbol.routine fast_frame_of.spec Fast.FrameOfOnly
+    pub fast_frame_of : Answers fast_frame_of.ended fast_frame_of_symbol.code fast_frame_of_symbol.name (λ 𝓤 𝓛. fast_frame_of.spec 𝓛) Fast.FrameOfOnly
     pub fast_splitting_refusal :
-        Answers fast_splitting_refusal.ended fast_splitting_refusal.Symbol.routine fast_splitting_refusal.spec
+        Answers fast_splitting_refusal.ended fast_splitting_refusal_symbol.code fast_splitting_refusal_symbol.name (λ 𝓤 𝓛. fast_splitting_refusal.spec 𝓛)
         Fast.SplittingRefusalOnly
     -- Field catalogue
     pub catalogue_rows :
-        Answers catalogue_rows.ended catalogue_rows.Symbol.routine catalogue_rows.spec Catalogue.RowsOnly
+        Answers catalogue_rows.ended catalogue_rows_symbol.code catalogue_rows_symbol.name (λ 𝓤 𝓛. catalogue_rows.spec 𝓛) Catalogue.RowsOnly
     pub catalogue_row_at :
-        Answers catalogue_row_at.ended catalogue_row_at.Symbol.routine catalogue_row_at.spec Catalogue.RowAtOnly
+        Answers catalogue_row_at.ended catalogue_row_at_symbol.code catalogue_row_at_symbol.name (λ 𝓤 𝓛. catalogue_row_at.spec 𝓛) Catalogue.RowAtOnly
     pub catalogue_rows_of :
-        Answers catalogue_rows_of.ended catalogue_rows_of.Symbol.routine catalogue_rows_of.spec Catalogue.RowsOfOnly
+        Answers catalogue_rows_of.ended catalogue_rows_of_symbol.code catalogue_rows_of_symbol.name (λ 𝓤 𝓛. catalogue_rows_of.spec 𝓛) Catalogue.RowsOfOnly
     pub catalogue_has_instance :
-        Answers catalogue_has_instance.ended catalogue_has_instance.Symbol.routine catalogue_has_instance.spec
+        Answers catalogue_has_instance.ended catalogue_has_instance_symbol.code catalogue_has_instance_symbol.name (λ 𝓤 𝓛. catalogue_has_instance.spec 𝓛)
         Catalogue.HasInstanceOnly
     pub catalogue_steps_in_one :
-        Answers catalogue_steps_in_one.ended catalogue_steps_in_one.Symbol.routine catalogue_steps_in_one.spec
+        Answers catalogue_steps_in_one.ended catalogue_steps_in_one_symbol.code catalogue_steps_in_one_symbol.name (λ 𝓤 𝓛. catalogue_steps_in_one.spec 𝓛)
         Catalogue.StepsInOneOnly
     pub catalogue_classify :
-        Answers catalogue_classify.ended catalogue_classify.Symbol.routine catalogue_classify.spec
+        Answers catalogue_classify.ended catalogue_classify_symbol.code catalogue_classify_symbol.name (λ 𝓤 𝓛. catalogue_classify.spec 𝓛)
         Catalogue.ClassifyOnly
     pub catalogue_read :
-        Answers catalogue_read.ended catalogue_read.Symbol.routine catalogue_read.spec Catalogue.ReadOnly
+        Answers catalogue_read.ended catalogue_read_symbol.code catalogue_read_symbol.name (λ 𝓤 𝓛. catalogue_read.spec 𝓛) Catalogue.ReadOnly
     pub catalogue_read_scaled :
-        Answers catalogue_read_scaled.ended catalogue_read_scaled.Symbol.routine catalogue_read_scaled.spec
+        Answers catalogue_read_scaled.ended catalogue_read_scaled_symbol.code catalogue_read_scaled_symbol.name (λ 𝓤 𝓛. catalogue_read_scaled.spec 𝓛)
         Catalogue.ReadScaledOnly
     pub catalogue_write :
-        Answers catalogue_write.ended catalogue_write.Symbol.routine catalogue_write.spec Catalogue.WriteOnly
+        Answers catalogue_write.ended catalogue_write_symbol.code catalogue_write_symbol.name (λ 𝓤 𝓛. catalogue_write.spec 𝓛) Catalogue.WriteOnly
     pub catalogue_looked_refusal :
-        Answers catalogue_looked_refusal.ended catalogue_looked_refusal.Symbol.routine catalogue_looked_refusal.spec
+        Answers catalogue_looked_refusal.ended catalogue_looked_refusal_symbol.code catalogue_looked_refusal_symbol.name (λ 𝓤 𝓛. catalogue_looked_refusal.spec 𝓛)
         Catalogue.LookedRefusalOnly
     pub catalogue_reading_refusal :
-        Answers catalogue_reading_refusal.ended catalogue_reading_refusal.Symbol.routine catalogue_reading_refusal.spec
+        Answers catalogue_reading_refusal.ended catalogue_reading_refusal_symbol.code catalogue_reading_refusal_symbol.name (λ 𝓤 𝓛. catalogue_reading_refusal.spec 𝓛)
         Catalogue.ReadingRefusalOnly
     pub catalogue_scaled_reading_refusal :
-        Answers catalogue_scaled_reading_refusal.ended catalogue_scaled_reading_refusal.Symbol.routine
-        catalogue_scaled_reading_refusal.spec Catalogue.ScaledReadingRefusalOnly
+        Answers catalogue_scaled_reading_refusal.ended catalogue_scaled_reading_refusal_symbol.code catalogue_scaled_reading_refusal_symbol.name
+        (λ 𝓤 𝓛. catalogue_scaled_reading_refusal.spec 𝓛) Catalogue.ScaledReadingRefusalOnly
     pub catalogue_writing_refusal :
-        Answers catalogue_writing_refusal.ended catalogue_writing_refusal.Symbol.routine catalogue_writing_refusal.spec
+        Answers catalogue_writing_refusal.ended catalogue_writing_refusal_symbol.code catalogue_writing_refusal_symbol.name (λ 𝓤 𝓛. catalogue_writing_refusal.spec 𝓛)
         Catalogue.WritingRefusalOnly
     pub catalogue_row_of :
-        Answers catalogue_row_of.ended catalogue_row_of.Symbol.routine catalogue_row_of.spec Catalogue.RowOfOnly
+        Answers catalogue_row_of.ended catalogue_row_of_symbol.code catalogue_row_of_symbol.name (λ 𝓤 𝓛. catalogue_row_of.spec 𝓛) Catalogue.RowOfOnly
     pub catalogue_packed_rows :
-        Answers catalogue_packed_rows.ended catalogue_packed_rows.Symbol.routine catalogue_packed_rows.spec
+        Answers catalogue_packed_rows.ended catalogue_packed_rows_symbol.code catalogue_packed_rows_symbol.name (λ 𝓤 𝓛. catalogue_packed_rows.spec 𝓛)
         Catalogue.PackedRowsOnly
     pub catalogue_row_in :
-        Answers catalogue_row_in.ended catalogue_row_in.Symbol.routine catalogue_row_in.spec Catalogue.RowInOnly
+        Answers catalogue_row_in.ended catalogue_row_in_symbol.code catalogue_row_in_symbol.name (λ 𝓤 𝓛. catalogue_row_in.spec 𝓛) Catalogue.RowInOnly
     pub catalogue_rows_in :
-        Answers catalogue_rows_in.ended catalogue_rows_in.Symbol.routine catalogue_rows_in.spec Catalogue.RowsInOnly
+        Answers catalogue_rows_in.ended catalogue_rows_in_symbol.code catalogue_rows_in_symbol.name (λ 𝓤 𝓛. catalogue_rows_in.spec 𝓛) Catalogue.RowsInOnly
     pub catalogue_row_of_in :
-        Answers catalogue_row_of_in.ended catalogue_row_of_in.Symbol.routine catalogue_row_of_in.spec
+        Answers catalogue_row_of_in.ended catalogue_row_of_in_symbol.code catalogue_row_of_in_symbol.name (λ 𝓤 𝓛. catalogue_row_of_in.spec 𝓛)
         Catalogue.RowOfInOnly
     pub catalogue_read_row :
-        Answers catalogue_read_row.ended catalogue_read_row.Symbol.routine catalogue_read_row.spec Catalogue.ReadRowOnly
+        Answers catalogue_read_row.ended catalogue_read_row_symbol.code catalogue_read_row_symbol.name (λ 𝓤 𝓛. catalogue_read_row.spec 𝓛) Catalogue.ReadRowOnly
     pub catalogue_read_row_scaled :
-        Answers catalogue_read_row_scaled.ended catalogue_read_row_scaled.Symbol.routine catalogue_read_row_scaled.spec
+        Answers catalogue_read_row_scaled.ended catalogue_read_row_scaled_symbol.code catalogue_read_row_scaled_symbol.name (λ 𝓤 𝓛. catalogue_read_row_scaled.spec 𝓛)
         Catalogue.ReadRowScaledOnly
     pub catalogue_write_row :
-        Answers catalogue_write_row.ended catalogue_write_row.Symbol.routine catalogue_write_row.spec
+        Answers catalogue_write_row.ended catalogue_write_row_symbol.code catalogue_write_row_symbol.name (λ 𝓤 𝓛. catalogue_write_row.spec 𝓛)
         Catalogue.WriteRowOnly
     -- Claiming an address
-    pub claim_start : Answers claim_start.ended claim_start.Symbol.routine claim_start.spec Claim.StartOnly
-    pub claim_hear : Answers claim_hear.ended claim_hear.Symbol.routine claim_hear.spec Claim.HearOnly
-    pub claim_pause : Answers claim_pause.ended claim_pause.Symbol.routine claim_pause.spec Claim.PauseOnly
-    pub claim_stands : Answers claim_stands.ended claim_stands.Symbol.routine claim_stands.spec Claim.StandsOnly
+    pub claim_start : Answers claim_start.ended claim_start_symbol.code claim_start_symbol.name (λ 𝓤 𝓛. claim_start.spec 𝓛) Claim.StartOnly
+    pub claim_hear : Answers claim_hear.ended claim_hear_symbol.code claim_hear_symbol.name (λ 𝓤 𝓛. claim_hear.spec 𝓛) Claim.HearOnly
+    pub claim_pause : Answers claim_pause.ended claim_pause_symbol.code claim_pause_symbol.name (λ 𝓤 𝓛. claim_pause.spec 𝓛) Claim.PauseOnly
+    pub claim_stands : Answers claim_stands.ended claim_stands_symbol.code claim_stands_symbol.name (λ 𝓤 𝓛. claim_stands.spec 𝓛) Claim.StandsOnly
     pub claim_our_claim :
-        Answers claim_our_claim.ended claim_our_claim.Symbol.routine claim_our_claim.spec Claim.OurClaimOnly
+        Answers claim_our_claim.ended claim_our_claim_symbol.code claim_our_claim_symbol.name (λ 𝓤 𝓛. claim_our_claim.spec 𝓛) Claim.OurClaimOnly
     pub claim_keeps_rules :
-        Answers claim_keeps_rules.ended claim_keeps_rules.Symbol.routine claim_keeps_rules.spec Claim.KeepsRulesOnly
+        Answers claim_keeps_rules.ended claim_keeps_rules_symbol.code claim_keeps_rules_symbol.name (λ 𝓤 𝓛. claim_keeps_rules.spec 𝓛) Claim.KeepsRulesOnly
     pub claim_holds_list :
-        Answers claim_holds_list.ended claim_holds_list.Symbol.routine claim_holds_list.spec Claim.HoldsListOnly
+        Answers claim_holds_list.ended claim_holds_list_symbol.code claim_holds_list_symbol.name (λ 𝓤 𝓛. claim_holds_list.spec 𝓛) Claim.HoldsListOnly
     pub claim_starting_refusal :
-        Answers claim_starting_refusal.ended claim_starting_refusal.Symbol.routine claim_starting_refusal.spec
+        Answers claim_starting_refusal.ended claim_starting_refusal_symbol.code claim_starting_refusal_symbol.name (λ 𝓤 𝓛. claim_starting_refusal.spec 𝓛)
         Claim.StartingRefusalOnly
     pub claim_hearing_refusal :
-        Answers claim_hearing_refusal.ended claim_hearing_refusal.Symbol.routine claim_hearing_refusal.spec
+        Answers claim_hearing_refusal.ended claim_hearing_refusal_symbol.code claim_hearing_refusal_symbol.name (λ 𝓤 𝓛. claim_hearing_refusal.spec 𝓛)
         Claim.HearingRefusalOnly
     pub claim_pausing_refusal :
-        Answers claim_pausing_refusal.ended claim_pausing_refusal.Symbol.routine claim_pausing_refusal.spec
+        Answers claim_pausing_refusal.ended claim_pausing_refusal_symbol.code claim_pausing_refusal_symbol.name (λ 𝓤 𝓛. claim_pausing_refusal.spec 𝓛)
         Claim.PausingRefusalOnly
     pub claim_standing_refusal :
-        Answers claim_standing_refusal.ended claim_standing_refusal.Symbol.routine claim_standing_refusal.spec
+        Answers claim_standing_refusal.ended claim_standing_refusal_symbol.code claim_standing_refusal_symbol.name (λ 𝓤 𝓛. claim_standing_refusal.spec 𝓛)
         Claim.StandingRefusalOnly
     pub claim_sending_refusal :
-        Answers claim_sending_refusal.ended claim_sending_refusal.Symbol.routine claim_sending_refusal.spec
+        Answers claim_sending_refusal.ended claim_sending_refusal_symbol.code claim_sending_refusal_symbol.name (λ 𝓤 𝓛. claim_sending_refusal.spec 𝓛)
         Claim.SendingRefusalOnly
     -- Node table
-    pub nodes_empty : Answers nodes_empty.ended nodes_empty.Symbol.routine nodes_empty.spec Nodes.EmptyOnly
-    pub nodes_hear : Answers nodes_hear.ended nodes_hear.Symbol.routine nodes_hear.spec Nodes.HearOnly
-    pub nodes_pause : Answers nodes_pause.ended nodes_pause.Symbol.routine nodes_pause.spec Nodes.PauseOnly
-    pub nodes_look_up : Answers nodes_look_up.ended nodes_look_up.Symbol.routine nodes_look_up.spec Nodes.LookUpOnly
+    pub nodes_empty : Answers nodes_empty.ended nodes_empty_symbol.code nodes_empty_symbol.name (λ 𝓤 𝓛. nodes_empty.spec 𝓛) Nodes.EmptyOnly
+    pub nodes_hear : Answers nodes_hear.ended nodes_hear_symbol.code nodes_hear_symbol.name (λ 𝓤 𝓛. nodes_hear.spec 𝓛) Nodes.HearOnly
+    pub nodes_pause : Answers nodes_pause.ended nodes_pause_symbol.code nodes_pause_symbol.name (λ 𝓤 𝓛. nodes_pause.spec 𝓛) Nodes.PauseOnly
+    pub nodes_look_up : Answers nodes_look_up.ended nodes_look_up_symbol.code nodes_look_up_symbol.name (λ 𝓤 𝓛. nodes_look_up.spec 𝓛) Nodes.LookUpOnly
     pub nodes_find_address :
-        Answers nodes_find_address.ended nodes_find_address.Symbol.routine nodes_find_address.spec Nodes.FindAddressOnly
+        Answers nodes_find_address.ended nodes_find_address_symbol.code nodes_find_address_symbol.name (λ 𝓤 𝓛. nodes_find_address.spec 𝓛) Nodes.FindAddressOnly
     pub nodes_find_challenger :
-        Answers nodes_find_challenger.ended nodes_find_challenger.Symbol.routine nodes_find_challenger.spec
+        Answers nodes_find_challenger.ended nodes_find_challenger_symbol.code nodes_find_challenger_symbol.name (λ 𝓤 𝓛. nodes_find_challenger.spec 𝓛)
         Nodes.FindChallengerOnly
     pub nodes_hearing_refusal :
-        Answers nodes_hearing_refusal.ended nodes_hearing_refusal.Symbol.routine nodes_hearing_refusal.spec
+        Answers nodes_hearing_refusal.ended nodes_hearing_refusal_symbol.code nodes_hearing_refusal_symbol.name (λ 𝓤 𝓛. nodes_hearing_refusal.spec 𝓛)
         Nodes.HearingRefusalOnly
     pub nodes_pausing_refusal :
-        Answers nodes_pausing_refusal.ended nodes_pausing_refusal.Symbol.routine nodes_pausing_refusal.spec
+        Answers nodes_pausing_refusal.ended nodes_pausing_refusal_symbol.code nodes_pausing_refusal_symbol.name (λ 𝓤 𝓛. nodes_pausing_refusal.spec 𝓛)
         Nodes.PausingRefusalOnly
     pub nodes_looked_up_refusal :
-        Answers nodes_looked_up_refusal.ended nodes_looked_up_refusal.Symbol.routine nodes_looked_up_refusal.spec
+        Answers nodes_looked_up_refusal.ended nodes_looked_up_refusal_symbol.code nodes_looked_up_refusal_symbol.name (λ 𝓤 𝓛. nodes_looked_up_refusal.spec 𝓛)
         Nodes.LookedUpRefusalOnly
     pub nodes_found_address_refusal :
-        Answers nodes_found_address_refusal.ended nodes_found_address_refusal.Symbol.routine
-        nodes_found_address_refusal.spec Nodes.FoundAddressRefusalOnly
+        Answers nodes_found_address_refusal.ended nodes_found_address_refusal_symbol.code nodes_found_address_refusal_symbol.name
+        (λ 𝓤 𝓛. nodes_found_address_refusal.spec 𝓛) Nodes.FoundAddressRefusalOnly
     pub nodes_found_challenger_refusal :
-        Answers nodes_found_challenger_refusal.ended nodes_found_challenger_refusal.Symbol.routine
-        nodes_found_challenger_refusal.spec Nodes.FoundChallengerRefusalOnly
+        Answers nodes_found_challenger_refusal.ended nodes_found_challenger_refusal_symbol.code nodes_found_challenger_refusal_symbol.name
+        (λ 𝓤 𝓛. nodes_found_challenger_refusal.spec 𝓛) Nodes.FoundChallengerRefusalOnly
     -- Commands, requests, replies
     pub command_start :
-        Answers command_start.ended command_start.Symbol.routine command_start.spec Command.StartOnly
+        Answers command_start.ended command_start_symbol.code command_start_symbol.name (λ 𝓤 𝓛. command_start.spec 𝓛) Command.StartOnly
     pub command_route :
-        Answers command_route.ended command_route.Symbol.routine command_route.spec Command.RouteOnly
+        Answers command_route.ended command_route_symbol.code command_route_symbol.name (λ 𝓤 𝓛. command_route.spec 𝓛) Command.RouteOnly
     pub command_request :
-        Answers command_request.ended command_request.Symbol.routine command_request.spec Command.RequestOnly
+        Answers command_request.ended command_request_symbol.code command_request_symbol.name (λ 𝓤 𝓛. command_request.spec 𝓛) Command.RequestOnly
     pub command_acknowledge :
-        Answers command_acknowledge.ended command_acknowledge.Symbol.routine command_acknowledge.spec
+        Answers command_acknowledge.ended command_acknowledge_symbol.code command_acknowledge_symbol.name (λ 𝓤 𝓛. command_acknowledge.spec 𝓛)
         Command.AcknowledgeOnly
     pub command_starting_refusal :
-        Answers command_starting_refusal.ended command_starting_refusal.Symbol.routine command_starting_refusal.spec
+        Answers command_starting_refusal.ended command_starting_refusal_symbol.code command_starting_refusal_symbol.name (λ 𝓤 𝓛. command_starting_refusal.spec 𝓛)
         Command.StartingRefusalOnly
     pub command_routing_refusal :
-        Answers command_routing_refusal.ended command_routing_refusal.Symbol.routine command_routing_refusal.spec
+        Answers command_routing_refusal.ended command_routing_refusal_symbol.code command_routing_refusal_symbol.name (λ 𝓤 𝓛. command_routing_refusal.spec 𝓛)
         Command.RoutingRefusalOnly
     pub command_requesting_refusal :
-        Answers command_requesting_refusal.ended command_requesting_refusal.Symbol.routine
-        command_requesting_refusal.spec Command.RequestingRefusalOnly
+        Answers command_requesting_refusal.ended command_requesting_refusal_symbol.code command_requesting_refusal_symbol.name
+        (λ 𝓤 𝓛. command_requesting_refusal.spec 𝓛) Command.RequestingRefusalOnly
     pub command_acknowledging_refusal :
-        Answers command_acknowledging_refusal.ended command_acknowledging_refusal.Symbol.routine
-        command_acknowledging_refusal.spec Command.AcknowledgingRefusalOnly
+        Answers command_acknowledging_refusal.ended command_acknowledging_refusal_symbol.code command_acknowledging_refusal_symbol.name
+        (λ 𝓤 𝓛. command_acknowledging_refusal.spec 𝓛) Command.AcknowledgingRefusalOnly
     -- Faults
     pub faults_packed_rows :
-        Answers faults_packed_rows.ended faults_packed_rows.Symbol.routine faults_packed_rows.spec
+        Answers faults_packed_rows.ended faults_packed_rows_symbol.code faults_packed_rows_symbol.name (λ 𝓤 𝓛. faults_packed_rows.spec 𝓛)
         Faults.PackedRowsOnly
     pub faults_row_at :
-        Answers faults_row_at.ended faults_row_at.Symbol.routine faults_row_at.spec Faults.RowAtOnly
+        Answers faults_row_at.ended faults_row_at_symbol.code faults_row_at_symbol.name (λ 𝓤 𝓛. faults_row_at.spec 𝓛) Faults.RowAtOnly
     pub faults_read :
-        Answers faults_read.ended faults_read.Symbol.routine faults_read.spec Faults.ReadOnly
+        Answers faults_read.ended faults_read_symbol.code faults_read_symbol.name (λ 𝓤 𝓛. faults_read.spec 𝓛) Faults.ReadOnly
     pub faults_write :
-        Answers faults_write.ended faults_write.Symbol.routine faults_write.spec Faults.WriteOnly
+        Answers faults_write.ended faults_write_symbol.code faults_write_symbol.name (λ 𝓤 𝓛. faults_write.spec 𝓛) Faults.WriteOnly
     pub faults_read_service_point :
-        Answers faults_read_service_point.ended faults_read_service_point.Symbol.routine faults_read_service_point.spec
+        Answers faults_read_service_point.ended faults_read_service_point_symbol.code faults_read_service_point_symbol.name (λ 𝓤 𝓛. faults_read_service_point.spec 𝓛)
         Faults.ReadServicePointOnly
     pub faults_write_service_point :
-        Answers faults_write_service_point.ended faults_write_service_point.Symbol.routine
-        faults_write_service_point.spec Faults.WriteServicePointOnly
+        Answers faults_write_service_point.ended faults_write_service_point_symbol.code faults_write_service_point_symbol.name
+        (λ 𝓤 𝓛. faults_write_service_point.spec 𝓛) Faults.WriteServicePointOnly
     pub faults_service_point_refusal :
-        Answers faults_service_point_refusal.ended faults_service_point_refusal.Symbol.routine
-        faults_service_point_refusal.spec Faults.ServicePointRefusalOnly
+        Answers faults_service_point_refusal.ended faults_service_point_refusal_symbol.code faults_service_point_refusal_symbol.name
+        (λ 𝓤 𝓛. faults_service_point_refusal.spec 𝓛) Faults.ServicePointRefusalOnly
     pub faults_start :
-        Answers faults_start.ended faults_start.Symbol.routine faults_start.spec Faults.StartOnly
+        Answers faults_start.ended faults_start_symbol.code faults_start_symbol.name (λ 𝓤 𝓛. faults_start.spec 𝓛) Faults.StartOnly
     pub faults_add :
-        Answers faults_add.ended faults_add.Symbol.routine faults_add.spec Faults.AddOnly
+        Answers faults_add.ended faults_add_symbol.code faults_add_symbol.name (λ 𝓤 𝓛. faults_add.spec 𝓛) Faults.AddOnly
     pub faults_clear :
-        Answers faults_clear.ended faults_clear.Symbol.routine faults_clear.spec Faults.ClearOnly
+        Answers faults_clear.ended faults_clear_symbol.code faults_clear_symbol.name (λ 𝓤 𝓛. faults_clear.spec 𝓛) Faults.ClearOnly
     pub faults_step :
-        Answers faults_step.ended faults_step.Symbol.routine faults_step.spec Faults.StepOnly
+        Answers faults_step.ended faults_step_symbol.code faults_step_symbol.name (λ 𝓤 𝓛. faults_step.spec 𝓛) Faults.StepOnly
     pub faults_request :
-        Answers faults_request.ended faults_request.Symbol.routine faults_request.spec Faults.RequestOnly
+        Answers faults_request.ended faults_request_symbol.code faults_request_symbol.name (λ 𝓤 𝓛. faults_request.spec 𝓛) Faults.RequestOnly
     pub faults_reply :
-        Answers faults_reply.ended faults_reply.Symbol.routine faults_reply.spec Faults.ReplyOnly
+        Answers faults_reply.ended faults_reply_symbol.code faults_reply_symbol.name (λ 𝓤 𝓛. faults_reply.spec 𝓛) Faults.ReplyOnly
     pub faults_adding_refusal :
-        Answers faults_adding_refusal.ended faults_adding_refusal.Symbol.routine faults_adding_refusal.spec
+        Answers faults_adding_refusal.ended faults_adding_refusal_symbol.code faults_adding_refusal_symbol.name (λ 𝓤 𝓛. faults_adding_refusal.spec 𝓛)
         Faults.AddingRefusalOnly
     pub faults_clearing_refusal :
-        Answers faults_clearing_refusal.ended faults_clearing_refusal.Symbol.routine faults_clearing_refusal.spec
+        Answers faults_clearing_refusal.ended faults_clearing_refusal_symbol.code faults_clearing_refusal_symbol.name (λ 𝓤 𝓛. faults_clearing_refusal.spec 𝓛)
         Faults.ClearingRefusalOnly
     pub faults_stepping_refusal :
-        Answers faults_stepping_refusal.ended faults_stepping_refusal.Symbol.routine faults_stepping_refusal.spec
+        Answers faults_stepping_refusal.ended faults_stepping_refusal_symbol.code faults_stepping_refusal_symbol.name (λ 𝓤 𝓛. faults_stepping_refusal.spec 𝓛)
         Faults.SteppingRefusalOnly
     pub faults_requesting_refusal :
-        Answers faults_requesting_refusal.ended faults_requesting_refusal.Symbol.routine faults_requesting_refusal.spec
+        Answers faults_requesting_refusal.ended faults_requesting_refusal_symbol.code faults_requesting_refusal_symbol.name (λ 𝓤 𝓛. faults_requesting_refusal.spec 𝓛)
         Faults.RequestingRefusalOnly
     -- The capture reader
     pub capture_take_apart :
-        Answers capture_take_apart.ended capture_take_apart.Symbol.routine capture_take_apart.spec
+        Answers capture_take_apart.ended capture_take_apart_symbol.code capture_take_apart_symbol.name (λ 𝓤 𝓛. capture_take_apart.spec 𝓛)
         Capture.TakeApartOnly
     pub capture_reading_refusal :
-        Answers capture_reading_refusal.ended capture_reading_refusal.Symbol.routine capture_reading_refusal.spec
+        Answers capture_reading_refusal.ended capture_reading_refusal_symbol.code capture_reading_refusal_symbol.name (λ 𝓤 𝓛. capture_reading_refusal.spec 𝓛)
         Capture.ReadingRefusalOnly
     pub capture_write :
-        Answers capture_write.ended capture_write.Symbol.routine capture_write.spec Capture.WriteOnly
-    pub capture_new : Answers capture_new.ended capture_new.Symbol.routine capture_new.spec Capture.NewOnly
-    pub capture_next : Answers capture_next.ended capture_next.Symbol.routine capture_next.spec Capture.NextOnly
-    pub capture_last : Answers capture_last.ended capture_last.Symbol.routine capture_last.spec Capture.LastOnly
+        Answers capture_write.ended capture_write_symbol.code capture_write_symbol.name (λ 𝓤 𝓛. capture_write.spec 𝓛) Capture.WriteOnly
+    pub capture_new : Answers capture_new.ended capture_new_symbol.code capture_new_symbol.name (λ 𝓤 𝓛. capture_new.spec 𝓛) Capture.NewOnly
+    pub capture_next : Answers capture_next.ended capture_next_symbol.code capture_next_symbol.name (λ 𝓤 𝓛. capture_next.spec 𝓛) Capture.NextOnly
+    pub capture_last : Answers capture_last.ended capture_last_symbol.code capture_last_symbol.name (λ 𝓤 𝓛. capture_last.spec 𝓛) Capture.LastOnly
     -- Text put into lent bytes
-    pub text_put : Answers text_put.ended text_put.Symbol.routine text_put.spec Text.PutOnly
+    pub text_put : Answers text_put.ended text_put_symbol.code text_put_symbol.name (λ 𝓤 𝓛. text_put.spec 𝓛) Text.PutOnly
     pub text_put_decimal :
-        Answers text_put_decimal.ended text_put_decimal.Symbol.routine text_put_decimal.spec Text.PutDecimalOnly
-    pub text_put_hex : Answers text_put_hex.ended text_put_hex.Symbol.routine text_put_hex.spec Text.PutHexOnly
+        Answers text_put_decimal.ended text_put_decimal_symbol.code text_put_decimal_symbol.name (λ 𝓤 𝓛. text_put_decimal.spec 𝓛) Text.PutDecimalOnly
+    pub text_put_hex : Answers text_put_hex.ended text_put_hex_symbol.code text_put_hex_symbol.name (λ 𝓤 𝓛. text_put_hex.spec 𝓛) Text.PutHexOnly
     pub text_put_bytes :
-        Answers text_put_bytes.ended text_put_bytes.Symbol.routine text_put_bytes.spec Text.PutBytesOnly
+        Answers text_put_bytes.ended text_put_bytes_symbol.code text_put_bytes_symbol.name (λ 𝓤 𝓛. text_put_bytes.spec 𝓛) Text.PutBytesOnly
     pub text_decimal_width :
-        Answers text_decimal_width.ended text_decimal_width.Symbol.routine text_decimal_width.spec
+        Answers text_decimal_width.ended text_decimal_width_symbol.code text_decimal_width_symbol.name (λ 𝓤 𝓛. text_decimal_width.spec 𝓛)
         Text.DecimalWidthOnly
     -- The wall panel, above the library
     pub tiles_new :
-        Answers tiles_new.ended tiles_new.Symbol.routine tiles_new.spec Tiles.NewOnly
+        Answers tiles_new.ended tiles_new_symbol.code tiles_new_symbol.name (λ 𝓤 𝓛. tiles_new.spec 𝓛) Tiles.NewOnly
     pub tiles_name :
-        Answers tiles_name.ended tiles_name.Symbol.routine tiles_name.spec Tiles.NameOnly
+        Answers tiles_name.ended tiles_name_symbol.code tiles_name_symbol.name (λ 𝓤 𝓛. tiles_name.spec 𝓛) Tiles.NameOnly
     pub tiles_hear :
-        Answers tiles_hear.ended tiles_hear.Symbol.routine tiles_hear.spec Tiles.HearOnly
+        Answers tiles_hear.ended tiles_hear_symbol.code tiles_hear_symbol.name (λ 𝓤 𝓛. tiles_hear.spec 𝓛) Tiles.HearOnly
     pub tiles_reading :
-        Answers tiles_reading.ended tiles_reading.Symbol.routine tiles_reading.spec Tiles.ReadTileOnly
+        Answers tiles_reading.ended tiles_reading_symbol.code tiles_reading_symbol.name (λ 𝓤 𝓛. tiles_reading.spec 𝓛) Tiles.ReadTileOnly
     pub tiles_naming_refusal :
-        Answers tiles_naming_refusal.ended tiles_naming_refusal.Symbol.routine tiles_naming_refusal.spec
+        Answers tiles_naming_refusal.ended tiles_naming_refusal_symbol.code tiles_naming_refusal_symbol.name (λ 𝓤 𝓛. tiles_naming_refusal.spec 𝓛)
         Tiles.NamingRefusalOnly
     pub tiles_hearing_refusal :
-        Answers tiles_hearing_refusal.ended tiles_hearing_refusal.Symbol.routine tiles_hearing_refusal.spec
+        Answers tiles_hearing_refusal.ended tiles_hearing_refusal_symbol.code tiles_hearing_refusal_symbol.name (λ 𝓤 𝓛. tiles_hearing_refusal.spec 𝓛)
         Tiles.HearingRefusalOnly
     pub tiles_asking_refusal :
-        Answers tiles_asking_refusal.ended tiles_asking_refusal.Symbol.routine tiles_asking_refusal.spec
+        Answers tiles_asking_refusal.ended tiles_asking_refusal_symbol.code tiles_asking_refusal_symbol.name (λ 𝓤 𝓛. tiles_asking_refusal.spec 𝓛)
         Tiles.AskingRefusalOnly
 
 abbrev pub EveryCall : Type 2
