@@ -10,13 +10,9 @@ use Rattle.capture.proofs.write.Goals as goal
 
 pub returns : goal.returns
 returns c =
-    let p₃ = c in
-    let p₂ = p₃ in
-    let p₁ = p₂ in
-    let start = p₁ in
-    let a = start.args in
+    let a = c.args in
     let f : Frame = record { gap = a.gap; id = a.id; bytes = a.bytes } in
     let g : a.gap ≤ 65535 = omega arith in
     let eight : length a.bytes ≡ 8 = search rules in
-    let w = line_put f g eight p₁.put_decimal-gap_end.ensures p₂.put_hex-id_end.ensures p₃.put_bytes-count.ensures in
+    let w = line_put f g eight c.put_decimal-gap_end.ensures c.put_hex-id_end.ensures c.put_bytes-count.ensures in
     record { text = w.0; count = w.1 }

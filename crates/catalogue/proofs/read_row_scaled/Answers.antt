@@ -16,33 +16,29 @@ use Rattle.catalogue.proofs.read_row_scaled.Goals as goal
 pub value_in-requires : goal.value_in-requires
 unfolding field_in
 value_in-requires c =
-    let s = c in
-    let bs = s.args.bytes.now in
+    let bs = c.args.bytes.now in
     let r = c.open_row-opened in
     let row = c.in-At.row in
     let e = sym r.ensures.outcome ∙ ap told_outcome c.in-At.is in
-    let i = found_frame s.args.row s.args.id (length bs) row e in
+    let i = found_frame c.args.row c.args.id (length bs) row e in
     rw c.classify.ensures.answer (lt_of_lt_of_le (field_below row.first row.width r.result.number) (pow_mono {i = row.width} {j = 32} i.most))
 
 pub returns-in-Bad : goal.returns-in-Bad
 returns-in-Bad c =
-    let s = c in
     let why = c.in-Bad.why in
     let e = sym c.open_row-opened.ensures.outcome ∙ ap told_outcome c.in-Bad.is in
-    record { answer = scaled_none s.args.row s.args.id s.args.bytes.now (refusal_of why) e }
+    record { answer = scaled_none c.args.row c.args.id c.args.bytes.now (refusal_of why) e }
 
 pub returns-in-NoSuchRow : goal.returns-in-NoSuchRow
 returns-in-NoSuchRow c =
-    let s = c in
     let e = sym c.open_row-opened.ensures.outcome ∙ ap told_outcome c.in-NoSuchRow.is in
-    record { answer = scaled_none s.args.row s.args.id s.args.bytes.now 11 e }
+    record { answer = scaled_none c.args.row c.args.id c.args.bytes.now 11 e }
 
 pub returns-in-At : goal.returns-in-At
 returns-in-At c =
-    let s = c in
-    let bs = s.args.bytes.now in
+    let bs = c.args.bytes.now in
     let r = c.open_row-opened in
     let row = c.in-At.row in
     let e = sym r.ensures.outcome ∙ ap told_outcome c.in-At.is in
-    let f = r.ensures.number ∙ ap number_of (found_bytes s.args.row s.args.id (length bs) row e bs) in
-    record { answer = ap gives (c.value_in.ensures ∙ ap (value_of row) (c.classify.ensures.answer ∙ ap (field_in row) f)) ∙ scaled_row s.args.row s.args.id bs row e }
+    let f = r.ensures.number ∙ ap number_of (found_bytes c.args.row c.args.id (length bs) row e bs) in
+    record { answer = ap gives (c.value_in.ensures ∙ ap (value_of row) (c.classify.ensures.answer ∙ ap (field_in row) f)) ∙ scaled_row c.args.row c.args.id bs row e }

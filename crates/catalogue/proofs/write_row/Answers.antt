@@ -16,54 +16,47 @@ use Rattle.catalogue.proofs.write_row.Goals as goal
 
 pub code_of-requires : goal.code_of-requires
 code_of-requires c =
-    let s = c in
     let row = c.in-At.row in
     let e = sym c.open_row-opened.ensures.outcome ∙ ap told_outcome c.in-At.is in
-    found_frame s.args.row s.args.id (length s.args.bytes.now) row e
+    found_frame c.args.row c.args.id (length c.args.bytes.now) row e
 
 pub returns-in_default : goal.returns-in_default
 returns-in_default c =
-    let s = c in
-    let a = s.args in
+    let a = c.args in
     let e = sym c.open_row-opened.ensures.outcome ∙ ap told_outcome c.in-At.is in
     let f = sym c.code_of.ensures ∙ ap told_coded c.in_default.is in
     write_keeps a.row a.id a.bytes.now a.value NoCode 12 refl (write_uncoded a.row a.id a.bytes.now a.value c.in-At.row 12 e f)
 
 pub put-requires : goal.put-requires
 put-requires c =
-    let s = c in
-    let a = s.args in
+    let a = c.args in
     let e = sym c.open_row-opened.ensures.outcome ∙ ap told_outcome c.in-At.is in
     let f = sym c.code_of.ensures ∙ ap told_coded c.in-Code.is in
     record { in_frame = found_frame a.row a.id (length a.bytes.now) c.in-At.row e; code_bound = (code_given c.in-At.row a.value c.in-Code.code f).fits }
 
 pub store-requires : goal.store-requires
 store-requires c =
-    let s = c in
-    let a = s.args in
+    let a = c.args in
     let e = sym c.open_row-opened.ensures.outcome ∙ ap told_outcome c.in-At.is in
     (found a.row a.id (length a.bytes.now) c.in-At.row e).eight
 
 pub returns-in-Bad : goal.returns-in-Bad
 returns-in-Bad c =
-    let s = c in
-    let a = s.args in
+    let a = c.args in
     let why = c.in-Bad.why in
     let e = sym c.open_row-opened.ensures.outcome ∙ ap told_outcome c.in-Bad.is in
     write_keeps a.row a.id a.bytes.now a.value (BadFrame why) (refusal_of why) refl (write_none a.row a.id a.bytes.now a.value (refusal_of why) e)
 
 pub returns-in-NoSuchRow : goal.returns-in-NoSuchRow
 returns-in-NoSuchRow c =
-    let s = c in
-    let a = s.args in
+    let a = c.args in
     let e = sym c.open_row-opened.ensures.outcome ∙ ap told_outcome c.in-NoSuchRow.is in
     write_keeps a.row a.id a.bytes.now a.value NoSuchRow 11 refl (write_none a.row a.id a.bytes.now a.value 11 e)
 
 pub returns-in-Code : goal.returns-in-Code
 unfolding replaced
 returns-in-Code c =
-    let s = c in
-    let a = s.args in
+    let a = c.args in
     let bs = a.bytes.now in
     let r = c.open_row-opened in
     let row = c.in-At.row in

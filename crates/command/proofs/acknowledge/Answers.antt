@@ -1,6 +1,5 @@
 -- `command::acknowledge` meets its contract. Assumes nothing.
 use mathlib.Core.Path.{refl, sym, ap, ◌∙◌}
-use borrow.Author.Tests.{not-true, not-false}
 use Rattle.command.specs.Acknowledgment.{acknowledgment_frame}
 use Rattle.command.specs.declared.address.Address.{Address}
 use Rattle.claim.proofs.Calls.{sound_well}
@@ -16,62 +15,50 @@ use Rattle.command.proofs.acknowledge.Goals as goal
 
 pub returns-then-not-keeps_rules : goal.returns-then-not-keeps_rules
 returns-then-not-keeps_rules c =
-    let k = sym c.keeps_rules.ensures.answer ∙ not-true _ c.if-not-keeps_rules.true-raw in
+    let k = sym c.keeps_rules.ensures.answer ∙ c.if-not-keeps_rules.true in
     rw (acknowledged_broken _ _ k) (bare_acknowledged_lem (refused 2) BrokenState _ refl refl c.bare.ensures)
 
 pub returns-then-reply-gt-GREATEST_ADDRESS : goal.returns-then-reply-gt-GREATEST_ADDRESS
 returns-then-reply-gt-GREATEST_ADDRESS c =
-    let k = sym c.keeps_rules.ensures.answer ∙ not-false _ c.if-not-keeps_rules.false-raw in
+    let k = sym c.keeps_rules.ensures.answer ∙ c.if-not-keeps_rules.false in
     rw (acknowledged_nobody _ c.args.reply k c.if-reply-gt-GREATEST_ADDRESS.true) (bare_acknowledged_lem (refused 6) RequesterNotAllowed _ refl refl c.bare-then-reply-gt-GREATEST_ADDRESS.ensures)
 
 pub returns-then-not-holds_list : goal.returns-then-not-holds_list
 returns-then-not-holds_list c =
-    let h = c in
-    let k = sym h.keeps_rules.ensures.answer ∙ not-false _ h.if-not-keeps_rules.false-raw in
-    rw (acknowledged_ill _ h.args.reply k h.if-reply-gt-GREATEST_ADDRESS.false (sym h.holds_list.ensures.answer ∙ not-true _ c.if-not-holds_list.true-raw)) (bare_acknowledged_lem (refused 16) ListMalformed _ refl refl c.bare-then-not-holds_list.ensures)
+    let k = sym c.keeps_rules.ensures.answer ∙ c.if-not-keeps_rules.false in
+    rw (acknowledged_ill _ c.args.reply k c.if-reply-gt-GREATEST_ADDRESS.false (sym c.holds_list.ensures.answer ∙ c.if-not-holds_list.true)) (bare_acknowledged_lem (refused 16) ListMalformed _ refl refl c.bare-then-not-holds_list.ensures)
 
 pub returns-then-reply-gt-GREATEST_DGN : goal.returns-then-reply-gt-GREATEST_DGN
 returns-then-reply-gt-GREATEST_DGN c =
-    let h = c in
-    let k = sym h.keeps_rules.ensures.answer ∙ not-false _ h.if-not-keeps_rules.false-raw in
-    rw (acknowledged_large _ h.args.reply k h.if-reply-gt-GREATEST_ADDRESS.false (sym h.holds_list.ensures.answer ∙ not-false _ c.if-not-holds_list.false-raw) c.if-reply-gt-GREATEST_DGN.true) (bare_acknowledged_lem (refused 17) DgnTooLarge _ refl refl c.bare-then-reply-gt-GREATEST_DGN.ensures)
+    let k = sym c.keeps_rules.ensures.answer ∙ c.if-not-keeps_rules.false in
+    rw (acknowledged_large _ c.args.reply k c.if-reply-gt-GREATEST_ADDRESS.false (sym c.holds_list.ensures.answer ∙ c.if-not-holds_list.false) c.if-reply-gt-GREATEST_DGN.true) (bare_acknowledged_lem (refused 17) DgnTooLarge _ refl refl c.bare-then-reply-gt-GREATEST_DGN.ensures)
 
 pub stand-requires : goal.stand-requires
 stand-requires c =
-    let h = c in
-    let k = sym h.keeps_rules.ensures.answer ∙ not-false _ h.if-not-keeps_rules.false-raw in
-    let l = sym h.holds_list.ensures.answer ∙ not-false _ c.if-not-holds_list.false-raw in
+    let k = sym c.keeps_rules.ensures.answer ∙ c.if-not-keeps_rules.false in
+    let l = sym c.holds_list.ensures.answer ∙ c.if-not-holds_list.false in
     (sound_well _ k l).1
 
 pub returns-in-Held : goal.returns-in-Held
 unfolding address_held
 returns-in-Held c =
-    let s = c in
-    let d = s in
-    let h = d in
-    let a = h.args in
-    let k = sym h.keeps_rules.ensures.answer ∙ not-false _ h.if-not-keeps_rules.false-raw in
-    let l = sym h.holds_list.ensures.answer ∙ not-false _ d.if-not-holds_list.false-raw in
-    rw (acknowledged_held a.claim a.reply _ _ (sym s.stand.ensures) (ap (λ (x : Address). address_held (stand_at x)) c.in-Held.is) k h.if-reply-gt-GREATEST_ADDRESS.false l d.if-reply-gt-GREATEST_DGN.false) (formed_acknowledged (acknowledgment_frame c.in-Held.from a.reply) _ _ c.id_of.ensures c.bytes_of.ensures)
+    let a = c.args in
+    let k = sym c.keeps_rules.ensures.answer ∙ c.if-not-keeps_rules.false in
+    let l = sym c.holds_list.ensures.answer ∙ c.if-not-holds_list.false in
+    rw (acknowledged_held a.claim a.reply _ _ (sym c.stand.ensures) (ap (λ (x : Address). address_held (stand_at x)) c.in-Held.is) k c.if-reply-gt-GREATEST_ADDRESS.false l c.if-reply-gt-GREATEST_DGN.false) (formed_acknowledged (acknowledgment_frame c.in-Held.from a.reply) _ _ c.id_of.ensures c.bytes_of.ensures)
 
 pub returns-in-Claimed : goal.returns-in-Claimed
 unfolding address_held
 returns-in-Claimed c =
-    let s = c in
-    let d = s in
-    let h = d in
-    let a = h.args in
-    let k = sym h.keeps_rules.ensures.answer ∙ not-false _ h.if-not-keeps_rules.false-raw in
-    let l = sym h.holds_list.ensures.answer ∙ not-false _ d.if-not-holds_list.false-raw in
-    rw (acknowledged_unheld a.claim a.reply _ (sym s.stand.ensures) (ap (λ (x : Address). address_held (stand_at x)) c.in-Claimed.is) k h.if-reply-gt-GREATEST_ADDRESS.false l d.if-reply-gt-GREATEST_DGN.false) (bare_acknowledged_lem (refused 18) NoAddressHeld _ refl refl c.bare-in-Claimed.ensures)
+    let a = c.args in
+    let k = sym c.keeps_rules.ensures.answer ∙ c.if-not-keeps_rules.false in
+    let l = sym c.holds_list.ensures.answer ∙ c.if-not-holds_list.false in
+    rw (acknowledged_unheld a.claim a.reply _ (sym c.stand.ensures) (ap (λ (x : Address). address_held (stand_at x)) c.in-Claimed.is) k c.if-reply-gt-GREATEST_ADDRESS.false l c.if-reply-gt-GREATEST_DGN.false) (bare_acknowledged_lem (refused 18) NoAddressHeld _ refl refl c.bare-in-Claimed.ensures)
 
 pub returns-in-Nowhere : goal.returns-in-Nowhere
 unfolding address_held
 returns-in-Nowhere c =
-    let s = c in
-    let d = s in
-    let h = d in
-    let a = h.args in
-    let k = sym h.keeps_rules.ensures.answer ∙ not-false _ h.if-not-keeps_rules.false-raw in
-    let l = sym h.holds_list.ensures.answer ∙ not-false _ d.if-not-holds_list.false-raw in
-    rw (acknowledged_unheld a.claim a.reply _ (sym s.stand.ensures) (ap (λ (x : Address). address_held (stand_at x)) c.in-Nowhere.is) k h.if-reply-gt-GREATEST_ADDRESS.false l d.if-reply-gt-GREATEST_DGN.false) (bare_acknowledged_lem (refused 18) NoAddressHeld _ refl refl c.bare-in-Nowhere.ensures)
+    let a = c.args in
+    let k = sym c.keeps_rules.ensures.answer ∙ c.if-not-keeps_rules.false in
+    let l = sym c.holds_list.ensures.answer ∙ c.if-not-holds_list.false in
+    rw (acknowledged_unheld a.claim a.reply _ (sym c.stand.ensures) (ap (λ (x : Address). address_held (stand_at x)) c.in-Nowhere.is) k c.if-reply-gt-GREATEST_ADDRESS.false l c.if-reply-gt-GREATEST_DGN.false) (bare_acknowledged_lem (refused 18) NoAddressHeld _ refl refl c.bare-in-Nowhere.ensures)

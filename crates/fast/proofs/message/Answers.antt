@@ -31,12 +31,10 @@ returns-then-storage-lt-STORAGE_BYTES c = record { bytes = search tests }
 
 pub returns-in-Finished : goal.returns-in-Finished
 returns-in-Finished c =
-    let b = c in
-    record { bytes = c.part.ensures ∙ sym (rw (le-ltb _ _ b.if-storage-lt-STORAGE_BYTES.false, c.in-Finished.is)) }
+    record { bytes = c.part.ensures ∙ sym (rw (le-ltb _ _ c.if-storage-lt-STORAGE_BYTES.false, c.in-Finished.is)) }
 
 pub returns-in_default : goal.returns-in_default
 returns-in_default c =
-    let b = c in
-    let a = b.args in
+    let a = c.args in
     let u = unfinished a.storage.now a.answer c.in_default.not-Finished in
-    record { bytes = sym (rw (le-ltb _ _ b.if-storage-lt-STORAGE_BYTES.false) u) }
+    record { bytes = sym (rw (le-ltb _ _ c.if-storage-lt-STORAGE_BYTES.false) u) }

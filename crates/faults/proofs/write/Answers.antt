@@ -4,6 +4,5 @@ use Rattle.faults.proofs.write.Goals as goal
 
 pub returns : goal.returns
 returns c =
-    let w = c in
-    let a = w.args in
-    write_by a.n a.id a.bytes.now a.value _ _ _ w.nth.ensures w.write_row.ensures
+    let a = c.args in
+    write_by a.n a.id a.bytes.now a.value _ _ _ c.nth.ensures c.write_row.ensures

@@ -8,25 +8,21 @@ use Rattle.faults.proofs.write_service_point.Goals as goal
 
 pub write-requires : goal.write-requires
 write-requires c =
-    let m = c in
-    let e = ap told_service_point m.in-Is.is in
+    let e = ap told_service_point c.in-Is.is in
     record {
-      number = m.in-Is.field-0;
-      is = sym m.read_service_point-before.ensures.answer ∙ e;
+      number = c.in-Is.field-0;
+      is = sym c.read_service_point-before.ensures.answer ∙ e;
     }
 
 pub returns-in-BadFrame : goal.returns-in-BadFrame
 returns-in-BadFrame c =
-    let m = c in
-    let s = m in
-    let why = m.in-BadFrame.why in
-    let t = ap told_service_point m.in-BadFrame.is in
-    let e = sym m.read_service_point-before.ensures.answer ∙ t in
-    write_keeps s.args.id s.args.bytes.now s.args.number (BadFrame why) (refusal_of why) refl e
+    let why = c.in-BadFrame.why in
+    let t = ap told_service_point c.in-BadFrame.is in
+    let e = sym c.read_service_point-before.ensures.answer ∙ t in
+    write_keeps c.args.id c.args.bytes.now c.args.number (BadFrame why) (refusal_of why) refl e
 
 pub returns-in-NoSuchRow : goal.returns-in-NoSuchRow
 returns-in-NoSuchRow c =
-    let s = c in
     let t = ap told_service_point c.in-NoSuchRow.is in
     let e = sym c.read_service_point-before.ensures.answer ∙ t in
-    write_keeps s.args.id s.args.bytes.now s.args.number NoSuchRow 11 refl e
+    write_keeps c.args.id c.args.bytes.now c.args.number NoSuchRow 11 refl e

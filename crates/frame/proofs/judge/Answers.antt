@@ -1,6 +1,5 @@
 -- `frame::judge` meets its contract. Assumes nothing.
 use mathlib.Core.Path.{sym, ap, ◌∙◌}
-use borrow.Author.Tests.{not-true, not-false}
 use Rattle.frame.specs.declared.Parts.{Parts}
 use Rattle.frame.specs.Frame.{source_allowed, checked_of}
 use Rattle.words.proofs.Tests.{tests}
@@ -21,13 +20,11 @@ returns-then-reserved_bit-eq1 c = search (tests, ← c.reserved_bit.ensures)
 pub returns-then-not-source_allowed : goal.returns-then-not-source_allowed
 unfolding checked_of
 returns-then-not-source_allowed c =
-    let i = c in
-    let a = sym (ap (λ (p : Parts). source_allowed p.source p.dgn) i.parts_of-parts.ensures) ∙ sym c.source_allowed.ensures ∙ not-true c.source_allowed.result c.if-not-source_allowed.true-raw in
-    search (tests, ← i.reserved_bit.ensures, i.if-reserved_bit-eq1.false, a)
+    let a = sym (ap (λ (p : Parts). source_allowed p.source p.dgn) c.parts_of-parts.ensures) ∙ sym c.source_allowed.ensures ∙ c.if-not-source_allowed.true in
+    search (tests, ← c.reserved_bit.ensures, c.if-reserved_bit-eq1.false, a)
 
 pub returns : goal.returns
 unfolding checked_of
 returns c =
-    let i = c in
-    let a = sym (ap (λ (p : Parts). source_allowed p.source p.dgn) i.parts_of-parts.ensures) ∙ sym c.source_allowed.ensures ∙ not-false c.source_allowed.result c.if-not-source_allowed.false-raw in
-    search (tests, ← i.reserved_bit.ensures, i.if-reserved_bit-eq1.false, a, i.parts_of-parts.ensures)
+    let a = sym (ap (λ (p : Parts). source_allowed p.source p.dgn) c.parts_of-parts.ensures) ∙ sym c.source_allowed.ensures ∙ c.if-not-source_allowed.false in
+    search (tests, ← c.reserved_bit.ensures, c.if-reserved_bit-eq1.false, a, c.parts_of-parts.ensures)

@@ -16,9 +16,8 @@ small h = h.fits
 room : (c : goal.After-wide-b) → c.loop-i.n * 256 + c.wide-b.result < 2 ^ 64
 room c =
     let l = c.loop-i in
-    let s = c in
-    let a : AreBytes s.args.bytes = λ k. small (search rules) in
-    number_room s.args.bytes l.i l.n c.wide-b.result (omega arith) l.invariant.1 a l.invariant.2 c.wide-b.ensures.1
+    let a : AreBytes c.args.bytes = λ k. small (search rules) in
+    number_room c.args.bytes l.i l.n c.wide-b.result (omega arith) l.invariant.1 a l.invariant.2 c.wide-b.ensures.1
 
 pub loop-i-init : goal.loop-i-init
 unfolding number_of

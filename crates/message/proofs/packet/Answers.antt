@@ -8,22 +8,19 @@ use Rattle.message.proofs.packet.Goals as goal
 
 pub numbered-requires : goal.numbered-requires
 numbered-requires c =
-    let b = c in
-    let a = b.args in
-    let k = splits_given (length a.message.now) a.dgn _ (sym b.splittable.ensures ∙ ap told_splits c.in-Into.is) in
+    let a = c.args in
+    let k = splits_given (length a.message.now) a.dgn _ (sym c.splittable.ensures ∙ ap told_splits c.in-Into.is) in
     (k.counted, k.short)
 
 pub returns-in-Refused : goal.returns-in-Refused
 returns-in-Refused c =
-    let b = c in
-    let a = b.args in
-    let e = sym b.splittable.ensures ∙ ap told_splits c.in-Refused.is in
+    let a = c.args in
+    let e = sym c.splittable.ensures ∙ ap told_splits c.in-Refused.is in
     split_refused {a = Refused c.in-Refused.why}
     (packet_refused a.message.now a.dgn a.number e) c.refused.ensures
 
 pub returns-in-Into : goal.returns-in-Into
 returns-in-Into c =
-    let b = c in
-    let a = b.args in
-    let e = sym b.splittable.ensures ∙ ap told_splits c.in-Into.is in
+    let a = c.args in
+    let e = sym c.splittable.ensures ∙ ap told_splits c.in-Into.is in
     rw (packet_numbered a.message.now a.dgn a.number e) c.numbered.ensures

@@ -16,38 +16,31 @@ returns-then-out-bytes c =
 
 pub returns-then-not-fits : goal.returns-then-not-fits
 returns-then-not-fits c =
-    let f = c in
-    let a = f.args in
+    let a = c.args in
     let bytes = a.bytes.now in
-    let h = no_room (length a.out.now) a.at (length a.key.now + 2 * length bytes) f.fits.ensures
+    let h = no_room (length a.out.now) a.at (length a.key.now + 2 * length bytes) c.fits.ensures
     c.if-not-fits.true-raw in
     keyed_none a.at (2 * length bytes) a.key.now (byte_pairs bytes) (sym (length_pairs bytes)) h
 
 pub put_word-from-requires : goal.put_word-from-requires
 put_word-from-requires c =
-    let f = c in
-    let a = f.args in
+    let a = c.args in
     let h = has_room (length a.out.now) a.at (length a.key.now + 2 * length a.bytes.now)
-    f.fits.ensures c.if-not-fits.false-raw in
+    c.fits.ensures c.if-not-fits.false-raw in
     omega arith
 
 pub put_pairs-requires : goal.put_pairs-requires
 put_pairs-requires c =
-    let p = c in
-    let f = p in
-    let a = f.args in
+    let a = c.args in
     let h = has_room (length a.out.now) a.at (length a.key.now + 2 * length a.bytes.now)
-    f.fits.ensures p.if-not-fits.false-raw in
+    c.fits.ensures c.if-not-fits.false-raw in
     omega arith
 
 pub returns : goal.returns
 returns c =
-    let q = c in
-    let p = q in
-    let f = p in
-    let a = f.args in
+    let a = c.args in
     let bytes = a.bytes.now in
-    let h = has_room (length a.out.now) a.at (length a.key.now + 2 * length bytes) f.fits.ensures
-    p.if-not-fits.false-raw in
+    let h = has_room (length a.out.now) a.at (length a.key.now + 2 * length bytes) c.fits.ensures
+    c.if-not-fits.false-raw in
     keyed_fits a.at (2 * length bytes) a.key.now (byte_pairs bytes) (sym (length_pairs bytes)) h
-    p.put_word-from.ensures.0 p.put_word-from.ensures.1 q.put_pairs.ensures.0 (omega arith)
+    c.put_word-from.ensures.0 c.put_word-from.ensures.1 c.put_pairs.ensures.0 (omega arith)

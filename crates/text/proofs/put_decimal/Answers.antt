@@ -17,42 +17,35 @@ overflow_add-key c =
 
 pub returns-then-not-fits : goal.returns-then-not-fits
 returns-then-not-fits c =
-    let f = c in
-    let w = f.decimal_width-width in
-    let a = f.args in
-    let h = no_room (length a.out.now) a.at (length a.key.now + w.result) f.fits.ensures
+    let w = c.decimal_width-width in
+    let a = c.args in
+    let h = no_room (length a.out.now) a.at (length a.key.now + w.result) c.fits.ensures
     c.if-not-fits.true-raw in
     keyed_none a.at w.result a.key.now (decimal a.number)
     (w.ensures.width ∙ sym (length_decimal a.number)) h
 
 pub put_word-from-requires : goal.put_word-from-requires
 put_word-from-requires c =
-    let f = c in
-    let a = f.args in
-    let h = has_room (length a.out.now) a.at (length a.key.now + f.decimal_width-width.result)
-    f.fits.ensures c.if-not-fits.false-raw in
+    let a = c.args in
+    let h = has_room (length a.out.now) a.at (length a.key.now + c.decimal_width-width.result)
+    c.fits.ensures c.if-not-fits.false-raw in
     omega arith
 
 pub put_digits-requires : goal.put_digits-requires
 put_digits-requires c =
-    let p = c in
-    let f = p in
-    let a = f.args in
-    let h = has_room (length a.out.now) a.at (length a.key.now + f.decimal_width-width.result)
-    f.fits.ensures p.if-not-fits.false-raw in
+    let a = c.args in
+    let h = has_room (length a.out.now) a.at (length a.key.now + c.decimal_width-width.result)
+    c.fits.ensures c.if-not-fits.false-raw in
     (omega arith, omega arith, omega arith)
 
 pub returns : goal.returns
 unfolding decimal
 returns c =
-    let q = c in
-    let p = q in
-    let f = p in
-    let w = f.decimal_width-width in
-    let a = f.args in
-    let h = has_room (length a.out.now) a.at (length a.key.now + w.result) f.fits.ensures
-    p.if-not-fits.false-raw in
+    let w = c.decimal_width-width in
+    let a = c.args in
+    let h = has_room (length a.out.now) a.at (length a.key.now + w.result) c.fits.ensures
+    c.if-not-fits.false-raw in
     keyed_fits a.at w.result a.key.now (decimal a.number)
     (w.ensures.width ∙ sym (length_decimal a.number)) h
-    p.put_word-from.ensures.0 p.put_word-from.ensures.1 (rw (← w.ensures.width) q.put_digits.ensures.0)
-    q.put_digits.ensures.1
+    c.put_word-from.ensures.0 c.put_word-from.ensures.1 (rw (← w.ensures.width) c.put_digits.ensures.0)
+    c.put_digits.ensures.1

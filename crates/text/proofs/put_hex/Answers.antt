@@ -16,38 +16,31 @@ returns-then-out-count c =
 
 pub returns-then-not-fits : goal.returns-then-not-fits
 returns-then-not-fits c =
-    let f = c in
-    let a = f.args in
-    let h = no_room (length a.out.now) a.at (length a.key.now + a.count) f.fits.ensures
+    let a = c.args in
+    let h = no_room (length a.out.now) a.at (length a.key.now + a.count) c.fits.ensures
     c.if-not-fits.true-raw in
     keyed_none a.at a.count a.key.now (digits 16 a.count a.number)
     (sym (length_digits 16 a.count a.number)) h
 
 pub put_word-from-requires : goal.put_word-from-requires
 put_word-from-requires c =
-    let f = c in
-    let a = f.args in
-    let h = has_room (length a.out.now) a.at (length a.key.now + a.count) f.fits.ensures
+    let a = c.args in
+    let h = has_room (length a.out.now) a.at (length a.key.now + a.count) c.fits.ensures
     c.if-not-fits.false-raw in
     omega arith
 
 pub put_digits-requires : goal.put_digits-requires
 put_digits-requires c =
-    let p = c in
-    let f = p in
-    let a = f.args in
-    let h = has_room (length a.out.now) a.at (length a.key.now + a.count) f.fits.ensures
-    p.if-not-fits.false-raw in
+    let a = c.args in
+    let h = has_room (length a.out.now) a.at (length a.key.now + a.count) c.fits.ensures
+    c.if-not-fits.false-raw in
     (omega arith, omega arith, omega arith)
 
 pub returns : goal.returns
 returns c =
-    let q = c in
-    let p = q in
-    let f = p in
-    let a = f.args in
-    let h = has_room (length a.out.now) a.at (length a.key.now + a.count) f.fits.ensures
-    p.if-not-fits.false-raw in
+    let a = c.args in
+    let h = has_room (length a.out.now) a.at (length a.key.now + a.count) c.fits.ensures
+    c.if-not-fits.false-raw in
     let n = sym (length_digits 16 a.count a.number) in
     keyed_fits a.at a.count a.key.now (digits 16 a.count a.number) n h
-    p.put_word-from.ensures.0 p.put_word-from.ensures.1 q.put_digits.ensures.0 q.put_digits.ensures.1
+    c.put_word-from.ensures.0 c.put_word-from.ensures.1 c.put_digits.ensures.0 c.put_digits.ensures.1

@@ -16,11 +16,9 @@ returns-then-too_long c = search (tests, sym c.too_long.ensures ∙ c.if-too_lon
 pub returns : goal.returns
 unfolding carried_on
 returns c =
-    let p = c in
-    let t = p in
-    let a = t.args in
-    let e = sym t.too_long.ensures ∙ p.if-too_long.false in
+    let a = c.args in
+    let e = sym c.too_long.ensures ∙ c.if-too_long.false in
     let h = not_too_long a.cutter.length (length a.part.now) e in
     let l : length a.cutter.carry ≡ 80 = search rules in
-    let w = put_placed p.put-end.ensures (omega arith) in
+    let w = put_placed c.put-end.ensures (omega arith) in
     rw (e, w.0, w.1)

@@ -17,18 +17,16 @@ pub returns-in_default : goal.returns-in_default
 returns-in_default c =
     let l = c.loop-i in
     let p = c.args.part.now in
-    let n = c in
     let w : 2 * l.i + 2 - 2 * l.i ≡ 2 = omega arith in
-    let e : number_read 16 (take 2 (drop (2 * l.i) p)) ≡ refused 19 = ap (λ (k : ℕ). number_read 16 (take k (drop (2 * l.i) p))) (sym w) ∙ sym n.number.ensures ∙ ap told_spelled c.in_default.is in
+    let e : number_read 16 (take 2 (drop (2 * l.i) p)) ≡ refused 19 = ap (λ (k : ℕ). number_read 16 (take k (drop (2 * l.i) p))) (sym w) ∙ sym c.number.ensures ∙ ap told_spelled c.in_default.is in
     sym (l.invariant.3 ∙ pairs_stop p l.bytes l.i 19 (omega arith) e)
 
 pub overflow_cast-bytes : goal.overflow_cast-bytes
 overflow_cast-bytes c =
     let l = c.loop-i in
     let p = c.args.part.now in
-    let n = c in
     let w : 2 * l.i + 2 - 2 * l.i ≡ 2 = omega arith in
-    let e : number_read 16 (take 2 (drop (2 * l.i) p)) ≡ gives c.in-Number.n = ap (λ (k : ℕ). number_read 16 (take k (drop (2 * l.i) p))) (sym w) ∙ sym n.number.ensures ∙ ap told_spelled c.in-Number.is in
+    let e : number_read 16 (take 2 (drop (2 * l.i) p)) ≡ gives c.in-Number.n = ap (λ (k : ℕ). number_read 16 (take k (drop (2 * l.i) p))) (sym w) ∙ sym c.number.ensures ∙ ap told_spelled c.in-Number.is in
     let h = pair_below (drop (2 * l.i) p) c.in-Number.n e in
     search rules
 
@@ -36,9 +34,8 @@ pub loop-i-preserved : goal.loop-i-preserved
 loop-i-preserved c =
     let l = c.loop-i in
     let p = c.args.part.now in
-    let n = c in
     let w : 2 * l.i + 2 - 2 * l.i ≡ 2 = omega arith in
-    let e : number_read 16 (take 2 (drop (2 * l.i) p)) ≡ gives c.in-Number.n = ap (λ (k : ℕ). number_read 16 (take k (drop (2 * l.i) p))) (sym w) ∙ sym n.number.ensures ∙ ap told_spelled c.in-Number.is in
+    let e : number_read 16 (take 2 (drop (2 * l.i) p)) ≡ gives c.in-Number.n = ap (λ (k : ℕ). number_read 16 (take k (drop (2 * l.i) p))) (sym w) ∙ sym c.number.ensures ∙ ap told_spelled c.in-Number.is in
     (omega arith, l.invariant.1, simp length-set l.invariant.2, l.invariant.3 ∙ pairs_pass p l.bytes l.i c.in-Number.n (omega arith) l.invariant.2 e)
 
 pub returns : goal.returns

@@ -1,7 +1,7 @@
 -- `capture::spelling::has_shape` meets its contract. Assumes nothing.
 use mathlib.Core.Path.{sym, ◌∙◌}
 use native.Mathlib.Omega.{arith}
-use borrow.Author.Tests.{le-leb, not-true, not-false}
+use borrow.Author.Tests.{le-leb}
 use lib.ListN.{length}
 use Rattle.capture.specs.Line.{has_shape}
 use Rattle.words.proofs.Tests.{tests}
@@ -17,21 +17,17 @@ returns-then-line-gt-TEXT_BYTES c = search tests
 
 pub returns-then-not-begins : goal.returns-then-not-begins
 unfolding has_shape
-returns-then-not-begins c = search (tests, sym c.begins.ensures ∙ not-true c.begins.result c.if-not-begins.true-raw)
+returns-then-not-begins c = search (tests, sym c.begins.ensures ∙ c.if-not-begins.true)
 
 pub returns-then-not-begins-2 : goal.returns-then-not-begins-2
 unfolding has_shape
 returns-then-not-begins-2 c =
-    let b₁ = c in
-    search (tests, sym b₁.begins.ensures ∙ not-false b₁.begins.result c.if-not-begins.false-raw, sym c.begins-2.ensures ∙ not-true c.begins-2.result c.if-not-begins-2.true-raw)
+    search (tests, sym c.begins.ensures ∙ c.if-not-begins.false, sym c.begins-2.ensures ∙ c.if-not-begins-2.true)
 
 pub returns : goal.returns
 unfolding has_shape
 returns c =
-    let b₂ = c in
-    let b₁ = b₂ in
-    let s = b₁ in
-    let line = s.args.line.now in
-    let e₁ = sym b₁.begins.ensures ∙ not-false b₁.begins.result b₂.if-not-begins.false-raw in
-    let e₂ = sym b₂.begins-2.ensures ∙ not-false b₂.begins-2.result c.if-not-begins-2.false-raw in
+    let line = c.args.line.now in
+    let e₁ = sym c.begins.ensures ∙ c.if-not-begins.false in
+    let e₂ = sym c.begins-2.ensures ∙ c.if-not-begins-2.false in
     c.begins-3.ensures ∙ rw (le-leb 39 (length line) (omega arith), le-leb (length line) 43 (omega arith), e₁, e₂)

@@ -12,44 +12,38 @@ use Rattle.catalogue.proofs.scale.scaled_code.Goals as goal
 
 pub overflow_add-steps : goal.overflow_add-steps
 overflow_add-steps c =
-    let s = c in
-    let a = s.args in
+    let a = c.args in
     let n = c.in-From.n in
-    let e : sign_of a.value ≡ From n = ap sign_of (sym (to_z-of_z w64 a.value s.ranges.value)) ∙ sym c.sign_of-sign.ensures ∙ c.in-From.is in
-    let h = from_small a.value n s.ranges.value e in
+    let e : sign_of a.value ≡ From n = ap sign_of (sym (to_z-of_z w64 a.value c.ranges.value)) ∙ sym c.sign_of-sign.ensures ∙ c.in-From.is in
+    let h = from_small a.value n c.ranges.value e in
     let l = steps_small a.row.unit a.row.width in
     rw c.steps_of-steps.ensures (omega arith)
 
 pub stepped_code-requires : goal.stepped_code-requires
 stepped_code-requires c =
-    let s = c in
-    record { in_frame = s.requires; step_nonzero = rw c.steps_of-steps.ensures (steps_small s.args.row.unit s.args.row.width).some }
+    record { in_frame = c.requires; step_nonzero = rw c.steps_of-steps.ensures (steps_small c.args.row.unit c.args.row.width).some }
 
 pub returns-then-steps-n : goal.returns-then-steps-n
 returns-then-steps-n c =
-    let s = c in
-    let a = s.args in
+    let a = c.args in
     let n = c.in-Below.n in
-    let e : sign_of a.value ≡ Below n = ap sign_of (sym (to_z-of_z w64 a.value s.ranges.value)) ∙ sym c.sign_of-sign.ensures ∙ c.in-Below.is in
+    let e : sign_of a.value ≡ Below n = ap sign_of (sym (to_z-of_z w64 a.value c.ranges.value)) ∙ sym c.sign_of-sign.ensures ∙ c.in-Below.is in
     rw (scaled_raised a.row a.value, e, ← c.steps_of-steps.ensures, le-leb _ _ c.if-steps-n.true)
 
 pub stepped_code-requires-in-Below : goal.stepped_code-requires-in-Below
 stepped_code-requires-in-Below c =
-    let s = c in
-    record { in_frame = s.requires; step_nonzero = rw c.steps_of-steps.ensures (steps_small s.args.row.unit s.args.row.width).some }
+    record { in_frame = c.requires; step_nonzero = rw c.steps_of-steps.ensures (steps_small c.args.row.unit c.args.row.width).some }
 
 pub returns-in-From : goal.returns-in-From
 returns-in-From c =
-    let s = c in
-    let a = s.args in
+    let a = c.args in
     let n = c.in-From.n in
-    let e : sign_of a.value ≡ From n = ap sign_of (sym (to_z-of_z w64 a.value s.ranges.value)) ∙ sym c.sign_of-sign.ensures ∙ c.in-From.is in
+    let e : sign_of a.value ≡ From n = ap sign_of (sym (to_z-of_z w64 a.value c.ranges.value)) ∙ sym c.sign_of-sign.ensures ∙ c.in-From.is in
     rw (scaled_raised a.row a.value, e, ← c.steps_of-steps.ensures) c.stepped_code.ensures
 
 pub returns-else-steps-n : goal.returns-else-steps-n
 returns-else-steps-n c =
-    let s = c in
-    let a = s.args in
+    let a = c.args in
     let n = c.in-Below.n in
-    let e : sign_of a.value ≡ Below n = ap sign_of (sym (to_z-of_z w64 a.value s.ranges.value)) ∙ sym c.sign_of-sign.ensures ∙ c.in-Below.is in
+    let e : sign_of a.value ≡ Below n = ap sign_of (sym (to_z-of_z w64 a.value c.ranges.value)) ∙ sym c.sign_of-sign.ensures ∙ c.in-Below.is in
     rw (scaled_raised a.row a.value, e, ← c.steps_of-steps.ensures, lt-leb _ _ c.if-steps-n.false) c.stepped_code-in-Below.ensures

@@ -15,14 +15,14 @@ pub returns-then-not-absent : goal.returns-then-not-absent
 returns-then-not-absent c =
     let l = c.loop-i in
     let h : l.i < length c.args.list.now = omega arith in
-    let a = sym c.absent.ensures ∙ not-true _ c.if-not-absent.true-raw in
+    let a = sym c.absent.ensures ∙ c.if-not-absent.true in
     sym (l.invariant.1 ∙ no_two_stop _ _ _ 0 h (not-false _ a))
 
 pub loop-i-preserved : goal.loop-i-preserved
 loop-i-preserved c =
     let l = c.loop-i in
     let h : l.i < length c.args.list.now = omega arith in
-    let a = sym c.absent.ensures ∙ not-false _ c.if-not-absent.false-raw in
+    let a = sym c.absent.ensures ∙ c.if-not-absent.false in
     (search rules, l.invariant.1 ∙ no_two_pass _ _ _ 0 h (not-true _ a))
 
 pub returns : goal.returns

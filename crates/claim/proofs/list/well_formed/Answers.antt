@@ -1,7 +1,6 @@
 -- `claim::list::well_formed` meets its contract. Assumes nothing.
 use mathlib.Core.Bool.{true, false}
 use mathlib.Core.Path.{◌≡◌, sym, ◌∙◌}
-use borrow.Author.Tests.{not-true, not-false}
 use Rattle.words.specs.Lists.{every}
 use Rattle.claim.specs.Candidates.{is_address, is_well_formed}
 use Rattle.words.proofs.Tests.{tests}
@@ -19,7 +18,7 @@ pub returns-then-not-addresses : goal.returns-then-not-addresses
 unfolding is_well_formed
 returns-then-not-addresses c =
     let l = c.args.list.now in
-    let e : every is_address l ≡ false = sym c.addresses.ensures ∙ not-true _ c.if-not-addresses.true-raw in
+    let e : every is_address l ≡ false = sym c.addresses.ensures ∙ c.if-not-addresses.true in
     search (tests, e)
 
 pub returns : goal.returns
@@ -27,5 +26,5 @@ unfolding is_well_formed
 returns c =
     let l = c.args.list.now in
     let k = c.addresses.ensures in
-    let e : every is_address l ≡ true = sym k ∙ not-false _ c.if-not-addresses.false-raw in
+    let e : every is_address l ≡ true = sym k ∙ c.if-not-addresses.false in
     c.distinct.ensures ∙ search (tests, e)

@@ -7,25 +7,20 @@ use Rattle.command.proofs.address.stand.Goals as goal
 
 pub returns-in-Held : goal.returns-in-Held
 returns-in-Held c =
-    let s = c in
-    gives_same (sym (ap told_standing c.in-Held.is) ∙ sound_stands _ s.stands.result s.requires s.stands.ensures.answer)
+    gives_same (sym (ap told_standing c.in-Held.is) ∙ sound_stands _ c.stands.result c.requires c.stands.ensures.answer)
 
 pub returns-in-Claiming : goal.returns-in-Claiming
 returns-in-Claiming c =
-    let s = c in
-    gives_same (sym (ap told_standing c.in-Claiming.is) ∙ sound_stands _ s.stands.result s.requires s.stands.ensures.answer)
+    gives_same (sym (ap told_standing c.in-Claiming.is) ∙ sound_stands _ c.stands.result c.requires c.stands.ensures.answer)
 
 pub returns-in-Silent : goal.returns-in-Silent
 returns-in-Silent c =
-    let s = c in
-    gives_same (sym (ap told_standing c.in-Silent.is) ∙ sound_stands _ s.stands.result s.requires s.stands.ensures.answer)
+    gives_same (sym (ap told_standing c.in-Silent.is) ∙ sound_stands _ c.stands.result c.requires c.stands.ensures.answer)
 
 pub returns-in-BrokenState : goal.returns-in-BrokenState
 returns-in-BrokenState c =
-    let s = c in
-    refused_gives (sym (ap told_standing c.in-BrokenState.is) ∙ sound_stands _ s.stands.result s.requires s.stands.ensures.answer)
+    refused_gives (sym (ap told_standing c.in-BrokenState.is) ∙ sound_stands _ c.stands.result c.requires c.stands.ensures.answer)
 
 pub returns-in-ListMalformed : goal.returns-in-ListMalformed
 returns-in-ListMalformed c =
-    let s = c in
-    refused_gives (sym (ap told_standing c.in-ListMalformed.is) ∙ sound_stands _ s.stands.result s.requires s.stands.ensures.answer)
+    refused_gives (sym (ap told_standing c.in-ListMalformed.is) ∙ sound_stands _ c.stands.result c.requires c.stands.ensures.answer)

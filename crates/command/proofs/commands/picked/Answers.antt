@@ -12,14 +12,12 @@ use Rattle.command.proofs.commands.picked.Goals as goal
 
 pub returns-then-is_elsewhere : goal.returns-then-is_elsewhere
 returns-then-is_elsewhere c =
-    let e = c in
-    let a = e.args in
-    let x = sym (ap (λ (d : Destination). is_elsewhere d a.address) e.destination_of.ensures.answer) ∙ sym e.is_elsewhere.ensures ∙ c.if-is_elsewhere.true in
+    let a = c.args in
+    let x = sym (ap (λ (d : Destination). is_elsewhere d a.address) c.destination_of.ensures.answer) ∙ sym c.is_elsewhere.ensures ∙ c.if-is_elsewhere.true in
     rw x (bare_routed_lem (gives nothing_to_do) NothingToDo _ refl refl c.bare.ensures)
 
 pub returns : goal.returns
 returns c =
-    let e = c in
-    let a = e.args in
-    let x = sym (ap (λ (d : Destination). is_elsewhere d a.address) e.destination_of.ensures.answer) ∙ sym e.is_elsewhere.ensures ∙ c.if-is_elsewhere.false in
+    let a = c.args in
+    let x = sym (ap (λ (d : Destination). is_elsewhere d a.address) c.destination_of.ensures.answer) ∙ sym c.is_elsewhere.ensures ∙ c.if-is_elsewhere.false in
     rw x (picked_routed _ _ (c.pick.ensures ∙ ap (λ (f : ℕ). filled (positions_where (is_meant f a.instance) (hosted a.host))) c.catalogue_form-form.ensures.answer))

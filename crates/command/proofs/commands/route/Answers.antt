@@ -13,37 +13,26 @@ use Rattle.command.proofs.commands.route.Goals as goal
 
 pub returns-then-of_dgn-eq0 : goal.returns-then-of_dgn-eq0
 returns-then-of_dgn-eq0 c =
-    let p = c in
-    let f = p in
-    let a = f.args in
-    let n = none_picked (has_command f.catalogue_form-form.result) (hosted a.host) _ p.pick-of_dgn.ensures c.if-of_dgn-eq0.true in
-    rw (route_other a.dgn a.instance (hosted a.host) _ _ f.catalogue_form-form.ensures.answer n) (bare_routed_lem (gives nothing_to_do) NothingToDo _ refl refl c.bare.ensures)
+    let a = c.args in
+    let n = none_picked (has_command c.catalogue_form-form.result) (hosted a.host) _ c.pick-of_dgn.ensures c.if-of_dgn-eq0.true in
+    rw (route_other a.dgn a.instance (hosted a.host) _ _ c.catalogue_form-form.ensures.answer n) (bare_routed_lem (gives nothing_to_do) NothingToDo _ refl refl c.bare.ensures)
 
 pub returns-in-Held : goal.returns-in-Held
 returns-in-Held c =
-    let i = c in
-    let p = i in
-    let f = p in
-    let a = f.args in
-    let n = some_picked (has_command f.catalogue_form-form.result) (hosted a.host) _ p.pick-of_dgn.ensures i.if-of_dgn-eq0.false in
-    rw (route_held a.dgn a.instance (hosted a.host) _ _ _ f.catalogue_form-form.ensures.answer n (ap stand_at c.in-Held.is)) c.picked.ensures
+    let a = c.args in
+    let n = some_picked (has_command c.catalogue_form-form.result) (hosted a.host) _ c.pick-of_dgn.ensures c.if-of_dgn-eq0.false in
+    rw (route_held a.dgn a.instance (hosted a.host) _ _ _ c.catalogue_form-form.ensures.answer n (ap stand_at c.in-Held.is)) c.picked.ensures
 
 pub returns-in-Claimed : goal.returns-in-Claimed
 unfolding address_held
 returns-in-Claimed c =
-    let i = c in
-    let p = i in
-    let f = p in
-    let a = f.args in
-    let n = some_picked (has_command f.catalogue_form-form.result) (hosted a.host) _ p.pick-of_dgn.ensures i.if-of_dgn-eq0.false in
-    rw (route_unheld a.dgn a.instance (hosted a.host) _ _ f.catalogue_form-form.ensures.answer n (ap (λ (x : Address). address_held (stand_at x)) c.in-Claimed.is)) (bare_routed_lem (refused 18) NoAddressHeld _ refl refl c.bare-in-Claimed.ensures)
+    let a = c.args in
+    let n = some_picked (has_command c.catalogue_form-form.result) (hosted a.host) _ c.pick-of_dgn.ensures c.if-of_dgn-eq0.false in
+    rw (route_unheld a.dgn a.instance (hosted a.host) _ _ c.catalogue_form-form.ensures.answer n (ap (λ (x : Address). address_held (stand_at x)) c.in-Claimed.is)) (bare_routed_lem (refused 18) NoAddressHeld _ refl refl c.bare-in-Claimed.ensures)
 
 pub returns-in-Nowhere : goal.returns-in-Nowhere
 unfolding address_held
 returns-in-Nowhere c =
-    let i = c in
-    let p = i in
-    let f = p in
-    let a = f.args in
-    let n = some_picked (has_command f.catalogue_form-form.result) (hosted a.host) _ p.pick-of_dgn.ensures i.if-of_dgn-eq0.false in
-    rw (route_unheld a.dgn a.instance (hosted a.host) _ _ f.catalogue_form-form.ensures.answer n (ap (λ (x : Address). address_held (stand_at x)) c.in-Nowhere.is)) (bare_routed_lem (refused 18) NoAddressHeld _ refl refl c.bare-in-Nowhere.ensures)
+    let a = c.args in
+    let n = some_picked (has_command c.catalogue_form-form.result) (hosted a.host) _ c.pick-of_dgn.ensures c.if-of_dgn-eq0.false in
+    rw (route_unheld a.dgn a.instance (hosted a.host) _ _ c.catalogue_form-form.ensures.answer n (ap (λ (x : Address). address_held (stand_at x)) c.in-Nowhere.is)) (bare_routed_lem (refused 18) NoAddressHeld _ refl refl c.bare-in-Nowhere.ensures)

@@ -1,23 +1,20 @@
 -- `command::handed::hand_in` meets its contract. Assumes nothing.
 use mathlib.Core.Path.{refl, sym, ◌∙◌}
-use borrow.Author.Tests.{not-true, not-false}
 use Rattle.command.specs.declared.handed.Handing.TheVariants.{BrokenState, BadFrame}
 use Rattle.command.proofs.Handing.{bare_handed, handed_broken, handed_bad, handed_sound}
 use Rattle.command.proofs.handed.hand_in.Goals as goal
 
 pub returns-then-not-keeps_rules : goal.returns-then-not-keeps_rules
 returns-then-not-keeps_rules c =
-    let k = sym c.keeps_rules.ensures.answer ∙ not-true _ c.if-not-keeps_rules.true-raw in
+    let k = sym c.keeps_rules.ensures.answer ∙ c.if-not-keeps_rules.true in
     rw (handed_broken _ _ _ _ k) (bare_handed 2 _ BrokenState _ refl c.bare.ensures)
 
 pub returns-in-Bad : goal.returns-in-Bad
 returns-in-Bad c =
-    let q = c in
-    let k = sym q.keeps_rules.ensures.answer ∙ not-false _ q.if-not-keeps_rules.false-raw in
-    rw (handed_bad _ _ _ _ _ _ k q.check-checked.ensures.answer c.in-Bad.is) (bare_handed _ _ (BadFrame c.in-Bad.why) _ refl c.bare-in-Bad.ensures)
+    let k = sym c.keeps_rules.ensures.answer ∙ c.if-not-keeps_rules.false in
+    rw (handed_bad _ _ _ _ _ _ k c.check-checked.ensures.answer c.in-Bad.is) (bare_handed _ _ (BadFrame c.in-Bad.why) _ refl c.bare-in-Bad.ensures)
 
 pub returns-in-Sound : goal.returns-in-Sound
 returns-in-Sound c =
-    let q = c in
-    let k = sym q.keeps_rules.ensures.answer ∙ not-false _ q.if-not-keeps_rules.false-raw in
-    handed_sound _ _ _ _ _ _ _ _ k q.check-checked.ensures.answer c.in-Sound.is q.check-checked.ensures.data_bytes c.lists.ensures
+    let k = sym c.keeps_rules.ensures.answer ∙ c.if-not-keeps_rules.false in
+    handed_sound _ _ _ _ _ _ _ _ k c.check-checked.ensures.answer c.in-Sound.is c.check-checked.ensures.data_bytes c.lists.ensures

@@ -2,7 +2,6 @@
 use mathlib.Core.Path.{refl, sym, ap, ◌∙◌}
 use Prim.Native.Nat.{◌<◌}
 use native.Mathlib.Omega.{arith}
-use borrow.Author.Tests.{not-true, not-false}
 use borrow.Author.Rules.{rules}
 use lib.Seq.{get_or-take, length-take-le}
 use Rattle.words.proofs.Lists.{length_field, every_pass, every_stop, every_end}
@@ -18,7 +17,7 @@ returns-then-not-is_entry c =
     let h = c.args.host in
     let i : l.i < h.count = omega arith in
     let n = length-take-le h.count h.entries (omega arith) in
-    sym (l.invariant.3 ∙ every_stop is_entry (hosted h) l.i blank_entry (omega arith) (ap is_entry (get_or-take h.count h.entries l.i blank_entry i) ∙ sym c.is_entry.ensures ∙ not-true _ c.if-not-is_entry.true-raw))
+    sym (l.invariant.3 ∙ every_stop is_entry (hosted h) l.i blank_entry (omega arith) (ap is_entry (get_or-take h.count h.entries l.i blank_entry i) ∙ sym c.is_entry.ensures ∙ c.if-not-is_entry.true))
 
 pub loop-i-preserved : goal.loop-i-preserved
 loop-i-preserved c =
@@ -26,7 +25,7 @@ loop-i-preserved c =
     let h = c.args.host in
     let i : l.i < h.count = omega arith in
     let n = length-take-le h.count h.entries (omega arith) in
-    (search rules, l.invariant.1, l.invariant.2, l.invariant.3 ∙ every_pass is_entry (hosted h) l.i blank_entry (omega arith) (ap is_entry (get_or-take h.count h.entries l.i blank_entry i) ∙ sym c.is_entry.ensures ∙ not-false _ c.if-not-is_entry.false-raw))
+    (search rules, l.invariant.1, l.invariant.2, l.invariant.3 ∙ every_pass is_entry (hosted h) l.i blank_entry (omega arith) (ap is_entry (get_or-take h.count h.entries l.i blank_entry i) ∙ sym c.is_entry.ensures ∙ c.if-not-is_entry.false))
 
 pub returns : goal.returns
 returns c =

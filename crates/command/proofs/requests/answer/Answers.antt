@@ -14,14 +14,12 @@ returns-then-catalogue_form-ne-REQUEST c =
 
 pub returns-then-asked-gt-GREATEST_DGN : goal.returns-then-asked-gt-GREATEST_DGN
 returns-then-asked-gt-GREATEST_DGN c =
-    let d = c in
-    let a = d.args in
-    let f = d.catalogue_form.ensures.answer in
-    rw (answer_large a.host.edition a.parts _ _ _ _ (sym f ∙ d.if-catalogue_form-ne-REQUEST.false) d.asked_of-asked.ensures c.if-asked-gt-GREATEST_DGN.true) (bare_requested_lem (refused 17) DgnTooLarge _ refl refl refl c.bare-then-asked-gt-GREATEST_DGN.ensures)
+    let a = c.args in
+    let f = c.catalogue_form.ensures.answer in
+    rw (answer_large a.host.edition a.parts _ _ _ _ (sym f ∙ c.if-catalogue_form-ne-REQUEST.false) c.asked_of-asked.ensures c.if-asked-gt-GREATEST_DGN.true) (bare_requested_lem (refused 17) DgnTooLarge _ refl refl refl c.bare-then-asked-gt-GREATEST_DGN.ensures)
 
 pub returns : goal.returns
 returns c =
-    let d = c in
-    let a = d.args in
-    let f = d.catalogue_form.ensures.answer in
-    rw (answer_reply a.host.edition a.parts _ _ _ _ (sym f ∙ d.if-catalogue_form-ne-REQUEST.false) d.asked_of-asked.ensures c.if-asked-gt-GREATEST_DGN.false) c.reply.ensures
+    let a = c.args in
+    let f = c.catalogue_form.ensures.answer in
+    rw (answer_reply a.host.edition a.parts _ _ _ _ (sym f ∙ c.if-catalogue_form-ne-REQUEST.false) c.asked_of-asked.ensures c.if-asked-gt-GREATEST_DGN.false) c.reply.ensures

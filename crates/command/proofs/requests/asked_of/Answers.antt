@@ -4,6 +4,5 @@ use Rattle.command.proofs.requests.asked_of.Goals as goal
 
 pub returns : goal.returns
 returns c =
-    let d = c in
-    let a = d.args in
-    asked_read a.edition a.parts a.bytes _ _ d.dgn_of-dgn.ensures.answer c.instance_asked-instance.ensures
+    let a = c.args in
+    asked_read a.edition a.parts a.bytes _ _ c.dgn_of-dgn.ensures.answer c.instance_asked-instance.ensures

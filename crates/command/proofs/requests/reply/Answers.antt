@@ -1,6 +1,5 @@
 -- `command::requests::reply` meets its contract. Assumes nothing.
 use mathlib.Core.Path.{refl, sym, ap, ◌∙◌}
-use borrow.Author.Tests.{not-true, not-false}
 use Rattle.command.specs.declared.Requesting.TheVariants.{NothingToDo, NoAddressHeld}
 use Rattle.command.specs.declared.address.Address.{Address}
 use Rattle.command.specs.Private.{asked_by, stand_at}
@@ -12,36 +11,28 @@ use Rattle.command.proofs.requests.reply.Goals as goal
 
 pub returns-then-not-is_ours : goal.returns-then-not-is_ours
 returns-then-not-is_ours c =
-    let o = c in
-    let a = o.args in
-    rw (reply_elsewhere (asked_by a.asked) _ a.claim _ o.stand-address.ensures (sym o.is_ours.ensures ∙ not-true _ c.if-not-is_ours.true-raw)) (bare_requested_lem (gives nothing_to_do) NothingToDo _ refl refl refl c.bare.ensures)
+    let a = c.args in
+    rw (reply_elsewhere (asked_by a.asked) _ a.claim _ c.stand-address.ensures (sym c.is_ours.ensures ∙ c.if-not-is_ours.true)) (bare_requested_lem (gives nothing_to_do) NothingToDo _ refl refl refl c.bare.ensures)
 
 pub returns-then-asked-eq-ADDRESS_CLAIMED : goal.returns-then-asked-eq-ADDRESS_CLAIMED
 returns-then-asked-eq-ADDRESS_CLAIMED c =
-    let o = c in
-    let a = o.args in
-    rw (reply_claims (asked_by a.asked) _ a.claim _ o.stand-address.ensures (sym o.is_ours.ensures ∙ not-false _ c.if-not-is_ours.false-raw) c.if-asked-eq-ADDRESS_CLAIMED.true) c.our_claim.ensures
+    let a = c.args in
+    rw (reply_claims (asked_by a.asked) _ a.claim _ c.stand-address.ensures (sym c.is_ours.ensures ∙ c.if-not-is_ours.false) c.if-asked-eq-ADDRESS_CLAIMED.true) c.our_claim.ensures
 
 pub returns-in-Held : goal.returns-in-Held
 unfolding address_held
 returns-in-Held c =
-    let d = c in
-    let o = d in
-    let a = o.args in
-    rw (reply_held (asked_by a.asked) _ a.claim _ o.stand-address.ensures _ (sym o.is_ours.ensures ∙ not-false _ d.if-not-is_ours.false-raw) d.if-asked-eq-ADDRESS_CLAIMED.false (ap (λ (x : Address). address_held (stand_at x)) c.in-Held.is)) c.status.ensures
+    let a = c.args in
+    rw (reply_held (asked_by a.asked) _ a.claim _ c.stand-address.ensures _ (sym c.is_ours.ensures ∙ c.if-not-is_ours.false) c.if-asked-eq-ADDRESS_CLAIMED.false (ap (λ (x : Address). address_held (stand_at x)) c.in-Held.is)) c.status.ensures
 
 pub returns-in-Claimed : goal.returns-in-Claimed
 unfolding address_held
 returns-in-Claimed c =
-    let d = c in
-    let o = d in
-    let a = o.args in
-    rw (reply_unheld (asked_by a.asked) _ a.claim _ o.stand-address.ensures (sym o.is_ours.ensures ∙ not-false _ d.if-not-is_ours.false-raw) d.if-asked-eq-ADDRESS_CLAIMED.false (ap (λ (x : Address). address_held (stand_at x)) c.in-Claimed.is)) (bare_requested_lem (refused 18) NoAddressHeld _ refl refl refl c.bare-in-Claimed.ensures)
+    let a = c.args in
+    rw (reply_unheld (asked_by a.asked) _ a.claim _ c.stand-address.ensures (sym c.is_ours.ensures ∙ c.if-not-is_ours.false) c.if-asked-eq-ADDRESS_CLAIMED.false (ap (λ (x : Address). address_held (stand_at x)) c.in-Claimed.is)) (bare_requested_lem (refused 18) NoAddressHeld _ refl refl refl c.bare-in-Claimed.ensures)
 
 pub returns-in-Nowhere : goal.returns-in-Nowhere
 unfolding address_held
 returns-in-Nowhere c =
-    let d = c in
-    let o = d in
-    let a = o.args in
-    rw (reply_unheld (asked_by a.asked) _ a.claim _ o.stand-address.ensures (sym o.is_ours.ensures ∙ not-false _ d.if-not-is_ours.false-raw) d.if-asked-eq-ADDRESS_CLAIMED.false (ap (λ (x : Address). address_held (stand_at x)) c.in-Nowhere.is)) (bare_requested_lem (refused 18) NoAddressHeld _ refl refl refl c.bare-in-Nowhere.ensures)
+    let a = c.args in
+    rw (reply_unheld (asked_by a.asked) _ a.claim _ c.stand-address.ensures (sym c.is_ours.ensures ∙ c.if-not-is_ours.false) c.if-asked-eq-ADDRESS_CLAIMED.false (ap (λ (x : Address). address_held (stand_at x)) c.in-Nowhere.is)) (bare_requested_lem (refused 18) NoAddressHeld _ refl refl refl c.bare-in-Nowhere.ensures)

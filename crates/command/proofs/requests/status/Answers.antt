@@ -13,31 +13,27 @@ use Rattle.command.proofs.requests.status.Goals as goal
 
 pub returns-then-positions-gt0 : goal.returns-then-positions-gt0
 returns-then-positions-gt0 c =
-    let p = c in
-    let a = p.args in
-    let n = some_picked (supports (asked_by a.asked)) (hosted a.host) _ p.pick-positions.ensures (λ z. omega arith) in
-    rw (status_supported (asked_by a.asked) (hosted a.host) a.address n) (supported_requested _ _ p.pick-positions.ensures)
+    let a = c.args in
+    let n = some_picked (supports (asked_by a.asked)) (hosted a.host) _ c.pick-positions.ensures (λ z. omega arith) in
+    rw (status_supported (asked_by a.asked) (hosted a.host) a.address n) (supported_requested _ _ c.pick-positions.ensures)
 
 pub returns-then-asked-eq-EVERYONE : goal.returns-then-asked-eq-EVERYONE
 returns-then-asked-eq-EVERYONE c =
-    let p = c in
-    let a = p.args in
-    let z : p.pick-positions.result.count ≡ 0 = omega arith in
-    let n = none_picked (supports (asked_by a.asked)) (hosted a.host) _ p.pick-positions.ensures z in
+    let a = c.args in
+    let z : c.pick-positions.result.count ≡ 0 = omega arith in
+    let n = none_picked (supports (asked_by a.asked)) (hosted a.host) _ c.pick-positions.ensures z in
     rw (status_global (asked_by a.asked) (hosted a.host) a.address n c.if-asked-eq-EVERYONE.true) (bare_requested_lem (gives unsupported) Unsupported _ refl refl refl c.bare.ensures)
 
 pub returns-then-asked-eq-NO_ADDRESS : goal.returns-then-asked-eq-NO_ADDRESS
 returns-then-asked-eq-NO_ADDRESS c =
-    let p = c in
-    let a = p.args in
-    let z : p.pick-positions.result.count ≡ 0 = omega arith in
-    let n = none_picked (supports (asked_by a.asked)) (hosted a.host) _ p.pick-positions.ensures z in
+    let a = c.args in
+    let z : c.pick-positions.result.count ≡ 0 = omega arith in
+    let n = none_picked (supports (asked_by a.asked)) (hosted a.host) _ c.pick-positions.ensures z in
     rw (status_nobody (asked_by a.asked) (hosted a.host) a.address n c.if-asked-eq-EVERYONE.false c.if-asked-eq-NO_ADDRESS.true) (bare_requested_lem (gives unsupported) Unsupported _ refl refl refl c.bare-then-asked-eq-NO_ADDRESS.ensures)
 
 pub returns : goal.returns
 returns c =
-    let p = c in
-    let a = p.args in
-    let z : p.pick-positions.result.count ≡ 0 = omega arith in
-    let n = none_picked (supports (asked_by a.asked)) (hosted a.host) _ p.pick-positions.ensures z in
+    let a = c.args in
+    let z : c.pick-positions.result.count ≡ 0 = omega arith in
+    let n = none_picked (supports (asked_by a.asked)) (hosted a.host) _ c.pick-positions.ensures z in
     rw (status_nak (asked_by a.asked) (hosted a.host) a.address n c.if-asked-eq-EVERYONE.false c.if-asked-eq-NO_ADDRESS.false) c.nak.ensures

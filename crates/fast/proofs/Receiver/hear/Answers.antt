@@ -1,6 +1,5 @@
 -- `fast::Receiver::hear` meets its contract. Assumes nothing.
 use mathlib.Core.Path.{refl, sym, ◌∙◌}
-use borrow.Author.Tests.{not-true, not-false}
 use Rattle.fast.specs.declared.Answer.TheVariants.{StorageTooShort, BrokenState}
 use Rattle.fast.proofs.Steps.{left, left_as, heard_short, heard_broken, heard_kept}
 use Rattle.fast.proofs.Receiver.hear.Goals as goal
@@ -14,23 +13,20 @@ returns-then-storage-lt-STORAGE_BYTES c =
 
 pub returns-then-not-keep_rules : goal.returns-then-not-keep_rules
 returns-then-not-keep_rules c =
-    let k = c in
-    let a = k.args in
+    let a = c.args in
     left _ a.storage.now _
-    (heard_broken a.id a.bytes.now a.self a.storage.now k.if-storage-lt-STORAGE_BYTES.false
-    (sym k.keep_rules.ensures ∙ not-true k.keep_rules.result c.if-not-keep_rules.true-raw)) c.keeps-then-not-keep_rules.result
+    (heard_broken a.id a.bytes.now a.self a.storage.now c.if-storage-lt-STORAGE_BYTES.false
+    (sym c.keep_rules.ensures ∙ c.if-not-keep_rules.true)) c.keeps-then-not-keep_rules.result
     a.self BrokenState c.keeps-then-not-keep_rules.ensures refl refl
 
 pub hear-requires : goal.hear-requires
 hear-requires c =
-    let k = c in
-    (sym k.keep_rules.ensures ∙ not-false k.keep_rules.result c.if-not-keep_rules.false-raw, k.if-storage-lt-STORAGE_BYTES.false)
+    (sym c.keep_rules.ensures ∙ c.if-not-keep_rules.false, c.if-storage-lt-STORAGE_BYTES.false)
 
 pub returns : goal.returns
 returns c =
-    let k = c in
-    let a = k.args in
+    let a = c.args in
     left_as
-    (heard_kept a.id a.bytes.now a.self a.storage.now k.if-storage-lt-STORAGE_BYTES.false
-    (sym k.keep_rules.ensures ∙ not-false k.keep_rules.result c.if-not-keep_rules.false-raw))
+    (heard_kept a.id a.bytes.now a.self a.storage.now c.if-storage-lt-STORAGE_BYTES.false
+    (sym c.keep_rules.ensures ∙ c.if-not-keep_rules.false))
     c.hear.ensures

@@ -8,9 +8,8 @@ use Rattle.fast.proofs.eight_places.enters_at.Goals as goal
 
 pub returns : goal.returns
 returns c =
-    let k = c in
-    let a = k.args in
+    let a = c.args in
     let kept = first_kept a.at a.p a.bytes a.storage.now in
-    let e : k.keep.new.storage ≡ kept = rw k.at_most-count.ensures at k.keep.ensures in
+    let e : c.keep.new.storage ≡ kept = rw c.at_most-count.ensures at c.keep.ensures in
     subst⁻¹ (λ (s : List ℕ). LeftBy (entered a.at a.p a.r kept) c.entered.result s) e
     (c.entered.ensures kept)

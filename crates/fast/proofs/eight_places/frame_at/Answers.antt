@@ -23,11 +23,10 @@ returns-then-sequence-p c =
 
 pub returns-then-number-p : goal.returns-then-number-p
 returns-then-number-p c =
-    let b = c in
-    let a = b.args in
+    let a = c.args in
     let p = get_or a.r.places a.at free_place in
     left _ a.storage.now _
-    (frame_other_number a.at p a.r a.storage.now a.sequence a.number a.bytes b.if-sequence-p.false
+    (frame_other_number a.at p a.r a.storage.now a.sequence a.number a.bytes c.if-sequence-p.false
     c.if-number-p.true) c.keeps-then-number-p.result c.replace-then-number-p.result UnexpectedFrame
     c.keeps-then-number-p.ensures
     (c.replace-then-number-p.ensures ∙ ap (λ (q : Place). placing a.r a.at q) c.free-then-number-p.ensures)
@@ -35,15 +34,13 @@ returns-then-number-p c =
 
 pub returns : goal.returns
 returns c =
-    let k = c in
-    let b = k in
-    let a = b.args in
+    let a = c.args in
     let p = get_or a.r.places a.at free_place in
     let kept = kept_at a.at p a.bytes a.storage.now in
-    let n = b.if-number-p.false in
-    let e : k.keep.new.storage ≡ kept = rw (k.at_most-count.ensures, n) at k.keep.ensures in
+    let n = c.if-number-p.false in
+    let e : c.keep.new.storage ≡ kept = rw (c.at_most-count.ensures, n) at c.keep.ensures in
     left_as
     (frame_expected a.at p a.r a.storage.now a.sequence a.number a.bytes
-    b.if-sequence-p.false n)
+    c.if-sequence-p.false n)
     (subst⁻¹ (λ (s : List ℕ). LeftBy (advanced a.at p a.r kept) c.advance.result s) e
     (c.advance.ensures kept))

@@ -13,25 +13,21 @@ use Rattle.fast.proofs.eight_places.hear.Goals as goal
 
 pub returns-in-Bad : goal.returns-in-Bad
 returns-in-Bad c =
-    let v = c in
-    let k = v in
-    let a = k.args in
-    let e = sym k.check-checked.ensures.answer ∙ ap told_verdict v.in-Bad.is in
+    let a = c.args in
+    let e = sym c.check-checked.ensures.answer ∙ ap told_verdict c.in-Bad.is in
     left _ a.storage.now _
     (ap (λ (m : Told Meaning). by_meaning m a.bytes.now a.r a.storage.now)
     (meaning_refused (names_of a.r) a.id a.bytes.now _ e)) c.keeps.result a.r
-    (BadFrame v.in-Bad.why) c.keeps.ensures refl refl
+    (BadFrame c.in-Bad.why) c.keeps.ensures refl refl
 
 pub returns-in-Sound : goal.returns-in-Sound
 returns-in-Sound c =
-    let v = c in
-    let k = v in
-    let a = k.args in
+    let a = c.args in
     let names = names_of a.r in
-    let p = v.in-Sound.parts in
-    let e = sym k.check-checked.ensures.answer ∙ ap told_verdict v.in-Sound.is in
-    let b : k.check-checked.result.bytes ≡ a.bytes.now =
-    k.check-checked.ensures.data_bytes ∙ ap (λ (t : Told Parts). bytes_if t a.bytes.now) e in
+    let p = c.in-Sound.parts in
+    let e = sym c.check-checked.ensures.answer ∙ ap told_verdict c.in-Sound.is in
+    let b : c.check-checked.result.bytes ≡ a.bytes.now =
+    c.check-checked.ensures.data_bytes ∙ ap (λ (t : Told Parts). bytes_if t a.bytes.now) e in
     left_as
     (ap (λ (m : Told Meaning). by_meaning m a.bytes.now a.r a.storage.now)
     (meaning_given names a.id a.bytes.now p e)

@@ -2,7 +2,6 @@
 use mathlib.Core.Path.{refl, sym, ◌∙◌}
 use Prim.Native.Nat.{◌≤◌, ◌<◌}
 use native.Mathlib.Omega.{arith}
-use borrow.Author.Tests.{not-true, not-false}
 use borrow.Author.Rules.{rules}
 use lib.ListN.{length}
 use Rattle.words.proofs.Lists.{every_pass, every_stop, every_end}
@@ -17,7 +16,7 @@ returns-then-not-may_be_named c =
     let l = c.loop-i in
     let s = c.args.names.now in
     let h : l.i < length s = omega arith in
-    let e = sym c.may_be_named.ensures ∙ not-true _ c.if-not-may_be_named.true-raw in
+    let e = sym c.may_be_named.ensures ∙ c.if-not-may_be_named.true in
     sym (l.invariant.1 ∙ every_stop may_be_named s l.i 0 h e)
 
 pub loop-i-preserved : goal.loop-i-preserved
@@ -25,7 +24,7 @@ loop-i-preserved c =
     let l = c.loop-i in
     let s = c.args.names.now in
     let h : l.i < length s = omega arith in
-    let e = sym c.may_be_named.ensures ∙ not-false _ c.if-not-may_be_named.false-raw in
+    let e = sym c.may_be_named.ensures ∙ c.if-not-may_be_named.false in
     (search rules, l.invariant.1 ∙ every_pass may_be_named s l.i 0 h e)
 
 pub returns : goal.returns

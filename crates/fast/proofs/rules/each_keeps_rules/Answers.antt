@@ -2,7 +2,6 @@
 use mathlib.Core.Path.{refl, sym, ◌∙◌}
 use Prim.Native.Nat.{◌<◌}
 use native.Mathlib.Omega.{arith}
-use borrow.Author.Tests.{not-true, not-false}
 use borrow.Author.Rules.{rules}
 use lib.ListN.{length}
 use Rattle.words.proofs.Lists.{length_field, every_pass, every_stop, every_end}
@@ -17,7 +16,7 @@ returns-then-not-place_keeps_rules c =
     let l = c.loop-i in
     let r = c.args.r in
     let h : l.i < length r.places = omega arith in
-    let e = sym c.place_keeps_rules.ensures ∙ not-true _ c.if-not-place_keeps_rules.true-raw in
+    let e = sym c.place_keeps_rules.ensures ∙ c.if-not-place_keeps_rules.true in
     sym (l.invariant.2 ∙ every_stop (place_keeps_rules (names_of r)) r.places l.i free_place h e)
 
 pub loop-i-preserved : goal.loop-i-preserved
@@ -25,7 +24,7 @@ loop-i-preserved c =
     let l = c.loop-i in
     let r = c.args.r in
     let h : l.i < length r.places = omega arith in
-    let e = sym c.place_keeps_rules.ensures ∙ not-false _ c.if-not-place_keeps_rules.false-raw in
+    let e = sym c.place_keeps_rules.ensures ∙ c.if-not-place_keeps_rules.false in
     (search rules, l.invariant.1, l.invariant.2 ∙ every_pass (place_keeps_rules (names_of r)) r.places l.i free_place h e)
 
 pub returns : goal.returns

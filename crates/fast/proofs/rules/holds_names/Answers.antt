@@ -19,5 +19,4 @@ slice_bounds-well_formed-end c =
 
 pub returns : goal.returns
 returns c =
-    let b = c in
-    holds_names_lem b.args.r _ b.if-named-gt-DGNS.false c.well_formed-2.ensures
+    holds_names_lem c.args.r _ c.if-named-gt-DGNS.false c.well_formed-2.ensures

@@ -4,41 +4,34 @@ use Rattle.faults.proofs.Sender.reply.Goals as goal
 
 pub returns-in-NothingToDo : goal.returns-in-NothingToDo
 returns-in-NothingToDo c =
-    let f = c in
-    reply_to_host _ f.request-faults.ensures c.in-NothingToDo.is c.request-asked.ensures
+    reply_to_host _ c.request-faults.ensures c.in-NothingToDo.is c.request-asked.ensures
 
 pub returns-in-Send : goal.returns-in-Send
 returns-in-Send c =
-    let f = c in
-    reply_alone f.request-faults.result _ f.request-faults.ensures (λ hosted. rw c.in-Send.is)
+    reply_alone c.request-faults.result _ c.request-faults.ensures (λ hosted. rw c.in-Send.is)
     c.without_host.ensures
 
 pub returns-in-BrokenState : goal.returns-in-BrokenState
 returns-in-BrokenState c =
-    let f = c in
-    reply_alone f.request-faults.result _ f.request-faults.ensures (λ hosted. rw c.in-BrokenState.is)
+    reply_alone c.request-faults.result _ c.request-faults.ensures (λ hosted. rw c.in-BrokenState.is)
     c.without_host-in-BrokenState.ensures
 
 pub returns-in-BadFrame : goal.returns-in-BadFrame
 returns-in-BadFrame c =
-    let f = c in
-    reply_alone f.request-faults.result _ f.request-faults.ensures (λ hosted. rw c.in-BadFrame.is)
+    reply_alone c.request-faults.result _ c.request-faults.ensures (λ hosted. rw c.in-BadFrame.is)
     c.without_host-in-BadFrame.ensures
 
 pub returns-in-ListMalformed : goal.returns-in-ListMalformed
 returns-in-ListMalformed c =
-    let f = c in
-    reply_alone f.request-faults.result _ f.request-faults.ensures (λ hosted. rw c.in-ListMalformed.is)
+    reply_alone c.request-faults.result _ c.request-faults.ensures (λ hosted. rw c.in-ListMalformed.is)
     c.without_host-in-ListMalformed.ensures
 
 pub returns-in-DgnTooLarge : goal.returns-in-DgnTooLarge
 returns-in-DgnTooLarge c =
-    let f = c in
-    reply_alone f.request-faults.result _ f.request-faults.ensures (λ hosted. rw c.in-DgnTooLarge.is)
+    reply_alone c.request-faults.result _ c.request-faults.ensures (λ hosted. rw c.in-DgnTooLarge.is)
     c.without_host-in-DgnTooLarge.ensures
 
 pub returns-in-NoAddressHeld : goal.returns-in-NoAddressHeld
 returns-in-NoAddressHeld c =
-    let f = c in
-    reply_alone f.request-faults.result _ f.request-faults.ensures (λ hosted. rw c.in-NoAddressHeld.is)
+    reply_alone c.request-faults.result _ c.request-faults.ensures (λ hosted. rw c.in-NoAddressHeld.is)
     c.without_host-in-NoAddressHeld.ensures

@@ -1,6 +1,5 @@
 -- `faults::requests::at_address` meets its contract. Assumes nothing.
 use mathlib.Core.Path.{refl, sym, ◌∙◌}
-use borrow.Author.Tests.{not-true, not-false}
 use Rattle.words.specs.Words.{refused, gives}
 use Rattle.claim.specs.Claim.{held}
 use Rattle.faults.specs.Requests.{nothing_to_do, answer_at}
@@ -11,10 +10,9 @@ use Rattle.faults.proofs.requests.at_address.Goals as goal
 pub returns-then-not-is_for_us : goal.returns-then-not-is_for_us
 unfolding answer_at
 returns-then-not-is_for_us c =
-    let u = c in
-    let a = u.args in
-    let e = sym u.is_for_us.ensures ∙ not-true _ c.if-not-is_for_us.true-raw in
-    requested_as (answered_faults (held a.address) a.s a.meant u.in-Faults.destination u.in-Faults.is ∙ rw e)
+    let a = c.args in
+    let e = sym c.is_for_us.ensures ∙ c.if-not-is_for_us.true in
+    requested_as (answered_faults (held a.address) a.s a.meant c.in-Faults.destination c.in-Faults.is ∙ rw e)
     (bare_requested_lem (gives nothing_to_do) NothingToDo a.s _ refl refl c.bare-then-not-is_for_us.ensures)
 
 pub returns-in-Other : goal.returns-in-Other
@@ -32,7 +30,6 @@ returns-in-DgnTooLarge c =
 pub returns-else-not-is_for_us : goal.returns-else-not-is_for_us
 unfolding answer_at
 returns-else-not-is_for_us c =
-    let u = c in
-    let a = u.args in
-    let e = sym u.is_for_us.ensures ∙ not-false _ c.if-not-is_for_us.false-raw in
-    requested_as (answered_faults (held a.address) a.s a.meant u.in-Faults.destination u.in-Faults.is ∙ rw e) c.send.ensures
+    let a = c.args in
+    let e = sym c.is_for_us.ensures ∙ c.if-not-is_for_us.false in
+    requested_as (answered_faults (held a.address) a.s a.meant c.in-Faults.destination c.in-Faults.is ∙ rw e) c.send.ensures

@@ -11,48 +11,40 @@ use Rattle.faults.proofs.requests.heard.Goals as goal
 
 pub returns-in-BrokenState : goal.returns-in-BrokenState
 returns-in-BrokenState c =
-    let k = c in
-    let a = k.args in
-    let e = stands_told _ _ k.stands-standing.ensures ∙ ap told_standing c.in-BrokenState.is in
+    let a = c.args in
+    let e = stands_told _ _ c.stands-standing.ensures ∙ ap told_standing c.in-BrokenState.is in
     requested_as (heard_refused a.dgn a.bytes a.claim a.s 2 e)
     (bare_requested_lem (refused 2) BrokenState a.s _ refl refl c.bare.ensures)
 
 pub returns-in-ListMalformed : goal.returns-in-ListMalformed
 returns-in-ListMalformed c =
-    let k = c in
-    let a = k.args in
-    let e = stands_told _ _ k.stands-standing.ensures ∙ ap told_standing c.in-ListMalformed.is in
+    let a = c.args in
+    let e = stands_told _ _ c.stands-standing.ensures ∙ ap told_standing c.in-ListMalformed.is in
     requested_as (heard_refused a.dgn a.bytes a.claim a.s 16 e)
     (bare_requested_lem (refused 16) ListMalformed a.s _ refl refl c.bare-in-ListMalformed.ensures)
 
 pub returns-in-Held : goal.returns-in-Held
 returns-in-Held c =
-    let m = c in
-    let k = m in
-    let a = k.args in
-    let e = stands_told _ _ k.stands-standing.ensures ∙ ap told_standing m.in-Held.is in
+    let a = c.args in
+    let e = stands_told _ _ c.stands-standing.ensures ∙ ap told_standing c.in-Held.is in
     requested_as
-    (heard_stands a.dgn a.bytes a.claim a.s (held m.in-Held.address) (told_meant m.meant_by.result) e
-    m.meant_by.ensures)
+    (heard_stands a.dgn a.bytes a.claim a.s (held c.in-Held.address) (told_meant c.meant_by.result) e
+    c.meant_by.ensures)
     c.at_address.ensures
 
 pub returns-in-Claiming : goal.returns-in-Claiming
 returns-in-Claiming c =
-    let m = c in
-    let k = m in
-    let a = k.args in
-    let e = stands_told _ _ k.stands-standing.ensures ∙ ap told_standing m.in-Claiming.is in
+    let a = c.args in
+    let e = stands_told _ _ c.stands-standing.ensures ∙ ap told_standing c.in-Claiming.is in
     requested_as
-    (heard_unheld a.dgn a.bytes a.claim a.s _ (told_meant m.meant_by-in-Claiming.result) e m.meant_by-in-Claiming.ensures)
+    (heard_unheld a.dgn a.bytes a.claim a.s _ (told_meant c.meant_by-in-Claiming.result) e c.meant_by-in-Claiming.ensures)
     c.nowhere.ensures
 
 pub returns-in-Silent : goal.returns-in-Silent
 returns-in-Silent c =
-    let m = c in
-    let k = m in
-    let a = k.args in
-    let e = stands_told _ _ k.stands-standing.ensures ∙ ap told_standing m.in-Silent.is in
+    let a = c.args in
+    let e = stands_told _ _ c.stands-standing.ensures ∙ ap told_standing c.in-Silent.is in
     requested_as
-    (heard_stands a.dgn a.bytes a.claim a.s silent (told_meant m.meant_by-in-Silent.result) e
-    m.meant_by-in-Silent.ensures)
+    (heard_stands a.dgn a.bytes a.claim a.s silent (told_meant c.meant_by-in-Silent.result) e
+    c.meant_by-in-Silent.ensures)
     c.nowhere-in-Silent.ensures

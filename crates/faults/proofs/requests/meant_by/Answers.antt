@@ -15,26 +15,23 @@ returns-then-catalogue_form-ne-REQUEST c = rw (sym c.catalogue_form.ensures.answ
 pub returns-then-asked-gt-GREATEST_DGN : goal.returns-then-asked-gt-GREATEST_DGN
 unfolding meant_by
 returns-then-asked-gt-GREATEST_DGN c =
-    let d = c in
-    let a = d.args in
-    let f = d.catalogue_form.ensures.answer in
-    let n = d.dgn_of-asked.ensures.answer ∙ dgn_read a.bytes in
+    let a = c.args in
+    let f = c.catalogue_form.ensures.answer in
+    let n = c.dgn_of-asked.ensures.answer ∙ dgn_read a.bytes in
     rw (sym f, sym n) (search tests)
 
 pub returns-then-asked-ne-DM_RV : goal.returns-then-asked-ne-DM_RV
 unfolding meant_by
 returns-then-asked-ne-DM_RV c =
-    let d = c in
-    let a = d.args in
-    let f = d.catalogue_form.ensures.answer in
-    let n = d.dgn_of-asked.ensures.answer ∙ dgn_read a.bytes in
-    rw (sym f, sym n, le-ltb greatest_dgn d.dgn_of-asked.result c.if-asked-gt-GREATEST_DGN.false) (search tests)
+    let a = c.args in
+    let f = c.catalogue_form.ensures.answer in
+    let n = c.dgn_of-asked.ensures.answer ∙ dgn_read a.bytes in
+    rw (sym f, sym n, le-ltb greatest_dgn c.dgn_of-asked.result c.if-asked-gt-GREATEST_DGN.false) (search tests)
 
 pub returns : goal.returns
 unfolding meant_by destination_of
 returns c =
-    let d = c in
-    let a = d.args in
-    let f = d.catalogue_form.ensures.answer in
-    let n = d.dgn_of-asked.ensures.answer ∙ dgn_read a.bytes in
-    rw (sym f, sym n, div-one, le-ltb greatest_dgn d.dgn_of-asked.result c.if-asked-gt-GREATEST_DGN.false) (search tests)
+    let a = c.args in
+    let f = c.catalogue_form.ensures.answer in
+    let n = c.dgn_of-asked.ensures.answer ∙ dgn_read a.bytes in
+    rw (sym f, sym n, div-one, le-ltb greatest_dgn c.dgn_of-asked.result c.if-asked-gt-GREATEST_DGN.false) (search tests)

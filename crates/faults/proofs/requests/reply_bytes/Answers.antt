@@ -9,10 +9,9 @@ use Rattle.faults.proofs.requests.reply_bytes.Goals as goal
 
 pub bytes_at-requires : goal.bytes_at-requires
 bytes_at-requires c =
-    let k = c in
-    let fs = k.args.s.faults in
+    let fs = c.args.s.faults in
     let n : length fs ≡ 32 = search length_field in
-    found_below is_active fs _ n (sym k.lowest_active.ensures ∙ c.in-At.is)
+    found_below is_active fs _ n (sym c.lowest_active.ensures ∙ c.in-At.is)
 
 pub returns-in-At : goal.returns-in-At
 unfolding reply_bytes

@@ -3,7 +3,6 @@ use mathlib.Core.Path.{refl, sym, ◌∙◌}
 use Prim.Native.Nat.{◌<◌}
 use native.Mathlib.Omega.{arith}
 use borrow.Author.Rules.{rules}
-use borrow.Author.Tests.{not-true, not-false}
 use lib.ListN.{length}
 use Rattle.words.proofs.Lists.{length_field, every_pass, every_stop, every_end}
 use Rattle.faults.specs.Fault.{place_keeps_rules}
@@ -20,7 +19,7 @@ returns-then-not-keeps_rules c =
     let l = c.loop-i in
     let fs = c.args.s.faults in
     let h : l.i < length fs = omega arith in
-    let e = sym c.keeps_rules.ensures ∙ not-true _ c.if-not-keeps_rules.true-raw in
+    let e = sym c.keeps_rules.ensures ∙ c.if-not-keeps_rules.true in
     sym (l.invariant.2 ∙ every_stop place_keeps_rules fs l.i outside h e)
 
 pub loop-i-preserved : goal.loop-i-preserved
@@ -28,7 +27,7 @@ loop-i-preserved c =
     let l = c.loop-i in
     let fs = c.args.s.faults in
     let h : l.i < length fs = omega arith in
-    let e = sym c.keeps_rules.ensures ∙ not-false _ c.if-not-keeps_rules.false-raw in
+    let e = sym c.keeps_rules.ensures ∙ c.if-not-keeps_rules.false in
     (search rules, l.invariant.1, l.invariant.2 ∙ every_pass place_keeps_rules fs l.i outside h e)
 
 pub returns : goal.returns

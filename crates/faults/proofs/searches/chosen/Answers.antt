@@ -16,19 +16,17 @@ loop-i-init c = (search rules, search length_field, rw c.longest_due-age.ensures
 pub loop-i-preserved : goal.loop-i-preserved
 loop-i-preserved c =
     let l = c.loop-i in
-    let d = c in
-    let fs = d.args.s.faults in
+    let fs = c.args.s.faults in
     let h : l.i < length fs = omega arith in (
       search rules,
       l.invariant.1,
       l.invariant.2
-          ∙ pass_turn (is_chosen d.longest_due-age.result) fs l.i l.at _ _ outside h (omega arith)
+          ∙ pass_turn (is_chosen c.longest_due-age.result) fs l.i l.at _ _ outside h (omega arith)
           c.is_chosen.ensures c.lowest-at.ensures,
     )
 
 pub returns : goal.returns
 returns c =
     let l = c.loop-i in
-    let d = c in
-    let fs = d.args.s.faults in
-    c.found.ensures ∙ sym (l.invariant.2 ∙ pass_end (is_chosen d.longest_due-age.result) fs l.i l.at (omega arith))
+    let fs = c.args.s.faults in
+    c.found.ensures ∙ sym (l.invariant.2 ∙ pass_end (is_chosen c.longest_due-age.result) fs l.i l.at (omega arith))

@@ -1,6 +1,6 @@
 -- `faults::searches::lowest` meets its contract. Assumes nothing.
 use native.Mathlib.Omega.{arith}
-use borrow.Author.Tests.{not-false, lt-ltb, le-ltb}
+use borrow.Author.Tests.{lt-ltb, le-ltb}
 use Rattle.faults.specs.Private.{lowest}
 use Rattle.faults.proofs.searches.lowest.Goals as goal
 
@@ -12,10 +12,10 @@ pub returns-then-at-lt-PLACES : goal.returns-then-at-lt-PLACES
 unfolding lowest
 returns-then-at-lt-PLACES c =
     let a = c.args in
-    rw (not-false a.chosen c.if-not-chosen.false-raw, lt-ltb a.at 32 (omega arith))
+    rw (c.if-not-chosen.false, lt-ltb a.at 32 (omega arith))
 
 pub returns : goal.returns
 unfolding lowest
 returns c =
     let a = c.args in
-    rw (not-false a.chosen c.if-not-chosen.false-raw, le-ltb a.at 32 (omega arith))
+    rw (c.if-not-chosen.false, le-ltb a.at 32 (omega arith))

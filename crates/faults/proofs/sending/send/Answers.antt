@@ -10,9 +10,8 @@ use Rattle.faults.proofs.sending.send.Goals as goal
 
 pub returns : goal.returns
 returns c =
-    let f = c in
-    let a = f.args in
+    let a = c.args in
     let n : length a.s.faults ≡ 32 = search length_field in
     let h : a.at < length a.s.faults = omega arith in
     let e = same_at a.s.faults a.at outside no_fault h in
-    rw (c.id_from.ensures, c.replace.ensures, f.sent.ensures, e)
+    rw (c.id_from.ensures, c.replace.ensures, c.sent.ensures, e)

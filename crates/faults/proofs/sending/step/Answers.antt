@@ -12,27 +12,24 @@ use Rattle.faults.proofs.sending.step.Goals as goal
 
 pub send-requires : goal.send-requires
 send-requires c =
-    let k = c in
-    let s = k.args.s in
+    let s = c.args.s in
     let n : length s.faults ≡ 32 = search length_field in
-    let p = k.all_passed-later.ensures in
+    let p = c.all_passed-later.ensures in
     let m = ap (λ (x : Sender). length x.faults) p ∙ length-map s.faults passed ∙ n in
-    chosen_below _ _ m (sym k.chosen.ensures ∙ c.in-At.is)
+    chosen_below _ _ m (sym c.chosen.ensures ∙ c.in-At.is)
 
 pub returns-in-At : goal.returns-in-At
 returns-in-At c =
-    let k = c in
-    let a = k.args in
-    let p = k.all_passed-later.ensures in
+    let a = c.args in
+    let p = c.all_passed-later.ensures in
     let g = c.in-At.is in
-    let e = sym (ap (λ (x : Sender). chosen x.faults) p) ∙ sym k.chosen.ensures ∙ g in
+    let e = sym (ap (λ (x : Sender). chosen x.faults) p) ∙ sym c.chosen.ensures ∙ g in
     step_sends a.address a.s _ _ e (c.send.ensures ∙ ap (sent_at _ a.address) p)
 
 pub returns-in-Nowhere : goal.returns-in-Nowhere
 returns-in-Nowhere c =
-    let k = c in
-    let a = k.args in
-    let p = k.all_passed-later.ensures in
+    let a = c.args in
+    let p = c.all_passed-later.ensures in
     let g = c.in-Nowhere.is in
-    let e = sym (ap (λ (x : Sender). chosen x.faults) p) ∙ sym k.chosen.ensures ∙ g in
+    let e = sym (ap (λ (x : Sender). chosen x.faults) p) ∙ sym c.chosen.ensures ∙ g in
     step_quiet a.address a.s _ e (c.bare.ensures ∙ ap (λ (x : Sender). bare_stepped x NothingDue) p)

@@ -10,7 +10,6 @@ use Rattle.faults.proofs.service_point.write.Goals as goal
 
 pub returns-then-number-ge-NUMBERS : goal.returns-then-number-ge-NUMBERS
 returns-then-number-ge-NUMBERS c =
-    let s = c in
-    let bs = s.args.bytes.now in
-    let e = with_more s.args.id bs s.args.number s.requires.number s.requires.is (omega arith) in
+    let bs = c.args.bytes.now in
+    let e = with_more c.args.id bs c.args.number c.requires.number c.requires.is (omega arith) in
     record { answer = sym (ap done_if e); data_bytes = sym (ap (λ (t : Told (List ℕ)). bytes_after t bs) e) }

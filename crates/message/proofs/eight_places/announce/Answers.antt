@@ -8,23 +8,20 @@ use Rattle.message.proofs.eight_places.announce.Goals as goal
 
 pub replace-requires : goal.replace-requires
 replace-requires c =
-    let b = c in
-    let a = b.args in
+    let a = c.args in
     let n : length a.r.places ≡ 8 = search length_field in
-    place_for_below a.sender a.r.places _ n (sym b.place_for.ensures ∙ c.in-At.is)
+    place_for_below a.sender a.r.places _ n (sym c.place_for.ensures ∙ c.in-At.is)
 
 pub returns-in-At : goal.returns-in-At
 returns-in-At c =
-    let b = c in
-    let a = b.args in
-    let e = sym b.place_for.ensures ∙ c.in-At.is in
+    let a = c.args in
+    let e = sym c.place_for.ensures ∙ c.in-At.is in
     λ s. left _ s _ (announcing_at a.sender a.size a.dgn a.r.places s _ e) c.keeps.result
     c.replace.result _ c.keeps.ensures c.replace.ensures refl
 
 pub returns-in-Nowhere : goal.returns-in-Nowhere
 returns-in-Nowhere c =
-    let b = c in
-    let a = b.args in
-    let e = sym b.place_for.ensures ∙ c.in-Nowhere.is in
+    let a = c.args in
+    let e = sym c.place_for.ensures ∙ c.in-Nowhere.is in
     λ s. left _ s _ (announcing_nowhere a.sender a.size a.dgn a.r.places s e)
     c.keeps-in-Nowhere.result a.r NoPlaceFree c.keeps-in-Nowhere.ensures refl refl

@@ -13,20 +13,16 @@ use Rattle.message.proofs.eight_places.hear.Goals as goal
 
 pub returns-in-Bad : goal.returns-in-Bad
 returns-in-Bad c =
-    let v = c in
-    let k = v in
-    let a = k.args in
-    let e = sym k.check-checked.ensures.answer ∙ ap told_verdict v.in-Bad.is in
-    left _ a.storage.now _ (ap (λ (m : Told Meaning). by_meaning m a.bytes.now a.r.places a.storage.now) (meaning_refused a.id _ a.bytes.now e)) c.keeps.result a.r (BadFrame v.in-Bad.why) c.keeps.ensures refl refl
+    let a = c.args in
+    let e = sym c.check-checked.ensures.answer ∙ ap told_verdict c.in-Bad.is in
+    left _ a.storage.now _ (ap (λ (m : Told Meaning). by_meaning m a.bytes.now a.r.places a.storage.now) (meaning_refused a.id _ a.bytes.now e)) c.keeps.result a.r (BadFrame c.in-Bad.why) c.keeps.ensures refl refl
 
 pub returns-in-Sound : goal.returns-in-Sound
 returns-in-Sound c =
-    let v = c in
-    let k = v in
-    let a = k.args in
-    let p = v.in-Sound.parts in
-    let e = sym k.check-checked.ensures.answer ∙ ap told_verdict v.in-Sound.is in
-    let b : k.check-checked.result.bytes ≡ a.bytes.now = k.check-checked.ensures.data_bytes ∙ ap (λ (t : Told Parts). bytes_if t a.bytes.now) e in
+    let a = c.args in
+    let p = c.in-Sound.parts in
+    let e = sym c.check-checked.ensures.answer ∙ ap told_verdict c.in-Sound.is in
+    let b : c.check-checked.result.bytes ≡ a.bytes.now = c.check-checked.ensures.data_bytes ∙ ap (λ (t : Told Parts). bytes_if t a.bytes.now) e in
     left_as
     (ap (λ (m : Told Meaning). by_meaning m a.bytes.now a.r.places a.storage.now) (meaning_given a.id p a.bytes.now e)
     ∙ ap (λ (x : List ℕ). by_meaning (meant p.source p.dgn x) x a.r.places a.storage.now) (sym b))

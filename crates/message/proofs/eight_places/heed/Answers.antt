@@ -10,24 +10,20 @@ use Rattle.message.proofs.eight_places.heed.Goals as goal
 
 pub returns-in-Malformed : goal.returns-in-Malformed
 returns-in-Malformed c =
-    let b = c in
-    let a = b.args in
-    left _ a.storage.now _ (ap (λ (m : Told Meaning). by_meaning m a.bytes a.r.places a.storage.now) (sym b.meaning_of.ensures ∙ ap told_meant c.in-Malformed.is)) c.keeps.result a.r MalformedAnnouncement c.keeps.ensures refl refl
+    let a = c.args in
+    left _ a.storage.now _ (ap (λ (m : Told Meaning). by_meaning m a.bytes a.r.places a.storage.now) (sym c.meaning_of.ensures ∙ ap told_meant c.in-Malformed.is)) c.keeps.result a.r MalformedAnnouncement c.keeps.ensures refl refl
 
 pub returns-in-Other : goal.returns-in-Other
 returns-in-Other c =
-    let b = c in
-    let a = b.args in
-    left _ a.storage.now _ (ap (λ (m : Told Meaning). by_meaning m a.bytes a.r.places a.storage.now) (sym b.meaning_of.ensures ∙ ap told_meant c.in-Other.is)) c.keeps-in-Other.result a.r NothingToDo c.keeps-in-Other.ensures refl refl
+    let a = c.args in
+    left _ a.storage.now _ (ap (λ (m : Told Meaning). by_meaning m a.bytes a.r.places a.storage.now) (sym c.meaning_of.ensures ∙ ap told_meant c.in-Other.is)) c.keeps-in-Other.result a.r NothingToDo c.keeps-in-Other.ensures refl refl
 
 pub returns-in-Announcement : goal.returns-in-Announcement
 returns-in-Announcement c =
-    let b = c in
-    let a = b.args in
-    left_as (ap (λ (m : Told Meaning). by_meaning m a.bytes a.r.places a.storage.now) (sym b.meaning_of.ensures ∙ ap told_meant c.in-Announcement.is)) (c.announce.ensures a.storage.now)
+    let a = c.args in
+    left_as (ap (λ (m : Told Meaning). by_meaning m a.bytes a.r.places a.storage.now) (sym c.meaning_of.ensures ∙ ap told_meant c.in-Announcement.is)) (c.announce.ensures a.storage.now)
 
 pub returns-in-Packet : goal.returns-in-Packet
 returns-in-Packet c =
-    let b = c in
-    let a = b.args in
-    left_as (ap (λ (m : Told Meaning). by_meaning m a.bytes a.r.places a.storage.now) (sym b.meaning_of.ensures ∙ ap told_meant c.in-Packet.is)) c.packet.ensures
+    let a = c.args in
+    left_as (ap (λ (m : Told Meaning). by_meaning m a.bytes a.r.places a.storage.now) (sym c.meaning_of.ensures ∙ ap told_meant c.in-Packet.is)) c.packet.ensures

@@ -18,11 +18,10 @@ returns-then-number-p c =
 
 pub returns : goal.returns
 returns c =
-    let k = c in
     let a = c.args in
     let ps = a.r.places in
     let p = get_or ps a.at free_place in
-    let n = k.if-number-p.false in
-    let e : k.keep.new.storage ≡ kept_at a.at p a.bytes a.storage.now = k.keep.ensures ∙ rw (k.at_most_seven-count.ensures, n) in
+    let n = c.if-number-p.false in
+    let e : c.keep.new.storage ≡ kept_at a.at p a.bytes a.storage.now = c.keep.ensures ∙ rw (c.at_most_seven-count.ensures, n) in
     left_as (packet_expected a.at p ps a.storage.now a.number a.bytes n)
     (subst⁻¹ (λ (s : List ℕ). LeftBy (advanced a.at p ps (kept_at a.at p a.bytes a.storage.now)) c.advance.result s) e (c.advance.ensures (kept_at a.at p a.bytes a.storage.now)))

@@ -19,5 +19,4 @@ returns-then-first-ne-TO_ALL c = search (tests, c.if-first-ne-TO_ALL.true)
 pub returns : goal.returns
 unfolding meant
 returns c =
-    let d = c in
-    c.announced.ensures ∙ rw (d.dgn_in.ensures, d.size_in.ensures) (search tests)
+    c.announced.ensures ∙ rw (c.dgn_in.ensures, c.size_in.ensures) (search tests)

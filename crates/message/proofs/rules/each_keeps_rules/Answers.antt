@@ -2,7 +2,6 @@
 use mathlib.Core.Path.{refl, sym, ◌∙◌}
 use Prim.Native.Nat.{◌<◌}
 use native.Mathlib.Omega.{arith}
-use borrow.Author.Tests.{not-true, not-false}
 use borrow.Author.Rules.{rules}
 use lib.ListN.{length}
 use Rattle.message.specs.Receiver.{free_place, place_keeps_rules}
@@ -17,14 +16,14 @@ returns-then-not-keeps_rules c =
     let l = c.loop-i in
     let ps = c.args.r.places in
     let h : l.i < length ps = omega arith in
-    sym (l.invariant.2 ∙ every_stop place_keeps_rules ps l.i free_place h (sym c.keeps_rules.ensures ∙ not-true c.keeps_rules.result c.if-not-keeps_rules.true-raw))
+    sym (l.invariant.2 ∙ every_stop place_keeps_rules ps l.i free_place h (sym c.keeps_rules.ensures ∙ c.if-not-keeps_rules.true))
 
 pub loop-i-preserved : goal.loop-i-preserved
 loop-i-preserved c =
     let l = c.loop-i in
     let ps = c.args.r.places in
     let h : l.i < length ps = omega arith in
-    (search rules, l.invariant.1, l.invariant.2 ∙ every_pass place_keeps_rules ps l.i free_place h (sym c.keeps_rules.ensures ∙ not-false c.keeps_rules.result c.if-not-keeps_rules.false-raw))
+    (search rules, l.invariant.1, l.invariant.2 ∙ every_pass place_keeps_rules ps l.i free_place h (sym c.keeps_rules.ensures ∙ c.if-not-keeps_rules.false))
 
 pub returns : goal.returns
 returns c =

@@ -3,7 +3,7 @@ use mathlib.Core.Path.{◌≡◌, refl, sym, ◌∙◌}
 use mathlib.Core.Bool.{true, false}
 use Prim.Native.Nat.{◌+◌, ◌<◌}
 use native.Mathlib.Omega.{arith}
-use borrow.Author.Tests.{not-true, not-false}
+use borrow.Author.Tests.{not-true}
 use borrow.Author.Rules.{rules}
 use lib.ListN.{length, drop, get_or}
 use Rattle.message.specs.Receiver.{free_place, layout}
@@ -22,7 +22,7 @@ returns-then-not-is_alone c =
     let ps = c.args.r.places in
     let h : l.i < length ps = omega arith in
     let same = any (same_holder layout (get_or ps l.i free_place)) (drop (l.i + 1) ps) in
-    let e : same ≡ true = not_flips same (sym c.is_alone.ensures ∙ not-true _ c.if-not-is_alone.true-raw) in
+    let e : same ≡ true = not_flips same (sym c.is_alone.ensures ∙ c.if-not-is_alone.true) in
     sym (l.invariant.2 ∙ no_two_stop (same_holder layout) ps l.i free_place h e)
 
 pub loop-i-preserved : goal.loop-i-preserved
@@ -31,7 +31,7 @@ loop-i-preserved c =
     let ps = c.args.r.places in
     let h : l.i < length ps = omega arith in
     let same = any (same_holder layout (get_or ps l.i free_place)) (drop (l.i + 1) ps) in
-    let e : same ≡ false = not-true same (sym c.is_alone.ensures ∙ not-false _ c.if-not-is_alone.false-raw) in
+    let e : same ≡ false = not-true same (sym c.is_alone.ensures ∙ c.if-not-is_alone.false) in
     (search rules, l.invariant.1, l.invariant.2 ∙ no_two_pass (same_holder layout) ps l.i free_place h e)
 
 pub returns : goal.returns

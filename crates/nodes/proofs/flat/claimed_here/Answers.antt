@@ -10,7 +10,6 @@ returns-then-has_name c = rw (sym c.has_name.ensures ∙ c.if-has_name.true) c.c
 pub returns : goal.returns
 unfolding claimed_here
 returns c =
-    let k = c in
-    let a = k.args in
-    rw (sym k.has_name.ensures ∙ k.if-has_name.false)
+    let a = c.args in
+    rw (sym c.has_name.ensures ∙ c.if-has_name.false)
     (c.entered.ensures ∙ ap (entered_of a.name) c.cleared-rest.ensures)

@@ -10,18 +10,16 @@ returns-then-has_name c = rw (sym c.has_name.ensures ∙ c.if-has_name.true) c.v
 pub returns-then-has_challenger : goal.returns-then-has_challenger
 unfolding cleared_of
 returns-then-has_challenger c =
-    let k = c in
     rw (
-      sym k.has_name.ensures ∙ k.if-has_name.false,
-      sym k.has_challenger.ensures ∙ c.if-has_challenger.true,
+      sym c.has_name.ensures ∙ c.if-has_name.false,
+      sym c.has_challenger.ensures ∙ c.if-has_challenger.true,
     ) c.unchallenged.ensures
 
 pub returns : goal.returns
 unfolding cleared_of
 returns c =
-    let k = c in
     rw (
-      sym k.has_name.ensures ∙ k.if-has_name.false,
-      sym k.has_challenger.ensures
+      sym c.has_name.ensures ∙ c.if-has_name.false,
+      sym c.has_challenger.ensures
           ∙ c.if-has_challenger.false,
     )

@@ -10,18 +10,16 @@ returns-then-gives_way c = rw (sym c.gives_way.ensures ∙ c.if-gives_way.true) 
 pub returns-then-may_challenge : goal.returns-then-may_challenge
 unfolding entered_of
 returns-then-may_challenge c =
-    let k = c in
     rw (
-      sym k.gives_way.ensures ∙ k.if-gives_way.false,
-      sym k.may_challenge.ensures ∙ c.if-may_challenge.true,
+      sym c.gives_way.ensures ∙ c.if-gives_way.false,
+      sym c.may_challenge.ensures ∙ c.if-may_challenge.true,
     ) c.challenged.ensures
 
 pub returns : goal.returns
 unfolding entered_of
 returns c =
-    let k = c in
     rw (
-      sym k.gives_way.ensures ∙ k.if-gives_way.false,
-      sym k.may_challenge.ensures
+      sym c.gives_way.ensures ∙ c.if-gives_way.false,
+      sym c.may_challenge.ensures
           ∙ c.if-may_challenge.false,
     )

@@ -1,6 +1,5 @@
 -- `nodes::flat::found_address` meets its contract. Assumes nothing.
 use mathlib.Core.Path.{sym, ◌∙◌}
-use borrow.Author.Tests.{not-true, not-false}
 use Rattle.nodes.proofs.Call.{sized_short, told_broken, sized_sound}
 use Rattle.nodes.proofs.flat.found_address.Goals as goal
 
@@ -9,10 +8,9 @@ returns-then-size-lt-RECORDS c = sym (sized_short _ _ _ c.if-size-lt-RECORDS.tru
 
 pub returns-then-not-keeps_rules : goal.returns-then-not-keeps_rules
 returns-then-not-keeps_rules c =
-    told_broken _ _ _ _ c.if-size-lt-RECORDS.false c.keeps_rules.ensures (not-true _ c.if-not-keeps_rules.true-raw)
+    told_broken _ _ _ _ c.if-size-lt-RECORDS.false c.keeps_rules.ensures (c.if-not-keeps_rules.true)
 
 pub returns : goal.returns
 returns c =
-    let k = c in
-    let e = sym k.keeps_rules.ensures ∙ not-false k.keeps_rules.result c.if-not-keeps_rules.false-raw in
-    c.address_in.ensures ∙ sym (sized_sound _ _ _ k.if-size-lt-RECORDS.false e)
+    let e = sym c.keeps_rules.ensures ∙ c.if-not-keeps_rules.false in
+    c.address_in.ensures ∙ sym (sized_sound _ _ _ c.if-size-lt-RECORDS.false e)

@@ -1,6 +1,5 @@
 -- `nodes::flat::judge` meets its contract. Assumes nothing.
 use mathlib.Core.Path.{sym, ap, ◌∙◌}
-use borrow.Author.Tests.{not-true, not-false}
 use Rattle.frame.specs.declared.Parts.{Parts}
 use Rattle.words.specs.Words.{Told}
 use Rattle.frame.specs.Promises.{told_verdict, bytes_if}
@@ -15,27 +14,22 @@ returns-then-size-lt-RECORDS c =
 
 pub returns-then-not-keeps_rules : goal.returns-then-not-keeps_rules
 returns-then-not-keeps_rules c =
-    let k = c in
-    let e = sym k.keeps_rules.ensures ∙ not-true k.keeps_rules.result c.if-not-keeps_rules.true-raw in
-    let t = asked_broken _ _ _ _ k.if-size-lt-RECORDS.false e in
+    let e = sym c.keeps_rules.ensures ∙ c.if-not-keeps_rules.true in
+    let t = asked_broken _ _ _ _ c.if-size-lt-RECORDS.false e in
     judged_unasked _ _ _ _ (sym t.0) (ap change_of t.1) c.unasked-then-not-keeps_rules.ensures
 
 pub returns-in-Bad : goal.returns-in-Bad
 returns-in-Bad c =
-    let m = c in
-    let k = m in
-    let v = sym m.check-checked.ensures.answer ∙ ap told_verdict c.in-Bad.is in
-    let e = sym k.keeps_rules.ensures ∙ not-false k.keeps_rules.result m.if-not-keeps_rules.false-raw in
-    let t = asked_bad _ _ _ _ k.if-size-lt-RECORDS.false e _ v in
+    let v = sym c.check-checked.ensures.answer ∙ ap told_verdict c.in-Bad.is in
+    let e = sym c.keeps_rules.ensures ∙ c.if-not-keeps_rules.false in
+    let t = asked_bad _ _ _ _ c.if-size-lt-RECORDS.false e _ v in
     judged_unasked _ _ _ _ (sym t.0) (ap change_of t.1) c.unasked-in-Bad.ensures
 
 pub returns-in-Sound : goal.returns-in-Sound
 returns-in-Sound c =
-    let m = c in
-    let k = m in
-    let b = k.args.bytes.now in
-    let v = sym m.check-checked.ensures.answer ∙ ap told_verdict c.in-Sound.is in
-    let d = m.check-checked.ensures.data_bytes ∙ ap (λ (t : Told Parts). bytes_if t b) v in
-    let e = sym k.keeps_rules.ensures ∙ not-false k.keeps_rules.result m.if-not-keeps_rules.false-raw in
-    let t = asked_sound _ _ _ b k.if-size-lt-RECORDS.false e _ v in
+    let b = c.args.bytes.now in
+    let v = sym c.check-checked.ensures.answer ∙ ap told_verdict c.in-Sound.is in
+    let d = c.check-checked.ensures.data_bytes ∙ ap (λ (t : Told Parts). bytes_if t b) v in
+    let e = sym c.keeps_rules.ensures ∙ c.if-not-keeps_rules.false in
+    let t = asked_sound _ _ _ b c.if-size-lt-RECORDS.false e _ v in
     rw (t.0, t.1) (rw d at c.asked.ensures)

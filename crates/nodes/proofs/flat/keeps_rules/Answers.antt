@@ -2,7 +2,7 @@
 use mathlib.Core.Path.{◌≡◌, refl, sym, ◌∙◌}
 use Prim.Native.Nat.{◌≤◌, ◌<◌}
 use native.Mathlib.Omega.{arith}
-use borrow.Author.Tests.{not-true, not-false}
+use borrow.Author.Tests.{not-true}
 use lib.ListN.{length, get_or}
 use Rattle.words.proofs.Lists.{length_field}
 use Rattle.nodes.specs.Table.{absent}
@@ -19,34 +19,31 @@ returns-then-not-sound_record c =
     let l = c.loop-i in
     let ns = c.args.records in
     let h : l.i < length ns = omega arith in
-    let s = sym c.sound_record.ensures ∙ not-true c.sound_record.result c.if-not-sound_record.true-raw in
+    let s = sym c.sound_record.ensures ∙ c.if-not-sound_record.true in
     sym (rules_unsound ns l.i h s) ∙ l.invariant.2
 
 pub loop-i-preserved-then-not-n : goal.loop-i-preserved-then-not-n
 loop-i-preserved-then-not-n c =
-    let s' = c in
-    let l = s'.loop-i in
-    let ns = s'.args.records in
+    let l = c.loop-i in
+    let ns = c.args.records in
     let h : l.i < length ns = omega arith in
-    let s = sym s'.sound_record.ensures ∙ not-false s'.sound_record.result s'.if-not-sound_record.false-raw in
+    let s = sym c.sound_record.ensures ∙ c.if-not-sound_record.false in
     let p = not-true (get_or ns l.i absent).present c.if-not-n.true in
     (omega arith, l.invariant.1, sym (rules_absent ns l.i h s p) ∙ l.invariant.2)
 
 pub returns-then-stands_again : goal.returns-then-stands_again
 returns-then-stands_again c =
-    let s' = c in
-    let l = s'.loop-i in
-    let ns = s'.args.records in
+    let l = c.loop-i in
+    let ns = c.args.records in
     let h : l.i < length ns = omega arith in
     sym (rules_again ns l.i h (sym c.stands_again.ensures ∙ c.if-stands_again.true)) ∙ l.invariant.2
 
 pub loop-i-preserved : goal.loop-i-preserved
 loop-i-preserved c =
-    let s' = c in
-    let l = s'.loop-i in
-    let ns = s'.args.records in
+    let l = c.loop-i in
+    let ns = c.args.records in
     let h : l.i < length ns = omega arith in
-    let s = sym s'.sound_record.ensures ∙ not-false s'.sound_record.result s'.if-not-sound_record.false-raw in (
+    let s = sym c.sound_record.ensures ∙ c.if-not-sound_record.false in (
       omega arith,
       l.invariant.1,
       sym (rules_turn ns l.i h s (sym c.stands_again.ensures ∙ c.if-stands_again.false))

@@ -24,21 +24,19 @@ returns-then-gives_way c =
 pub returns-then-may_challenge : goal.returns-then-may_challenge
 unfolding claim_outcome
 returns-then-may_challenge c =
-    let w = c in
-    let a = w.args in
-    let e = sym (ap (gives_way a.claim.name) w.cleared-before.ensures) ∙ sym w.gives_way.ensures
+    let a = c.args in
+    let e = sym (ap (gives_way a.claim.name) c.cleared-before.ensures) ∙ sym c.gives_way.ensures
     ∙ c.if-gives_way.false in
-    let f = sym (ap (may_challenge a.claim.name) w.cleared-before.ensures)
+    let f = sym (ap (may_challenge a.claim.name) c.cleared-before.ensures)
     ∙ sym c.may_challenge.ensures ∙ c.if-may_challenge.true in
     search (tests, e, f)
 
 pub returns : goal.returns
 unfolding claim_outcome
 returns c =
-    let w = c in
-    let a = w.args in
-    let e = sym (ap (gives_way a.claim.name) w.cleared-before.ensures) ∙ sym w.gives_way.ensures
+    let a = c.args in
+    let e = sym (ap (gives_way a.claim.name) c.cleared-before.ensures) ∙ sym c.gives_way.ensures
     ∙ c.if-gives_way.false in
-    let f = sym (ap (may_challenge a.claim.name) w.cleared-before.ensures)
+    let f = sym (ap (may_challenge a.claim.name) c.cleared-before.ensures)
     ∙ sym c.may_challenge.ensures ∙ c.if-may_challenge.false in
     search (tests, e, f)

@@ -15,12 +15,9 @@ returns-then-n-ne0 c = rw (c.if-n.false, ne_eqb _ _ c.if-n-ne0.true)
 pub returns-then-n-ne0-2 : goal.returns-then-n-ne0-2
 unfolding sound_record
 returns-then-n-ne0-2 c =
-    let k = c in
-    rw (k.if-n.false, eq-eqb _ _ k.if-n-ne0.false, ne_eqb _ _ c.if-n-ne0-2.true)
+    rw (c.if-n.false, eq-eqb _ _ c.if-n-ne0.false, ne_eqb _ _ c.if-n-ne0-2.true)
 
 pub returns : goal.returns
 unfolding sound_record
 returns c =
-    let s = c in
-    let k = s in
-    rw (k.if-n.false, eq-eqb _ _ k.if-n-ne0.false, eq-eqb _ _ s.if-n-ne0-2.false)
+    rw (c.if-n.false, eq-eqb _ _ c.if-n-ne0.false, eq-eqb _ _ c.if-n-ne0-2.false)

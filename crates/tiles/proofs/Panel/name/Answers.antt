@@ -1,6 +1,5 @@
 -- `tiles::Panel::name` meets its contract. Assumes nothing.
 use mathlib.Core.Path.{refl, sym, ap, ◌∙◌}
-use borrow.Author.Tests.{not-true, not-false}
 use Rattle.catalogue.specs.Promises.{told_looked}
 use Rattle.tiles.specs.declared.Naming.TheVariants as Naming
 use Rattle.tiles.proofs.Steps.{name_refused, name_done, broken, no_row, no_tile, not_accepted, is_named_lem}
@@ -8,50 +7,45 @@ use Rattle.tiles.proofs.Panel.name.Goals as goal
 
 pub returns-then-not-keep_rules : goal.returns-then-not-keep_rules
 returns-then-not-keep_rules c =
-    let s = c in
-    let a = s.args in
-    let k = sym c.keep_rules.ensures ∙ not-true _ c.if-not-keep_rules.true-raw in
+    let a = c.args in
+    let k = sym c.keep_rules.ensures ∙ c.if-not-keep_rules.true in
     name_refused a.tile a.row a.instance a.self Naming.BrokenState 2 _ refl
     (broken a.tile a.row a.instance a.self k) c.unnamed.ensures
 
 pub returns-in_default : goal.returns-in_default
 returns-in_default c =
-    let l = c in
-    let a = l.args in
-    let k = sym l.keep_rules.ensures ∙ not-false _ l.if-not-keep_rules.false-raw in
-    let e = sym l.row_at-looked.ensures.answer ∙ ap told_looked c.in_default.is in
+    let a = c.args in
+    let k = sym c.keep_rules.ensures ∙ c.if-not-keep_rules.false in
+    let e = sym c.row_at-looked.ensures.answer ∙ ap told_looked c.in_default.is in
     name_refused a.tile a.row a.instance a.self Naming.NoSuchRow 11 _ refl
     (no_row a.tile a.row a.instance a.self 11 k e) c.unnamed-in_default.ensures
 
 pub returns-then-tile-ge-TILES : goal.returns-then-tile-ge-TILES
 returns-then-tile-ge-TILES c =
-    let l = c in
-    let a = l.args in
-    let k = sym l.keep_rules.ensures ∙ not-false _ l.if-not-keep_rules.false-raw in
-    let e = sym l.row_at-looked.ensures.answer ∙ ap told_looked c.in-Is.is in
+    let a = c.args in
+    let k = sym c.keep_rules.ensures ∙ c.if-not-keep_rules.false in
+    let e = sym c.row_at-looked.ensures.answer ∙ ap told_looked c.in-Is.is in
     name_refused a.tile a.row a.instance a.self Naming.NoSuchTile 23 _ refl
     (no_tile a.tile a.row a.instance a.self _ k e c.if-tile-ge-TILES.true) c.unnamed-then-tile-ge-TILES.ensures
 
 pub returns-then-not-is_accepted : goal.returns-then-not-is_accepted
 returns-then-not-is_accepted c =
-    let l = c in
-    let a = l.args in
-    let k = sym l.keep_rules.ensures ∙ not-false _ l.if-not-keep_rules.false-raw in
-    let e = sym l.row_at-looked.ensures.answer ∙ ap told_looked
+    let a = c.args in
+    let k = sym c.keep_rules.ensures ∙ c.if-not-keep_rules.false in
+    let e = sym c.row_at-looked.ensures.answer ∙ ap told_looked
     c.in-Is.is in
-    let n = sym c.is_accepted.ensures ∙ not-true _ c.if-not-is_accepted.true-raw in
+    let n = sym c.is_accepted.ensures ∙ c.if-not-is_accepted.true in
     name_refused a.tile a.row a.instance a.self Naming.RowNotAccepted 24 _ refl
     (not_accepted a.tile a.row a.instance a.self _ k e c.if-tile-ge-TILES.false n)
     c.unnamed-then-not-is_accepted.ensures
 
 pub returns : goal.returns
 returns c =
-    let l = c in
-    let a = l.args in
-    let k = sym l.keep_rules.ensures ∙ not-false _ l.if-not-keep_rules.false-raw in
-    let e = sym l.row_at-looked.ensures.answer ∙ ap told_looked
+    let a = c.args in
+    let k = sym c.keep_rules.ensures ∙ c.if-not-keep_rules.false in
+    let e = sym c.row_at-looked.ensures.answer ∙ ap told_looked
     c.in-Is.is in
-    let n = sym c.is_accepted.ensures ∙ not-false _ c.if-not-is_accepted.false-raw in
+    let n = sym c.is_accepted.ensures ∙ c.if-not-is_accepted.false in
     name_done a.tile a.row a.instance a.self _
     (is_named_lem a.tile a.row a.instance a.self _ k e c.if-tile-ge-TILES.false n)
     (rw (c.replace.ensures, c.fresh.ensures))

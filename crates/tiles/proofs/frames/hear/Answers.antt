@@ -10,17 +10,15 @@ mask-mask-requires c = c.packed_rows-table.ensures.answer
 
 pub heard_by_all-requires : goal.heard_by_all-requires
 heard_by_all-requires c =
-    let s = c in
-    let a = s.args in record {
+    let a = c.args in record {
       rows_held = c.packed_rows-table.ensures.answer;
-      frame_sound = subst (λ (d : ℕ). IsSound a.id a.bytes.now d a.instance) (sym c.catalogue_form-form.ensures.answer) s.requires.frame_sound;
-      panel_sound = s.requires.panel_sound;
+      frame_sound = subst (λ (d : ℕ). IsSound a.id a.bytes.now d a.instance) (sym c.catalogue_form-form.ensures.answer) c.requires.frame_sound;
+      panel_sound = c.requires.panel_sound;
     }
 
 pub returns : goal.returns
 returns c =
-    let s = c in
-    let a = s.args in
+    let a = c.args in
     all_heard _ _ a.instance _ a.bytes.now a.p _
-    c.catalogue_form-form.ensures.answer s.requires.frame_sound.of_instance
+    c.catalogue_form-form.ensures.answer c.requires.frame_sound.of_instance
     c.heard_by_all.ensures c.mask-mask.ensures

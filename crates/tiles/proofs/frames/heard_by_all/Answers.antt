@@ -15,8 +15,7 @@ use Rattle.tiles.proofs.frames.heard_by_all.Goals as goal
 pub loop-i-init : goal.loop-i-init
 unfolding keeps_rules
 loop-i-init c =
-    let s = c in
-    (search rules, search length_field, s.requires.rows_held, s.requires.frame_sound, s.requires.panel_sound, refl)
+    (search rules, search length_field, c.requires.rows_held, c.requires.frame_sound, c.requires.panel_sound, refl)
 
 pub heard_by-requires : goal.heard_by-requires
 heard_by-requires c =

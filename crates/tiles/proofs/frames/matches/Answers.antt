@@ -1,6 +1,5 @@
 -- `tiles::frames::matches` meets its contract. Assumes nothing.
 use mathlib.Core.Path.{sym, ◌∙◌}
-use borrow.Author.Tests.{not-true, not-false}
 use Rattle.tiles.proofs.Steps.{looked_row, matches_blank, matches_other, matches_by}
 use Rattle.tiles.proofs.frames.matches.Goals as goal
 
@@ -12,13 +11,11 @@ returns-then-is_blank c =
 pub returns-then-not-is_of_instance : goal.returns-then-not-is_of_instance
 returns-then-not-is_of_instance c =
     let a = c.args in
-    matches_other a.dgn a.instance a.t (sym c.is_of_instance.ensures ∙ not-true _ c.if-not-is_of_instance.true-raw)
+    matches_other a.dgn a.instance a.t (sym c.is_of_instance.ensures ∙ c.if-not-is_of_instance.true)
 
 pub returns : goal.returns
 returns c =
-    let i = c in
-    let b = i in
-    let a = b.args in
-    let l = looked_row a.table.now a.t.row _ b.requires c.row_in.ensures in
-    matches_by a.dgn a.instance a.t _ _ (sym b.is_blank.ensures ∙ i.if-is_blank.false)
-    (sym i.is_of_instance.ensures ∙ not-false _ c.if-not-is_of_instance.false-raw) l c.is_of_dgn.ensures
+    let a = c.args in
+    let l = looked_row a.table.now a.t.row _ c.requires c.row_in.ensures in
+    matches_by a.dgn a.instance a.t _ _ (sym c.is_blank.ensures ∙ c.if-is_blank.false)
+    (sym c.is_of_instance.ensures ∙ c.if-not-is_of_instance.false) l c.is_of_dgn.ensures

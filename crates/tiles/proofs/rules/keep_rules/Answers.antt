@@ -2,7 +2,6 @@
 use mathlib.Core.Path.{refl, sym, ◌∙◌}
 use Prim.Native.Nat.{◌<◌}
 use native.Mathlib.Omega.{arith}
-use borrow.Author.Tests.{not-true, not-false}
 use lib.ListN.{length}
 use Rattle.words.proofs.Lists.{length_field, every_pass, every_stop, every_end}
 use Rattle.tiles.specs.Tile.{tile_keeps_rules, blank_tile}
@@ -22,7 +21,7 @@ returns-then-not-tile_keeps_rules c =
     let l = c.loop-i in
     let ts = c.args.p.tiles in
     let h : l.i < length ts = omega arith in
-    let e = sym c.tile_keeps_rules.ensures ∙ not-true _ c.if-not-tile_keeps_rules.true-raw in
+    let e = sym c.tile_keeps_rules.ensures ∙ c.if-not-tile_keeps_rules.true in
     sym (l.invariant.3 ∙ every_stop tile_keeps_rules ts l.i blank_tile h e)
 
 pub loop-i-preserved : goal.loop-i-preserved
@@ -30,7 +29,7 @@ loop-i-preserved c =
     let l = c.loop-i in
     let ts = c.args.p.tiles in
     let h : l.i < length ts = omega arith in
-    let e = sym c.tile_keeps_rules.ensures ∙ not-false _ c.if-not-tile_keeps_rules.false-raw in
+    let e = sym c.tile_keeps_rules.ensures ∙ c.if-not-tile_keeps_rules.false in
     (search rules, l.invariant.1, l.invariant.2, l.invariant.3 ∙ every_pass tile_keeps_rules ts l.i blank_tile h e)
 
 pub returns : goal.returns
