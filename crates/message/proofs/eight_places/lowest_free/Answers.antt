@@ -26,9 +26,9 @@ returns-then-at-lt-PLACES c =
     let l = c.loop-i in
     let ps = c.args.r.places in
     elim c.if-i-ge-PLACES.branch [
-      then-i-ge-PLACES w ↦ absurd (omega arith)
-    | else-i-ge-PLACES+then-p-eq0 w ↦
-        (let h : l.i < length ps = omega arith in ap At w.at-is ∙ sym (l.invariant.2 ∙ search_stop is_free ps l.i free_place h (eq-eqb _ _ w.if-p-eq0.true)))
+      | then-i-ge-PLACES w ↦ absurd (omega arith)
+      | else-i-ge-PLACES+then-p-eq0 w ↦
+          (let h : l.i < length ps = omega arith in ap At w.at-is ∙ sym (l.invariant.2 ∙ search_stop is_free ps l.i free_place h (eq-eqb _ _ w.if-p-eq0.true)))
     ]
 
 pub returns-else-at-lt-PLACES : goal.returns-else-at-lt-PLACES
@@ -36,6 +36,6 @@ returns-else-at-lt-PLACES c =
     let l = c.loop-i in
     let ps = c.args.r.places in
     elim c.if-i-ge-PLACES.branch [
-      then-i-ge-PLACES w ↦ sym (l.invariant.2 ∙ search_end is_free ps l.i (omega arith))
-    | else-i-ge-PLACES+then-p-eq0 w ↦ absurd (omega arith)
+      | then-i-ge-PLACES w ↦ sym (l.invariant.2 ∙ search_end is_free ps l.i (omega arith))
+      | else-i-ge-PLACES+then-p-eq0 w ↦ absurd (omega arith)
     ]

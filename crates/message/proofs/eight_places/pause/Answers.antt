@@ -24,8 +24,8 @@ loop-i-preserved c =
       l.invariant.1,
       image_turn (idled a.ms) ps l.places l.i free_place c.idled.result h l.invariant.2 c.idled.ensures,
       elim c.if-closes.branch [
-        then-closes w ↦ count_turn (closes a.ms) (idled a.ms) ps l.places l.i free_place c.closes.result l.closed c.if-closes.closed h l.invariant.2 l.invariant.3 b (w.closed-is ∙ rw w.if-closes.true)
-      | else-closes w ↦ count_turn (closes a.ms) (idled a.ms) ps l.places l.i free_place c.closes.result l.closed c.if-closes.closed h l.invariant.2 l.invariant.3 b (w.closed-is ∙ rw w.if-closes.false (omega arith))
+        | then-closes w ↦ count_turn (closes a.ms) (idled a.ms) ps l.places l.i free_place c.closes.result l.closed c.if-closes.closed h l.invariant.2 l.invariant.3 b (w.closed-is ∙ rw w.if-closes.true)
+        | else-closes w ↦ count_turn (closes a.ms) (idled a.ms) ps l.places l.i free_place c.closes.result l.closed c.if-closes.closed h l.invariant.2 l.invariant.3 b (w.closed-is ∙ rw w.if-closes.false (omega arith))
       ],
       elim c.if-closes.branch [ then-closes w ↦ omega arith | else-closes w ↦ omega arith ],
     )
