@@ -28,7 +28,6 @@ id_found c = rw c.in-At-field.is at c.field-2.ensures
 
 data_found : (c : goal.In-At-field-2-2)
     → FieldFound (line_in (gap_at (id_at c))) (id_at c).id-to.given.0.0 data_key 16 (At c.in-At-field-2.data_to)
-
 data_found c = rw c.in-At-field-2.is at c.field-3.ensures
 
 pub returns-in_default : goal.returns-in_default
