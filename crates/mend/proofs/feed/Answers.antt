@@ -29,24 +29,21 @@ loop-well-smaller c =
 
 pub loop-well-preserved : goal.loop-well-preserved
 loop-well-preserved c =
-    let t = c in
-    let i = t.loop-well.invariant in
-    let d = t.lines-run.ensures.done in
+    let i = c.loop-well.invariant in
+    let d = c.lines-run.ensures.done in
     let ran = rw c.in-On.is at d.ran in
-    (t.lines-run.auto.1.1.1.1.0 ∙ i.0, i.1 ++ d.pieces, ran_join i.2 ran)
+    (c.lines-run.auto.1.1.1.1.0 ∙ i.0, i.1 ++ d.pieces, ran_join i.2 ran)
 
 pub returns-in-Used : goal.returns-in-Used
 returns-in-Used c =
-    let t = c in
-    let i = t.loop-well.invariant in
-    let d = t.lines-run.ensures.done in
+    let i = c.loop-well.invariant in
+    let d = c.lines-run.ensures.done in
     let ran = rw c.in-Used.is at d.ran in
-    record { read_to = t.lines-run.result.read_to; pieces = i.1 ++ d.pieces; ran = ran_join i.2 ran }
+    record { read_to = c.lines-run.result.read_to; pieces = i.1 ++ d.pieces; ran = ran_join i.2 ran }
 
 pub returns-in-Over : goal.returns-in-Over
 returns-in-Over c =
-    let t = c in
-    let i = t.loop-well.invariant in
-    let d = t.lines-run.ensures.done in
+    let i = c.loop-well.invariant in
+    let d = c.lines-run.ensures.done in
     let ran = rw c.in-Over.is at d.ran in
-    record { read_to = t.lines-run.result.read_to; pieces = i.1 ++ d.pieces; ran = ran_join i.2 ran }
+    record { read_to = c.lines-run.result.read_to; pieces = i.1 ++ d.pieces; ran = ran_join i.2 ran }

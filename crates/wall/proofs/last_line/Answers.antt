@@ -6,10 +6,9 @@ use Rattle.wall.proofs.last_line.Goals as goal
 fits : (c : goal.In-Carried-2) → c.in-Carried.count ≤ length
     c.args.listener.cutter.carry
 fits c =
-    let n = c in
-    let a = n.args in
+    let a = c.args in
     let l : length a.listener.cutter.carry ≡ 80 = search rules in
-    let h = last_fits c.in-Carried.count a.listener.cutter n.last-ending.result n.last-ending.ensures
+    let h = last_fits c.in-Carried.count a.listener.cutter c.last-ending.result c.last-ending.ensures
     c.in-Carried.is in
     omega arith
 
@@ -18,6 +17,5 @@ slice_bounds-carry-end c = fits c
 
 pub slice_bounds-hear_line-end : goal.slice_bounds-hear_line-end
 slice_bounds-hear_line-end c =
-    let f = c in
-    sym (length-take-le f.in-Carried.count
-    f.args.listener.cutter.carry (fits f))
+    sym (length-take-le c.in-Carried.count
+    c.args.listener.cutter.carry (fits c))

@@ -8,8 +8,7 @@ use Rattle.mend.proofs.fields.capital_of.Goals as goal
 
 pub overflow_sub-result : goal.overflow_sub-result
 overflow_sub-result c =
-    let b = c in
-    let l = small_least b.args.code (sym b.is_small.ensures ∙ c.if-is_small.true) in
+    let l = small_least c.args.code (sym c.is_small.ensures ∙ c.if-is_small.true) in
     omega arith
 
 pub returns-then-is_small : goal.returns-then-is_small

@@ -8,19 +8,16 @@ use Rattle.mend.proofs.fields.field.Goals as goal
 
 pub returns-then-not-begins : goal.returns-then-not-begins
 returns-then-not-begins c =
-    let b = c in
-    let a = b.args in
-    field_missing a.line.now a.at a.key.now a.base (sym b.begins.ensures ∙ not-true b.begins.result c.if-not-begins.true-raw)
+    let a = c.args in
+    field_missing a.line.now a.at a.key.now a.base (sym c.begins.ensures ∙ not-true c.begins.result c.if-not-begins.true-raw)
 
 pub digits_to-requires : goal.digits_to-requires
 digits_to-requires c =
-    let b = c in
-    let a = b.args in
-    key_fits a.line.now a.at a.key.now (sym b.begins.ensures ∙ not-false b.begins.result c.if-not-begins.false-raw) (omega arith)
+    let a = c.args in
+    key_fits a.line.now a.at a.key.now (sym c.begins.ensures ∙ not-false c.begins.result c.if-not-begins.false-raw) (omega arith)
 
 pub returns : goal.returns
 returns c =
-    let b = c in
-    let a = b.args in
-    let e = sym b.begins.ensures ∙ not-false b.begins.result c.if-not-begins.false-raw in
+    let a = c.args in
+    let e = sym c.begins.ensures ∙ not-false c.begins.result c.if-not-begins.false-raw in
     field_there a.line.now a.at a.key.now a.base c.digits_to.result e (omega arith) c.digits_to.ensures

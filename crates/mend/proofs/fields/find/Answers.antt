@@ -32,57 +32,44 @@ data_found c = rw c.in-At-field-2.is at c.field-3.ensures
 
 pub returns-in_default : goal.returns-in_default
 returns-in_default c =
-    let f = c in
-    no_gap f.args.line.now (rw c.in_default.is at f.field.ensures)
+    no_gap c.args.line.now (rw c.in_default.is at c.field.ensures)
 
 pub field-requires-2 : goal.field-requires-2
 field-requires-2 c = let g = c in gap_room (line_in g) _ (gap_found g)
 
 pub returns-in_default-field : goal.returns-in_default-field
 returns-in_default-field c =
-    let f = c in
-    let g = f in
-    no_id (line_in g) _ (gap_found g) (rw c.in_default-field.is at f.field-2.ensures)
+    no_id (line_in c) _ (gap_found c) (rw c.in_default-field.is at c.field-2.ensures)
 
 pub field-requires-3 : goal.field-requires-3
 field-requires-3 c =
-    let i = c in
-    let g = gap_at i in
-    id_room (line_in g) _ (gap_found g) _ (id_found i)
+    let g = gap_at c in
+    id_room (line_in g) _ (gap_found g) _ (id_found c)
 
 pub returns-in_default-field-2 : goal.returns-in_default-field-2
 returns-in_default-field-2 c =
-    let f = c in
-    let i = f in
-    let g = gap_at i in
-    no_data (line_in g) _ (gap_found g) _ (id_found i) (rw c.in_default-field-2.is at f.field-3.ensures)
+    let g = gap_at c in
+    no_data (line_in g) _ (gap_found g) _ (id_found c) (rw c.in_default-field-2.is at c.field-3.ensures)
 
 pub rest-tail-requires : goal.rest-tail-requires
 rest-tail-requires c =
-    let d = c in
-    let g = gap_at (id_at d) in
-    data_room (line_in g) _ (gap_found g) _ (id_found (id_at d)) _ (data_found d)
+    let g = gap_at (id_at c) in
+    data_room (line_in g) _ (gap_found g) _ (id_found (id_at c)) _ (data_found c)
 
 pub returns-in-Nothing : goal.returns-in-Nothing
 returns-in-Nothing c =
-    let r = c in
-    let d = r in
-    let g = gap_at (id_at d) in
-    let e = rw c.in-Nothing.is at r.rest-tail.ensures in
-    all_there (line_in g) _ (gap_found g) _ (id_found (id_at d)) _ (data_found d) false e
+    let g = gap_at (id_at c) in
+    let e = rw c.in-Nothing.is at c.rest-tail.ensures in
+    all_there (line_in g) _ (gap_found g) _ (id_found (id_at c)) _ (data_found c) false e
 
 pub returns-in-Return : goal.returns-in-Return
 returns-in-Return c =
-    let r = c in
-    let d = r in
-    let g = gap_at (id_at d) in
-    let e = rw c.in-Return.is at r.rest-tail.ensures in
-    all_there (line_in g) _ (gap_found g) _ (id_found (id_at d)) _ (data_found d) true e
+    let g = gap_at (id_at c) in
+    let e = rw c.in-Return.is at c.rest-tail.ensures in
+    all_there (line_in g) _ (gap_found g) _ (id_found (id_at c)) _ (data_found c) true e
 
 pub returns-in-Other : goal.returns-in-Other
 returns-in-Other c =
-    let r = c in
-    let d = r in
-    let g = gap_at (id_at d) in
-    let e = rw c.in-Other.is at r.rest-tail.ensures in
-    no_end (line_in g) _ (gap_found g) _ (id_found (id_at d)) _ (data_found d) e
+    let g = gap_at (id_at c) in
+    let e = rw c.in-Other.is at c.rest-tail.ensures in
+    no_end (line_in g) _ (gap_found g) _ (id_found (id_at c)) _ (data_found c) e

@@ -28,45 +28,34 @@ id_digits c = id_length (start c).args.line.now c.in-Whole.places (places_fit c)
 
 pub returns-in_default : goal.returns-in_default
 returns-in_default c =
-    let f = c in
-    no_fields (sym (rw c.in_default.is at f.find.ensures.told))
+    no_fields (sym (rw c.in_default.is at c.find.ensures.told))
 
 pub overflow_add-places : goal.overflow_add-places
 overflow_add-places c =
-    let pl = c in
-    let f = places_fit pl in
+    let f = places_fit c in
     omega (arith, f.id, f.bytes, f.within)
 
 pub returns-then-places : goal.returns-then-places
 returns-then-places c =
-    let pl = c in
-    let f = places_fit pl in
-    no_digit (parts_read pl) (id_digits pl ∙ omega (arith, c.if-places.true))
+    let f = places_fit c in
+    no_digit (parts_read c) (id_digits c ∙ omega (arith, c.if-places.true))
 
 pub put_tidied-to-requires : goal.put_tidied-to-requires
 put_tidied-to-requires c =
-    let pl = c in
-    (omega arith, omega arith, places_fit pl)
+    (omega arith, omega arith, places_fit c)
 
 pub due-requires : goal.due-requires
 due-requires c =
-    let pl = c in
-    places_fit pl
+    places_fit c
 
 pub returns-in-Sound : goal.returns-in-Sound
 returns-in-Sound c =
-    let r = c in
-    let w = r in
-    let pl = w in
-    kept_so (start pl).args.line.now (parts_at (start pl).args.line.now pl.in-Whole.places) (parts_read pl)
-    (λ z. w.if-places.false (omega (arith, z, id_digits pl, (places_fit pl).id))) w.put_tidied-to.ensures.0 (omega arith) r.take_apart-read.result r.take_apart-read.ensures
-    c.due.ensures w.put_tidied-to.ensures.1 c.in-Sound.is
+    kept_so (start c).args.line.now (parts_at (start c).args.line.now c.in-Whole.places) (parts_read c)
+    (λ z. c.if-places.false (omega (arith, z, id_digits c, (places_fit c).id))) c.put_tidied-to.ensures.0 (omega arith) c.take_apart-read.result c.take_apart-read.ensures
+    c.due.ensures c.put_tidied-to.ensures.1 c.in-Sound.is
 
 pub returns-in-Malformed : goal.returns-in-Malformed
 returns-in-Malformed c =
-    let r = c in
-    let w = r in
-    let pl = w in
-    unsound (start pl).args.line.now (parts_at (start pl).args.line.now pl.in-Whole.places) (parts_read pl)
-    (λ z. w.if-places.false (omega (arith, z, id_digits pl, (places_fit pl).id))) w.put_tidied-to.ensures.0 (omega arith) r.take_apart-read.result r.take_apart-read.ensures
+    unsound (start c).args.line.now (parts_at (start c).args.line.now c.in-Whole.places) (parts_read c)
+    (λ z. c.if-places.false (omega (arith, z, id_digits c, (places_fit c).id))) c.put_tidied-to.ensures.0 (omega arith) c.take_apart-read.result c.take_apart-read.ensures
     c.in-Malformed.is

@@ -14,14 +14,12 @@ use Rattle.mend.proofs.reader.finish.Goals as goal
 -- a last line has at most 80 bytes
 last_short : (c : goal.In-Carried-2) → c.in-Carried.count ≤ 80
 last_short c =
-    let l = c in
-    last_fits _ l.args.cutter l.last-ending.result l.last-ending.ensures c.in-Carried.is
+    last_fits _ c.args.cutter c.last-ending.result c.last-ending.ensures c.in-Carried.is
 
 pub overflow_add-cutter : goal.overflow_add-cutter
 overflow_add-cutter c =
     let g = c.in-Carried.is in
-    let l = c in
-    let s = l.args.cutter in
+    let s = c.args.cutter in
     let h = not_ended s (λ e. let z : ◌≡◌ {A = ℕ} 0 1 = cc in omega arith) in
     omega arith
 
@@ -33,11 +31,10 @@ slice_bounds-carry-end c =
 
 pub slice_bounds-put_whole-end : goal.slice_bounds-put_whole-end
 slice_bounds-put_whole-end c =
-    let e = c in
-    let carry = e.args.cutter.carry in
+    let carry = c.args.cutter.carry in
     let n : length carry ≡ 80 = search rules in
-    let w = last_short e in
-    sym (length-take-le e.in-Carried.count carry (omega arith))
+    let w = last_short c in
+    sym (length-take-le c.in-Carried.count carry (omega arith))
 
 pub put_whole-requires : goal.put_whole-requires
 put_whole-requires c =
@@ -47,26 +44,20 @@ put_whole-requires c =
 pub overflow_add-cutter-in-TooLong : goal.overflow_add-cutter-in-TooLong
 overflow_add-cutter-in-TooLong c =
     let g = c.in-TooLong.is in
-    let l = c in
-    let s = l.args.cutter in
+    let s = c.args.cutter in
     let h = not_ended s (λ e. let z : ◌≡◌ {A = ℕ} 0 1 = cc in omega arith) in
     omega arith
 
 pub returns-in-Carried : goal.returns-in-Carried
 returns-in-Carried c =
-    let w = c in
-    let g = w.ending-1.given in
-    let l = w in
-    finished_line l.last-ending.ensures (ap (last_pieces l.args.cutter) g.1) w.put_whole.ensures.0
+    let g = c.ending-1.given in
+    finished_line c.last-ending.ensures (ap (last_pieces c.args.cutter) g.1) c.put_whole.ensures.0
 
 pub returns-in-TooLong : goal.returns-in-TooLong
 returns-in-TooLong c =
-    let w = c in
-    let g = w.enum_told-1.given in
-    let l = w in
-    finished_line l.last-ending.ensures (ap (last_pieces l.args.cutter) g.1) w.put_too_long.ensures.0
+    let g = c.enum_told-1.given in
+    finished_line c.last-ending.ensures (ap (last_pieces c.args.cutter) g.1) c.put_too_long.ensures.0
 
 pub returns-in-Nothing : goal.returns-in-Nothing
 returns-in-Nothing c =
-    let l = c in
-    finished_empty l.last-ending.ensures (ap (last_pieces l.args.cutter) c.in-Nothing.is)
+    finished_empty c.last-ending.ensures (ap (last_pieces c.args.cutter) c.in-Nothing.is)

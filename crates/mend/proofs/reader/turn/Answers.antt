@@ -22,15 +22,13 @@ within : (c : goal.In-Within-2)
     × (c.in-Within.to ≤ length c.args.block.now)
     × (c.in-Within.to - c.in-Within.from ≤ 80)
 within c =
-    let n = c in
-    let a = n.args in
-    within_block a.block.now a.read_to _ _ a.cutter n.next-cut.result n.next-cut.ensures c.in-Within.is
+    let a = c.args in
+    within_block a.block.now a.read_to _ _ a.cutter c.next-cut.result c.next-cut.ensures c.in-Within.is
 
 carried : (c : goal.In-Carried-2) → c.in-Carried.count ≤ 80
 carried c =
-    let n = c in
-    let a = n.args in
-    carried_fits a.block.now a.read_to _ a.cutter n.next-cut.result n.next-cut.ensures c.in-Carried.is
+    let a = c.args in
+    carried_fits a.block.now a.read_to _ a.cutter c.next-cut.result c.next-cut.ensures c.in-Carried.is
 
 pub slice_bounds-put_whole-count : goal.slice_bounds-put_whole-count
 slice_bounds-put_whole-count c = let w = within c in search rules
@@ -48,18 +46,16 @@ put_whole-end-requires c =
 
 pub slice_bounds-carry-end : goal.slice_bounds-carry-end
 slice_bounds-carry-end c =
-    let n = c in
-    let l : length n.next-cut.result.cutter.carry ≡ 80 = search rules in
+    let l : length c.next-cut.result.cutter.carry ≡ 80 = search rules in
     let w = carried c in
     omega arith
 
 pub slice_bounds-put_whole-end-in-Carried : goal.slice_bounds-put_whole-end-in-Carried
 slice_bounds-put_whole-end-in-Carried c =
     let g = c.answer-in-Carried-1.given in
-    let n = c in
-    let l : length n.next-cut.result.cutter.carry ≡ 80 = search rules in
+    let l : length c.next-cut.result.cutter.carry ≡ 80 = search rules in
     let w = carried c in
-    sym (length-take-le g.0.0 n.next-cut.result.cutter.carry (omega arith))
+    sym (length-take-le g.0.0 c.next-cut.result.cutter.carry (omega arith))
 
 pub put_whole-end-requires-in-Carried : goal.put_whole-end-requires-in-Carried
 put_whole-end-requires-in-Carried c =
@@ -68,31 +64,23 @@ put_whole-end-requires-in-Carried c =
 
 pub returns-in-Within : goal.returns-in-Within
 returns-in-Within c =
-    let w = c in
-    let g = w.answer-1.given in
-    let n = w in
-    rw c.left.ensures (turned n.next-cut.ensures (yields n g.1) w.put_whole-end.ensures.0)
+    let g = c.answer-1.given in
+    rw c.left.ensures (turned c.next-cut.ensures (yields c g.1) c.put_whole-end.ensures.0)
 
 pub returns-in-Carried : goal.returns-in-Carried
 returns-in-Carried c =
-    let w = c in
-    let g = w.answer-in-Carried-1.given in
-    let n = w in
-    rw c.left-in-Carried.ensures (turned n.next-cut.ensures (yields n g.1) w.put_whole-end-in-Carried.ensures.0)
+    let g = c.answer-in-Carried-1.given in
+    rw c.left-in-Carried.ensures (turned c.next-cut.ensures (yields c g.1) c.put_whole-end-in-Carried.ensures.0)
 
 pub returns-in-TooLong : goal.returns-in-TooLong
 returns-in-TooLong c =
-    let w = c in
-    let g = w.enum_told-1.given in
-    let n = w in
-    rw c.left-in-TooLong.ensures (turned n.next-cut.ensures (yields n g.1) w.put_too_long-end.ensures.0)
+    let g = c.enum_told-1.given in
+    rw c.left-in-TooLong.ensures (turned c.next-cut.ensures (yields c g.1) c.put_too_long-end.ensures.0)
 
 pub returns-in-BlockUsed : goal.returns-in-BlockUsed
 returns-in-BlockUsed c =
-    let n = c in
-    rw c.left-in-BlockUsed.ensures (used_up n.next-cut.ensures (yields n c.in-BlockUsed.is) (omega arith))
+    rw c.left-in-BlockUsed.ensures (used_up c.next-cut.ensures (yields c c.in-BlockUsed.is) (omega arith))
 
 pub returns-in-AllRead : goal.returns-in-AllRead
 returns-in-AllRead c =
-    let n = c in
-    rw c.left-in-AllRead.ensures (read_up n.next-cut.ensures (yields n c.in-AllRead.is) (omega arith))
+    rw c.left-in-AllRead.ensures (read_up c.next-cut.ensures (yields c c.in-AllRead.is) (omega arith))

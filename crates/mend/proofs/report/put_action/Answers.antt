@@ -6,23 +6,13 @@ use Rattle.mend.proofs.report.put_action.Goals as goal
 
 pub returns-then-not-due : goal.returns-then-not-due
 returns-then-not-due c =
-    let start = c in
-    not_due start.args.some start.args.word.now (not-true start.args.due c.if-not-due.true-raw) start.requires.0
+    not_due c.args.some c.args.word.now (not-true c.args.due c.if-not-due.true-raw) c.requires.0
 
 pub returns-then-not-some : goal.returns-then-not-some
 returns-then-not-some c =
-    let p = c in
-    let t = p in
-    let e = t in
-    let start = e in
-    first_due (not-false start.args.due e.if-not-due.false-raw) (not-true start.args.some t.if-not-some.true-raw) p.put.ensures start.requires.1 start.requires.0
+    first_due (not-false c.args.due c.if-not-due.false-raw) (not-true c.args.some c.if-not-some.true-raw) c.put.ensures c.requires.1 c.requires.0
 
 pub returns : goal.returns
 returns c =
-    let q = c in
-    let p = q in
-    let t = p in
-    let e = t in
-    let start = e in
-    next_due (not-false start.args.due e.if-not-due.false-raw) (not-false start.args.some t.if-not-some.false-raw) p.put-comma_end.ensures q.put-2.ensures
-    start.requires.1 start.requires.0
+    next_due (not-false c.args.due c.if-not-due.false-raw) (not-false c.args.some c.if-not-some.false-raw) c.put-comma_end.ensures c.put-2.ensures
+    c.requires.1 c.requires.0

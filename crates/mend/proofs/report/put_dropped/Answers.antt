@@ -6,7 +6,4 @@ use Rattle.mend.proofs.report.put_dropped.Goals as goal
 
 pub returns : goal.returns
 returns c =
-    let q₂ = c in
-    let q₁ = q₂ in
-    let start = q₁ in
-    dropped_put start.args.number q₁.put_decimal-number_end.ensures q₂.put.ensures (omega arith) start.requires
+    dropped_put c.args.number c.put_decimal-number_end.ensures c.put.ensures (omega arith) c.requires

@@ -16,5 +16,4 @@ slice_bounds-digits-end c = fits c
 
 pub slice_bounds-say-end : goal.slice_bounds-say-end
 slice_bounds-say-end c =
-    let p = c in
-    sym (length-take-le p.put_hex-end.result p.put_hex-end.new.0 (fits p))
+    sym (length-take-le c.put_hex-end.result c.put_hex-end.new.0 (fits c))

@@ -11,5 +11,4 @@ slice_bounds-digits-end c = fits c
 
 pub slice_bounds-say-end : goal.slice_bounds-say-end
 slice_bounds-say-end c =
-    let p = c in
-    sym (length-take-le p.put_decimal-end.result p.put_decimal-end.new.0 (fits p))
+    sym (length-take-le c.put_decimal-end.result c.put_decimal-end.new.0 (fits c))
