@@ -2,7 +2,6 @@
 use mathlib.Core.Path.{refl, sym, ◌∙◌}
 use native.Mathlib.Omega.{arith}
 use Rattle.traffic.proofs.Holding.{bounds, known, holds_known}
-use borrow.Author.Rules.{rules}
 use Rattle.traffic.proofs.counters.count_frame.Goals as goal
 
 pub find-found-requires : goal.find-found-requires

@@ -3,7 +3,6 @@ use Rattle.text.specs.Text.{text}
 use Rattle.text.proofs.Pieces.{wrote_decimal, fits_wrote, behind}
 use native.Mathlib.Omega.{arith}
 use Rattle.traffic.proofs.Printing.{none_said, some_said}
-use borrow.Author.Rules.{rules}
 use Rattle.traffic.proofs.report.put_gaps.Goals as goal
 
 pub returns-then-row-eq1 : goal.returns-then-row-eq1
@@ -13,6 +12,6 @@ returns-then-row-eq1 c =
 
 pub returns : goal.returns
 returns c =
-    let w₁ = wrote_decimal (text " least=") _ c.put_decimal-least_end.ensures (omega (arith, c.struct_known-1.given)) (omega arith) in
-    let w₂ = wrote_decimal (text " greatest=") _ c.put_decimal.ensures (omega (arith, c.struct_known-1.given)) (omega (arith, w₁.1, w₁.0.room)) in
+    let w₁ = wrote_decimal (text " least=") _ c.put_decimal-least_end.ensures (omega arith) (omega arith) in
+    let w₂ = wrote_decimal (text " greatest=") _ c.put_decimal.ensures (omega arith) (omega (arith, w₁.1, w₁.0.room)) in
     (rw (some_said c.args.row c.if-row-eq1.false) (behind w₁.0 w₂.0), omega (arith, w₁.1, w₂.1))

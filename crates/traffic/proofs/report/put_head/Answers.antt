@@ -5,7 +5,6 @@ use Rattle.text.specs.Text.{text}
 use Rattle.text.proofs.Pieces.{wrote_decimal, wrote_hex, behind}
 use native.Mathlib.Omega.{arith}
 use native.Mathlib.Nat.{div-one}
-use borrow.Author.Rules.{rules}
 use Rattle.traffic.proofs.report.put_head.Goals as goal
 
 pub returns : goal.returns

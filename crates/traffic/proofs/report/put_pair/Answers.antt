@@ -2,7 +2,6 @@
 use Rattle.traffic.specs.Counters.{row_text}
 use Rattle.text.proofs.Pieces.{behind}
 use native.Mathlib.Omega.{arith}
-use borrow.Author.Rules.{rules}
 use Rattle.traffic.proofs.report.put_pair.Goals as goal
 
 pub returns : goal.returns

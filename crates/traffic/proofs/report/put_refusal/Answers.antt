@@ -3,7 +3,6 @@ use Rattle.traffic.specs.Report.{refusal_text}
 use Rattle.text.specs.Text.{text}
 use Rattle.text.proofs.Pieces.{wrote_decimal, fits_wrote, behind}
 use native.Mathlib.Omega.{arith}
-use borrow.Author.Rules.{rules}
 use Rattle.traffic.proofs.report.put_refusal.Goals as goal
 
 pub returns : goal.returns
