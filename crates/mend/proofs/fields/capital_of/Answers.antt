@@ -1,7 +1,6 @@
 -- `mend::fields::capital_of` meets its contract. Assumes nothing.
 use mathlib.Core.Path.{sym, ◌∙◌}
 use native.Mathlib.Omega.{arith}
-use borrow.Author.Rules.{rules}
 use Rattle.mend.specs.Mending.{capital}
 use Rattle.mend.proofs.Finding.{small_least}
 use Rattle.mend.proofs.fields.capital_of.Goals as goal

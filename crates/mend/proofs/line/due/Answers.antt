@@ -2,7 +2,6 @@
 use mathlib.Core.Path.{sym, ap, ◌∙◌}
 use Prim.Native.Nat.{ℕ, ◌+◌}
 use native.Mathlib.Omega.{arith}
-use borrow.Author.Rules.{rules}
 use Rattle.words.specs.Words.{◌<?◌}
 use Rattle.mend.specs.Places.{parts_at}
 use Rattle.mend.proofs.Finding.{zeros_test, length_part, either_same, actions_same}

@@ -1,5 +1,4 @@
 -- `mend::line::put_data` meets its contract. Assumes nothing.
-use borrow.Author.Rules.{rules}
 use Rattle.mend.proofs.Putting.{key_room, data_put}
 use Rattle.mend.proofs.line.put_data.Goals as goal
 

@@ -1,5 +1,4 @@
 -- `mend::line::put_gap` meets its contract. Assumes nothing.
-use borrow.Author.Rules.{rules}
 use Rattle.mend.proofs.Putting.{gap_put}
 use Rattle.mend.proofs.line.put_gap.Goals as goal
 

@@ -1,5 +1,4 @@
 -- `mend::line::put_id` meets its contract. Assumes nothing.
-use borrow.Author.Rules.{rules}
 use Rattle.mend.proofs.Putting.{id_room, id_put}
 use Rattle.mend.proofs.line.put_id.Goals as goal
 

@@ -1,6 +1,5 @@
 -- `mend::line::put_tidied` meets its contract. Assumes nothing.
 use native.Mathlib.Omega.{arith}
-use borrow.Author.Rules.{rules}
 use Prim.Native.Nat.{◌+◌}
 use Rattle.mend.specs.Places.{parts_at}
 use Rattle.mend.proofs.Finding.{length_part}

@@ -1,12 +1,7 @@
 -- `mend::reader::lines` meets its contract. Assumes nothing.
-use mathlib.Core.Path.{◌≡◌, refl, ◌∙◌}
-use mathlib.Core.Logic.{◌⊎◌, inl, inr, ⊎_elim}
-use Prim.Native.Nat.{◌≤◌, ◌<◌, ◌-◌}
+use mathlib.Core.Path.{refl}
+use mathlib.Core.Logic.{inl, inr, ⊎_elim}
 use native.Mathlib.Omega.{arith}
-use borrow.Author.Rules.{rules}
-use lib.ListN.{length}
-use Rattle.mend.specs.Reader.{Done}
-use Rattle.mend.specs.declared.reader.Going.TheVariants.{On}
 use Rattle.mend.proofs.Reading.{begins, stopped, used_not_on, over_not_on}
 use Rattle.mend.proofs.reader.lines.Goals as goal
 
@@ -29,7 +24,7 @@ loop-written_to-preserved c =
     let h = c.turn-turned.ensures.advances e in (
       rw e at (c.turn-turned.ensures.does a.from a.cutter l.invariant.0),
       c.turn-turned.ensures.fits,
-      c.turn-turned.auto.1.1.1.1.0 ∙ l.invariant.2,
+      omega arith,
       omega arith,
       inr (omega arith, h.1),
     )

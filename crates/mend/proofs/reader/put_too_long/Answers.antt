@@ -1,6 +1,5 @@
 -- `mend::reader::put_too_long` meets its contract. Assumes nothing.
 use native.Mathlib.Omega.{arith}
-use borrow.Author.Rules.{rules}
 use Rattle.text.proofs.Pieces.{nothing}
 use Rattle.mend.specs.Report.{piece_mended}
 use Rattle.mend.proofs.reader.put_too_long.Goals as goal

@@ -1,5 +1,4 @@
 -- `mend::reader::put_whole` meets its contract. Assumes nothing.
-use borrow.Author.Rules.{rules}
 use Rattle.mend.specs.Report.{piece_mended}
 use Rattle.mend.proofs.reader.put_whole.Goals as goal
 

@@ -1,6 +1,5 @@
 -- `mend::report::put_actions` meets its contract. Assumes nothing.
 use native.Mathlib.Omega.{arith}
-use borrow.Author.Rules.{rules}
 use Rattle.mend.proofs.Putting.{actions_put}
 use Rattle.mend.proofs.report.put_actions.Goals as goal
 

@@ -1,6 +1,5 @@
 -- `mend::report::put_dropped` meets its contract. Assumes nothing.
 use native.Mathlib.Omega.{arith}
-use borrow.Author.Rules.{rules}
 use Rattle.mend.proofs.Putting.{dropped_put}
 use Rattle.mend.proofs.report.put_dropped.Goals as goal
 

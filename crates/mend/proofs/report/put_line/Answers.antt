@@ -1,5 +1,4 @@
 -- `mend::report::put_line` meets its contract. Assumes nothing.
-use borrow.Author.Rules.{rules}
 use Rattle.mend.proofs.Putting.{kept_line, dropped_line}
 use Rattle.mend.proofs.report.put_line.Goals as goal
 

@@ -1,8 +1,6 @@
 -- `mend::report::put_mended` meets its contract. Assumes nothing.
 use mathlib.Core.Path.{sym, ◌∙◌}
 use native.Mathlib.Omega.{arith}
-use borrow.Author.Tests.{not-true, not-false}
-use borrow.Author.Rules.{rules}
 use Rattle.text.specs.Text.{text}
 use Rattle.text.proofs.Pieces.{wrote_decimal, fits_wrote}
 use Rattle.mend.proofs.Putting.{mended_put, not_mended}
@@ -10,7 +8,7 @@ use Rattle.mend.proofs.report.put_mended.Goals as goal
 
 pub returns-then-not-any : goal.returns-then-not-any
 returns-then-not-any c =
-    not_mended c.args.number c.args.actions (sym c.any.ensures ∙ not-true c.any.result c.if-not-any.true-raw) c.requires
+    not_mended c.args.number c.args.actions (sym c.any.ensures ∙ c.if-not-any.true) c.requires
 
 pub put_actions-list_end-requires : goal.put_actions-list_end-requires
 put_actions-list_end-requires c =
@@ -20,5 +18,5 @@ put_actions-list_end-requires c =
 
 pub returns : goal.returns
 returns c =
-    mended_put c.args.number c.args.actions (sym c.any.ensures ∙ not-false c.any.result c.if-not-any.false-raw) c.put_decimal-number_end.ensures
+    mended_put c.args.number c.args.actions (sym c.any.ensures ∙ c.if-not-any.false) c.put_decimal-number_end.ensures
     c.put-head_end.ensures c.put_actions-list_end.ensures c.put.ensures (omega arith) c.requires

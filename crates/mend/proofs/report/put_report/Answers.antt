@@ -1,5 +1,4 @@
 -- `mend::report::put_report` meets its contract. Assumes nothing.
-use borrow.Author.Rules.{rules}
 use Rattle.mend.proofs.Putting.{kept_report, dropped_report}
 use Rattle.mend.proofs.report.put_report.Goals as goal
 
