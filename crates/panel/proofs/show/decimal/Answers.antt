@@ -8,12 +8,9 @@ use Rattle.text.proofs.Pieces.{end_within}
 use borrow.Author.Rules.{rules}
 use Rattle.panel.proofs.show.decimal.Goals as goal
 
-fits : (c : goal.After-put_decimal-end) → c.put_decimal-end.result ≤ length c.put_decimal-end.new.0
-fits c = end_within c.put_decimal-end.ensures (omega arith)
-
 pub slice_bounds-digits-end : goal.slice_bounds-digits-end
-slice_bounds-digits-end c = fits c
+slice_bounds-digits-end c = end_within c.put_decimal-end.ensures (omega arith)
 
 pub slice_bounds-say-end : goal.slice_bounds-say-end
 slice_bounds-say-end c =
-    sym (length-take-le c.put_decimal-end.result c.put_decimal-end.new.0 (fits c))
+    sym (length-take-le c.put_decimal-end.result c.put_decimal-end.new.out (end_within c.put_decimal-end.ensures (omega arith)))
