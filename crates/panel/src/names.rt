@@ -1,5 +1,5 @@
 // Who has which address: the panel's node table. `hear`, `pause` and `look_up` lend it to the library as a slice, and
-// nothing else does: such a function is proved by hand.
+// nothing else does.
 ghost use Rattle.std.specs.Prelude.{◌≡◌};
 ghost use Rattle.nodes.specs.Promises.{Hear, LookUp, Pause};
 

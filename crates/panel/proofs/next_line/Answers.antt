@@ -1,12 +1,10 @@
 -- `panel::next_line` is safe and ends. Assumes nothing.
 -- What it returns lies ahead in the block, so that the lines of a block end.
 use mathlib.Core.Path.{◌≡◌, sym, ap}
-use Prim.Native.Nat.{◌≤◌, ◌<◌}
 use native.Mathlib.Omega.{arith}
 use lib.Seq.{length-take-le}
 use lib.ListN.{length}
-use Rattle.capture.specs.Stream.{Piece}
-use Rattle.capture.specs.Feeding.{brings, yield_in, yield_of}
+use Rattle.capture.specs.Feeding.{yield_in}
 use Rattle.capture.proofs.Feeding.{next_advances, within_block, carried_fits}
 use borrow.Author.Rules.{rules}
 use Rattle.panel.proofs.next_line.Goals as goal

@@ -1,11 +1,8 @@
 -- `panel::show::decimal` is safe and ends. Assumes nothing.
 use mathlib.Core.Path.{sym}
-use Prim.Native.Nat.{◌≤◌}
 use native.Mathlib.Omega.{arith}
 use lib.Seq.{length-take-le}
-use lib.ListN.{length}
 use Rattle.text.proofs.Pieces.{end_within}
-use borrow.Author.Rules.{rules}
 use Rattle.panel.proofs.show.decimal.Goals as goal
 
 pub slice_bounds-digits-end : goal.slice_bounds-digits-end

@@ -1,8 +1,6 @@
 -- `panel::show::send` is safe and ends. Assumes nothing.
-use mathlib.Core.Path.{◌≡◌, sym}
-use Prim.Native.Nat.{◌≤◌}
+use mathlib.Core.Path.{◌≡◌}
 use native.Mathlib.Omega.{arith}
-use lib.Seq.{length-take-le}
 use lib.ListN.{length}
 use Rattle.capture.proofs.Laws.{written_length}
 use borrow.Author.Rules.{rules}
