@@ -20,7 +20,6 @@ use Rattle.catalogue.specs.Promises.{RowIn, RowsIn, told_looked}
 use Rattle.catalogue.specs.declared.Row.{Row}
 use Rattle.catalogue.specs.declared.Span.{Span}
 use Rattle.catalogue.specs.declared.Looked.{Looked}
-use Rattle.catalogue.specs.declared.Looked.TheVariants as Looked
 use Rattle.catalogue.proofs.Laws.{row_count_lem, within, row_in_packed, rows_in_packed}
 use Rattle.busread.specs.Step.{line_room}
 use Rattle.busread.specs.Report.{field_text, fields_text, rows_of}

@@ -14,7 +14,6 @@ use Rattle.capture.specs.Feeding as Feeding
 use Rattle.capture.specs.declared.Cutter.{Cutter}
 use Rattle.capture.specs.declared.Cut.{Cut}
 use Rattle.capture.specs.declared.Ending.{Ending}
-use Rattle.capture.specs.declared.Ending.TheVariants as Ending
 use Rattle.capture.proofs.Laws.{number_back}
 use Rattle.capture.proofs.Feeding.{blocks_do_not_matter}
 use Rattle.capture.proofs.Runs.{over_same, ended}
@@ -41,7 +40,7 @@ one_piece {c} {k} {block} {rest} {read_to} {blocks} r piece n y t =
     }
 
 -- a run in front of what is told of the rest of the block
-in_front : {c c' : Cutter} {k k' : Kept} {block words rest : List ℕ} {read_to read_to' : ℕ} {blocks : List (List ℕ)}
+in_front : {block : List ℕ} {read_to : ℕ} {c : Cutter} {k : Kept} {words : List ℕ} {read_to' : ℕ} {c' : Cutter} {k' : Kept} {rest : List ℕ} {blocks : List (List ℕ)}
     → Ran block read_to c k words read_to' c' k' On → Told c' k' (inside block read_to') blocks rest → Told c k (inside block read_to) blocks (words ++ rest)
 in_front begun t = t
 in_front {rest = rest} (a_line {words = words} {k' = k₁} r piece ran n y) t =

@@ -22,13 +22,11 @@ use Rattle.capture.specs.Line.{Frame, line_read}
 use Rattle.capture.specs.Promises.{TakeApart, frame_in, told_reading}
 use Rattle.capture.specs.declared.Line.{Line}
 use Rattle.capture.specs.declared.Reading.{Reading}
-use Rattle.capture.specs.declared.Reading.TheVariants as Reading
 use Rattle.text.specs.Pieces.{Wrote}
 use Rattle.busread.specs.Report.{refusal_text, print_of, printed, answer_text, counted, heard_in, line_text, kept_after}
 use Rattle.busread.specs.Step.{line_room, kept, Counting, Took}
 use Rattle.busread.specs.declared.report.Counts.{Counts}
 use Rattle.busread.specs.declared.step.Print.{Print}
-use Rattle.busread.specs.declared.step.Print.TheVariants as Print
 
 pub prints : (n : ℕ) (f : Frame) (storage : List ℕ) (answer : Told Outcome) {print : Print}
     → print_of answer ≡ print → answer_text n f storage answer ≡ printed n f (message_in storage answer) print

@@ -2,7 +2,7 @@
 -- Assumes nothing.
 use mathlib.Core.Path.{◌≡◌, sym, ap, ◌∙◌}
 use mathlib.Core.List.{List, [], ◌∷◌}
-use Prim.Native.Nat.{ℕ, ◌+◌, ◌-◌, ◌≤◌, ◌<◌}
+use Prim.Native.Nat.{ℕ, ◌+◌, ◌≤◌, ◌<◌}
 use native.Mathlib.Omega.{arith}
 use lib.ListN.{length, take}
 use Rattle.capture.specs.Stream.{most_lines, Piece, piece_read}
@@ -11,14 +11,12 @@ use Rattle.capture.specs.Feeding.{brings, used, over, yield_of}
 use Rattle.capture.specs.declared.Cutter.{Cutter}
 use Rattle.capture.specs.declared.Cut.{Cut}
 use Rattle.capture.specs.declared.Cutting.{Cutting}
-use Rattle.capture.specs.declared.Cutting.TheVariants as Cutting
 use Rattle.capture.specs.declared.Ending.{Ending}
-use Rattle.capture.specs.declared.Ending.TheVariants as Ending
 use Rattle.capture.proofs.Feeding.{next_advances, within_block, carried_fits}
 use Rattle.capture.proofs.Runs.{brought, used_lines, over_same, not_ended}
 use Rattle.text.specs.Pieces.{Wrote}
 use Rattle.busread.specs.Report.{Kept, closing_text, lines_text}
-use Rattle.busread.specs.Step.{kept, Took}
+use Rattle.busread.specs.Step.{Took}
 use Rattle.busread.specs.Reader.{kept_by, Ready, Ran, a_line, all_used, all_read, OneMore, stayed, Went, Turned}
 use Rattle.busread.specs.Reader.{Runs}
 use Rattle.busread.specs.declared.step.Step.{Step}

@@ -10,10 +10,12 @@ ghost use Rattle.busread.specs.Reader.{out_room, Ready};
 mod reader;
 mod report;
 mod step;
+mod streams;
 
-use libc::{STDIN_FILENO, STDOUT_FILENO};
 use message::limits::STORAGE_BYTES;
 use reader::{Going, Reader};
+use std::io;
+use streams::Streams;
 
 // The reader after a block, and whether another is to be read.
 #[derive(Clone, Copy)]
@@ -22,15 +24,32 @@ struct Fed {
     more: bool,
 }
 
-fn main() {
-    let mut block = io::large_buffer();
+fn main(rt: HostRuntime) -> io::Result<()> {
+    let mut streams = Streams::new(&rt);
+    let mut block = block();
     let mut storage = storage();
     let mut out = output();
     let table = catalogue::packed_rows();
-    io::write_all(STDOUT_FILENO, b"format=1\n");
-    let reader = read_all(reader::new(), &mut block, &mut storage, &mut out, &table);
+    streams.write(b"format=1\n");
+    let reader = reader::new();
+    let reader = read_all(
+        reader,
+        &mut streams,
+        &mut block,
+        &mut storage,
+        &mut out,
+        &table,
+    );
     let written_to = reader::finish(reader, &mut storage, &mut out, &table);
-    io::write_all(STDOUT_FILENO, &out[..written_to]);
+    streams.write(&out[..written_to]);
+    streams.outcome()
+}
+
+// Room for a block of the input.
+fn block() -> [u8; 65536]
+    ensures { length result ≡ 65536 }
+{
+    [0; 65536]
 }
 
 // The receiver's storage.
@@ -50,6 +69,7 @@ fn output() -> [u8; 131072]
 // Block after block. Nothing says that an input ends, so the loop counts down from a number that no input uses up.
 fn read_all(
     reader: Reader,
+    streams: &mut Streams,
     block: &mut [u8],
     storage: &mut [u8],
     out: &mut [u8],
@@ -61,7 +81,7 @@ fn read_all(
     let mut reader = reader;
     let mut turns = u64::MAX;
     while turns > 0 {
-        let fed = read_block(reader, block, storage, out, table);
+        let fed = read_block(reader, streams, block, storage, out, table);
         reader = fed.reader;
         if !fed.more {
             return reader;
@@ -74,6 +94,7 @@ fn read_all(
 // Reads once; nothing read is the end.
 fn read_block(
     reader: Reader,
+    streams: &mut Streams,
     block: &mut [u8],
     storage: &mut [u8],
     out: &mut [u8],
@@ -82,19 +103,25 @@ fn read_block(
     requires { (out_room ≤ length out.old) × (room ≤ length storage.old) × Ready reader × (table.now ≡ packed_rows) }
     ensures { Ready result.reader }
 {
-    let got = libc::read(STDIN_FILENO, block);
-    let count = io::count(got, block);
+    let count = streams.read(block);
     if count == 0 {
         return Fed {
             reader,
             more: false,
         };
     }
-    feed(reader, &block[..count], storage, out, table)
+    feed(reader, streams, &block[..count], storage, out, table)
 }
 
 // Takes the lines of a block, and writes what they print.
-fn feed(reader: Reader, block: &[u8], storage: &mut [u8], out: &mut [u8], table: &[u64]) -> Fed
+fn feed(
+    reader: Reader,
+    streams: &mut Streams,
+    block: &[u8],
+    storage: &mut [u8],
+    out: &mut [u8],
+    table: &[u64],
+) -> Fed
     requires { (out_room ≤ length out.old) × (room ≤ length storage.old) × Ready reader × (table.now ≡ packed_rows) }
     ensures { Ready result.reader }
 {
@@ -103,7 +130,7 @@ fn feed(reader: Reader, block: &[u8], storage: &mut [u8], out: &mut [u8], table:
     loop {
         let run = reader::lines(reader, block, read_to, storage, out, table);
         let written_to = run.written_to;
-        io::write_all(STDOUT_FILENO, &out[..written_to]);
+        streams.write(&out[..written_to]);
         reader = run.reader;
         let going = run.going;
         match going {

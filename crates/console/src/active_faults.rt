@@ -3,6 +3,7 @@
 use crate::claims::claim;
 use crate::commands::host;
 use crate::notes::{field_u8, field_u16, get, get_u16, get_u32, put, put_all, record};
+use crate::streams::Streams;
 use crate::{commands, fields, frames, notes, say, state};
 use faults::{
     Adding, Clearing, Fault, PLACES, Replied, Requested, Requesting, Sender, ServicePoint, Stepping,
@@ -13,181 +14,199 @@ use std::num::wrapping_add_usize;
 // The notes of a place: eight bytes, period, until_due, age.
 pub const FIELDS: usize = 11;
 
-pub fn call(n: usize, notes: &mut [u64], bytes: &mut [u8], packed: &mut [u64]) {
+pub fn call(
+    n: usize,
+    notes: &mut [u64],
+    bytes: &mut [u8],
+    packed: &mut [u64],
+    streams: &mut Streams,
+) {
     if n < 2 {
-        return look(n, notes, packed);
+        return look(n, notes, packed, streams);
     }
     if n < 6 {
-        return by_field(n, notes, bytes);
+        return by_field(n, notes, bytes, streams);
     }
-    of_sender(n, notes, bytes);
+    of_sender(n, notes, bytes, streams);
 }
 
 // The rows of DM_RV.
-fn look(n: usize, notes: &mut [u64], packed: &mut [u64]) {
+fn look(n: usize, notes: &mut [u64], packed: &mut [u64], streams: &mut Streams) {
     match n {
-        0 => packed_rows(notes, packed),
-        _ => row_at(notes),
+        0 => packed_rows(notes, packed, streams),
+        _ => row_at(notes, streams),
     }
 }
 
 // The rows of DM_RV become the lent table.
-fn packed_rows(notes: &mut [u64], packed: &mut [u64]) {
+fn packed_rows(notes: &mut [u64], packed: &mut [u64], streams: &mut Streams) {
     let rows = faults::packed_rows();
-    fields::lend(notes, packed, &rows);
+    fields::lend(notes, packed, &rows, streams);
 }
 
-fn row_at(notes: &mut [u64]) {
+fn row_at(notes: &mut [u64], streams: &mut Streams) {
     let answer = faults::row_at(get(notes, notes::FIRST) as usize);
-    fields::looked(notes, answer);
+    fields::looked(notes, answer, streams);
 }
 
 // The fields of a DM_RV.
-fn by_field(n: usize, notes: &mut [u64], bytes: &mut [u8]) {
+fn by_field(n: usize, notes: &mut [u64], bytes: &mut [u8], streams: &mut Streams) {
     match n {
-        2 => read(notes, bytes),
-        3 => write(notes, bytes),
-        4 => read_service_point(notes, bytes),
-        _ => write_service_point(notes, bytes),
+        2 => read(notes, bytes, streams),
+        3 => write(notes, bytes, streams),
+        4 => read_service_point(notes, bytes, streams),
+        _ => write_service_point(notes, bytes, streams),
     }
 }
 
-fn read(notes: &mut [u64], bytes: &[u8]) {
+fn read(notes: &mut [u64], bytes: &[u8], streams: &mut Streams) {
     let row = get(notes, notes::FIRST) as usize;
     let answer = faults::read(row, get_u32(notes, notes::SECOND), bytes);
-    fields::reading(notes, answer);
+    fields::reading(notes, answer, streams);
 }
 
-fn write(notes: &mut [u64], bytes: &mut [u8]) {
+fn write(notes: &mut [u64], bytes: &mut [u8], streams: &mut Streams) {
     let row = get(notes, notes::FIRST) as usize;
     let id = get_u32(notes, notes::SECOND);
     let value = fields::typed_value(notes, notes::FOURTH);
     let answer = faults::write(row, id, bytes, value);
-    fields::written(notes, bytes, answer);
+    fields::written(notes, bytes, answer, streams);
 }
 
-fn read_service_point(notes: &mut [u64], bytes: &[u8]) {
+fn read_service_point(notes: &mut [u64], bytes: &[u8], streams: &mut Streams) {
     let answer = faults::read_service_point(get_u32(notes, notes::FIRST), bytes);
-    tell_service_point(notes, answer);
-    say::end(notes, notes::FAULTS_SERVICE_POINT, answer.refusal());
+    tell_service_point(notes, answer, streams);
+    say::end(
+        notes,
+        notes::FAULTS_SERVICE_POINT,
+        answer.refusal(),
+        streams,
+    );
 }
 
-fn tell_service_point(notes: &mut [u64], answer: ServicePoint) {
+fn tell_service_point(notes: &mut [u64], answer: ServicePoint, streams: &mut Streams) {
     match answer {
-        ServicePoint::Is(number) => say::number(b"Is #", number as u64),
-        ServicePoint::BadFrame(why) => frames::bad_frame(notes, why),
-        ServicePoint::NoSuchRow => say::text(b"NoSuchRow"),
+        ServicePoint::Is(number) => say::number(b"Is #", number as u64, streams),
+        ServicePoint::BadFrame(why) => frames::bad_frame(notes, why, streams),
+        ServicePoint::NoSuchRow => say::text(b"NoSuchRow", streams),
     }
 }
 
-fn write_service_point(notes: &mut [u64], bytes: &mut [u8]) {
+fn write_service_point(notes: &mut [u64], bytes: &mut [u8], streams: &mut Streams) {
     let id = get_u32(notes, notes::FIRST);
     let answer = faults::write_service_point(id, bytes, get_u32(notes, notes::THIRD));
-    fields::written(notes, bytes, answer);
+    fields::written(notes, bytes, answer, streams);
 }
 
 // The sender.
-fn of_sender(n: usize, notes: &mut [u64], bytes: &[u8]) {
+fn of_sender(n: usize, notes: &mut [u64], bytes: &[u8], streams: &mut Streams) {
     match n {
-        6 => start(notes, bytes),
-        7 => add(notes, bytes),
-        8 => clear(notes),
-        9 => step(notes),
-        10 => request(notes, bytes),
-        11 => reply(notes, bytes),
+        6 => start(notes, bytes, streams),
+        7 => add(notes, bytes, streams),
+        8 => clear(notes, streams),
+        9 => step(notes, streams),
+        10 => request(notes, bytes, streams),
+        11 => reply(notes, bytes, streams),
         _ => {}
     }
 }
 
-fn start(notes: &mut [u64], bytes: &[u8]) {
+fn start(notes: &mut [u64], bytes: &[u8], streams: &mut Streams) {
     keep(notes, Sender::start(frames::first_eight(bytes)));
-    say::text(b"a sender of 32 empty places\n");
-    show(notes);
+    say::text(b"a sender of 32 empty places\n", streams);
+    show(notes, streams);
 }
 
 // `faults::Sender::add BYTES PERIOD`
-fn add(notes: &mut [u64], bytes: &[u8]) {
+fn add(notes: &mut [u64], bytes: &[u8], streams: &mut Streams) {
     let before = sender(notes);
     let period = get_u16(notes, notes::SECOND);
     let added = before.add(frames::first_eight(bytes), period);
     keep(notes, added.sender);
     let answer = added.answer;
     match answer {
-        Adding::Added(place) => say::number(b"Added #", place as u64),
-        Adding::BrokenState => say::text(b"BrokenState"),
-        Adding::NoPlace => say::text(b"NoPlace"),
-        Adding::PeriodNotAllowed => say::text(b"PeriodNotAllowed"),
+        Adding::Added(place) => say::number(b"Added #", place as u64, streams),
+        Adding::BrokenState => say::text(b"BrokenState", streams),
+        Adding::NoPlace => say::text(b"NoPlace", streams),
+        Adding::PeriodNotAllowed => say::text(b"PeriodNotAllowed", streams),
     }
-    end(notes, notes::FAULTS_ADDING, answer.refusal());
+    end(notes, notes::FAULTS_ADDING, answer.refusal(), streams);
 }
 
 // The end of an answer, and the sender.
-fn end(notes: &mut [u64], kind: usize, refusal: u8) {
-    say::end(notes, kind, refusal);
-    show(notes);
+fn end(notes: &mut [u64], kind: usize, refusal: u8, streams: &mut Streams) {
+    say::end(notes, kind, refusal, streams);
+    show(notes, streams);
 }
 
-fn clear(notes: &mut [u64]) {
+fn clear(notes: &mut [u64], streams: &mut Streams) {
     let before = sender(notes);
     let cleared = before.clear(get(notes, notes::FIRST) as usize);
     keep(notes, cleared.sender);
     let answer = cleared.answer;
     match answer {
-        Clearing::Cleared => say::text(b"Cleared"),
-        Clearing::BrokenState => say::text(b"BrokenState"),
-        Clearing::NoSuchFault => say::text(b"NoSuchFault"),
+        Clearing::Cleared => say::text(b"Cleared", streams),
+        Clearing::BrokenState => say::text(b"BrokenState", streams),
+        Clearing::NoSuchFault => say::text(b"NoSuchFault", streams),
     }
-    end(notes, notes::FAULTS_CLEARING, answer.refusal());
+    end(notes, notes::FAULTS_CLEARING, answer.refusal(), streams);
 }
 
-fn step(notes: &mut [u64]) {
+fn step(notes: &mut [u64], streams: &mut Streams) {
     let before = sender(notes);
     let stepped = before.step(claim(notes));
     keep(notes, stepped.sender);
     let answer = stepped.answer;
     let eight = stepped.bytes;
-    stepped_so(notes, answer, stepped.id, eight);
+    stepped_so(notes, answer, stepped.id, eight, streams);
 }
 
-fn stepped_so(notes: &mut [u64], answer: Stepping, id: u32, bytes: [u8; 8]) {
+fn stepped_so(notes: &mut [u64], answer: Stepping, id: u32, bytes: [u8; 8], streams: &mut Streams) {
     match answer {
-        Stepping::Send(place) => say::number(b"Send #", place as u64),
-        Stepping::NothingDue => say::text(b"NothingDue"),
-        Stepping::BrokenState => say::text(b"BrokenState"),
-        Stepping::ListMalformed => say::text(b"ListMalformed"),
-        Stepping::NoAddressHeld => say::text(b"NoAddressHeld"),
+        Stepping::Send(place) => say::number(b"Send #", place as u64, streams),
+        Stepping::NothingDue => say::text(b"NothingDue", streams),
+        Stepping::BrokenState => say::text(b"BrokenState", streams),
+        Stepping::ListMalformed => say::text(b"ListMalformed", streams),
+        Stepping::NoAddressHeld => say::text(b"NoAddressHeld", streams),
     }
-    say::frame(notes, id, bytes);
-    end(notes, notes::FAULTS_STEPPING, answer.refusal());
+    say::frame(notes, id, bytes, streams);
+    end(notes, notes::FAULTS_STEPPING, answer.refusal(), streams);
 }
 
-fn request(notes: &mut [u64], bytes: &[u8]) {
+fn request(notes: &mut [u64], bytes: &[u8], streams: &mut Streams) {
     let before = sender(notes);
     let asked = before.request(claim(notes), get_u32(notes, notes::FIRST), bytes);
-    requested(notes, asked);
-    show(notes);
+    requested(notes, asked, streams);
+    show(notes, streams);
 }
 
 // What the sender makes of a request.
-fn requested(notes: &mut [u64], requested: Requested) {
+fn requested(notes: &mut [u64], requested: Requested, streams: &mut Streams) {
     keep(notes, requested.sender);
     let answer = requested.answer;
     let eight = requested.bytes;
-    requested_so(notes, answer, requested.id, eight);
+    requested_so(notes, answer, requested.id, eight, streams);
 }
 
-fn requested_so(notes: &mut [u64], answer: Requesting, id: u32, bytes: [u8; 8]) {
-    tell_requesting(notes, answer);
-    say::frame(notes, id, bytes);
-    say::end(notes, notes::FAULTS_REQUESTING, answer.refusal());
+fn requested_so(
+    notes: &mut [u64],
+    answer: Requesting,
+    id: u32,
+    bytes: [u8; 8],
+    streams: &mut Streams,
+) {
+    tell_requesting(notes, answer, streams);
+    say::frame(notes, id, bytes, streams);
+    say::end(notes, notes::FAULTS_REQUESTING, answer.refusal(), streams);
 }
 
-fn tell_requesting(notes: &mut [u64], answer: Requesting) {
+fn tell_requesting(notes: &mut [u64], answer: Requesting, streams: &mut Streams) {
     match answer {
-        Requesting::BadFrame(why) => frames::bad_frame(notes, why),
+        Requesting::BadFrame(why) => frames::bad_frame(notes, why, streams),
         _ => say::word(
             b"NothingToDo Send BrokenState ListMalformed DgnTooLarge NoAddressHeld",
             number_of_requesting(answer),
+            streams,
         ),
     }
 }
@@ -204,20 +223,20 @@ fn number_of_requesting(answer: Requesting) -> usize {
 }
 
 // What the sender makes of a frame, and what the host makes of it.
-fn reply(notes: &mut [u64], bytes: &[u8]) {
+fn reply(notes: &mut [u64], bytes: &[u8], streams: &mut Streams) {
     let before = sender(notes);
     let id = get_u32(notes, notes::FIRST);
     let replied = before.reply(host(notes), claim(notes), id, bytes);
-    replied_so(notes, replied);
-    show(notes);
+    replied_so(notes, replied, streams);
+    show(notes, streams);
 }
 
-fn replied_so(notes: &mut [u64], replied: Replied) {
+fn replied_so(notes: &mut [u64], replied: Replied, streams: &mut Streams) {
     let ours = replied.faults;
-    say::text(b"faults=");
-    requested(notes, ours);
-    say::text(b"host=");
-    commands::requested(notes, replied.host);
+    say::text(b"faults=", streams);
+    requested(notes, ours, streams);
+    say::text(b"host=", streams);
+    commands::requested(notes, replied.host, streams);
     let eight = ours.bytes;
     sent_first(notes, ours.id, eight);
 }
@@ -312,22 +331,22 @@ fn keep_eight(notes: &mut [u64], at: usize, bytes: [u8; 8]) {
 }
 
 // The places that are not all zeros, and the bytes of no fault.
-pub fn show(notes: &[u64]) {
-    show_places(notes);
+pub fn show(notes: &[u64], streams: &mut Streams) {
+    show_places(notes, streams);
     let no_fault = eight(notes, notes::NO_FAULT);
-    say::bytes(b"  faults.no_fault=", &no_fault);
-    say::text(b"\n");
+    say::bytes(b"  faults.no_fault=", &no_fault, streams);
+    say::text(b"\n", streams);
 }
 
-fn show_places(notes: &[u64]) {
+fn show_places(notes: &[u64], streams: &mut Streams) {
     let mut i: usize = 0;
     while i < PLACES {
-        show_place(notes, i);
+        show_place(notes, i, streams);
         i += 1;
     }
 }
 
-fn show_place(notes: &[u64], position: usize) {
+fn show_place(notes: &[u64], position: usize, streams: &mut Streams) {
     let shown = state::show(
         notes,
         b"  faults.faults[#",
@@ -335,18 +354,20 @@ fn show_place(notes: &[u64], position: usize) {
         notes::FAULTS,
         FIELDS,
         position,
+        streams,
     );
     if shown {
-        show_fields(notes, record(notes::FAULTS, FIELDS, position));
+        show_fields(notes, record(notes::FAULTS, FIELDS, position), streams);
     }
 }
 
-fn show_fields(notes: &[u64], at: usize) {
+fn show_fields(notes: &[u64], at: usize, streams: &mut Streams) {
     let bytes = eight(notes, at);
-    say::bytes(b"", &bytes);
+    say::bytes(b"", &bytes, streams);
     say::form(
         b" period=# until_due=# age=#\n",
         notes,
         wrapping_add_usize(at, 8),
+        streams,
     );
 }

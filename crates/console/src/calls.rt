@@ -1,4 +1,5 @@
 // Every call of the library, part by part, with the shapes of its arguments; and the methods that number a refusal.
+use crate::streams::Streams;
 use crate::{arguments, notes, say, typing};
 use std::num::wrapping_add_usize;
 
@@ -12,7 +13,7 @@ pub fn part(notes: &[u64]) -> usize {
 
 // Which call of a part the line asks for, counted from 0, or `typing::NONE`. Its arguments are read and noted; where
 // they do not fit, that is said, and there is nothing more to answer.
-pub fn asked(notes: &mut [u64], part: usize) -> usize {
+pub fn asked(notes: &mut [u64], part: usize, streams: &mut Streams) -> usize {
     let n = typing::find(
         notes,
         b"take_apart form check destination_of catalogue_form number_of bytes_of dgn_bytes dgn_of |\
@@ -46,11 +47,12 @@ pub fn asked(notes: &mut [u64], part: usize) -> usize {
           88b 88b8 88b88 88b 8 |",
         part,
         n,
+        streams,
     )
 }
 
 // The number of the last answer of a type. The notes of the types stand in this order.
-pub fn refusals(notes: &[u64]) {
+pub fn refusals(notes: &[u64], streams: &mut Streams) {
     let n = typing::asked(
         notes,
         b"frame::Apart::refusal frame::Formed::refusal frame::BadFrame::refusal frame::Verdict::refusal \
@@ -70,9 +72,14 @@ pub fn refusals(notes: &[u64]) {
           capture::Reading::refusal",
     );
     if n == typing::NONE {
-        return say::unknown();
+        return say::unknown(streams);
     }
-    if typing::ends_here(notes, 1) {
-        say::form(b"#\n", notes, wrapping_add_usize(notes::REFUSALS, n));
+    if typing::ends_here(notes, 1, streams) {
+        say::form(
+            b"#\n",
+            notes,
+            wrapping_add_usize(notes::REFUSALS, n),
+            streams,
+        );
     }
 }

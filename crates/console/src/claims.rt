@@ -1,73 +1,75 @@
 // The words of crate `claim`: one claim.
 use crate::notes::{field, field_u8, field_u16, get, get_u16, get_u32, put, put_all};
+use crate::streams::Streams;
 use crate::{frames, notes, say};
 use claim::{CANDIDATES, Claim, Hearing, Pausing, Sending, Standing, Starting};
 use std::num::wrapping_add_usize;
 
-pub fn call(n: usize, notes: &mut [u64], bytes: &[u8]) {
+pub fn call(n: usize, notes: &mut [u64], bytes: &[u8], streams: &mut Streams) {
     match n {
-        0 => start(notes, bytes),
-        1 => hear(notes, bytes),
-        2 => pause(notes),
-        3 => stands(notes),
-        4 => our_claim(notes),
-        _ => questions(n, notes),
+        0 => start(notes, bytes, streams),
+        1 => hear(notes, bytes, streams),
+        2 => pause(notes, streams),
+        3 => stands(notes, streams),
+        4 => our_claim(notes, streams),
+        _ => questions(n, notes, streams),
     }
 }
 
-fn questions(n: usize, notes: &[u64]) {
+fn questions(n: usize, notes: &[u64], streams: &mut Streams) {
     let claim = claim(notes);
     match n {
-        5 => truth(claim.keeps_rules()),
-        6 => truth(claim.holds_list()),
+        5 => truth(claim.keeps_rules(), streams),
+        6 => truth(claim.holds_list(), streams),
         _ => {}
     }
 }
 
-pub fn truth(answer: bool) {
-    say::number(b"?\n", answer as u64);
+pub fn truth(answer: bool, streams: &mut Streams) {
+    say::number(b"?\n", answer as u64, streams);
 }
 
-fn start(notes: &mut [u64], bytes: &[u8]) {
+fn start(notes: &mut [u64], bytes: &[u8], streams: &mut Streams) {
     let started = Claim::start(get(notes, notes::FIRST), bytes);
     keep(notes, started.claim);
     let answer = started.answer;
     match answer {
-        Starting::SendClaim => say::text(b"SendClaim"),
-        Starting::ListMalformed => say::text(b"ListMalformed"),
+        Starting::SendClaim => say::text(b"SendClaim", streams),
+        Starting::ListMalformed => say::text(b"ListMalformed", streams),
     }
     let eight = started.bytes;
-    say::frame(notes, started.id, eight);
-    end(notes, notes::CLAIM_STARTING, answer.refusal());
+    say::frame(notes, started.id, eight, streams);
+    end(notes, notes::CLAIM_STARTING, answer.refusal(), streams);
 }
 
 // The end of an answer, and the claim.
-fn end(notes: &mut [u64], kind: usize, refusal: u8) {
-    say::end(notes, kind, refusal);
-    show(notes);
+fn end(notes: &mut [u64], kind: usize, refusal: u8, streams: &mut Streams) {
+    say::end(notes, kind, refusal, streams);
+    show(notes, streams);
 }
 
-fn hear(notes: &mut [u64], bytes: &[u8]) {
+fn hear(notes: &mut [u64], bytes: &[u8], streams: &mut Streams) {
     let before = claim(notes);
     let heard = before.hear(get_u32(notes, notes::FIRST), bytes);
     keep(notes, heard.claim);
     let answer = heard.answer;
     let eight = heard.bytes;
-    heard_so(notes, answer, heard.id, eight);
+    heard_so(notes, answer, heard.id, eight, streams);
 }
 
-fn heard_so(notes: &mut [u64], answer: Hearing, id: u32, bytes: [u8; 8]) {
-    tell(notes, answer);
-    say::frame(notes, id, bytes);
-    end(notes, notes::CLAIM_HEARING, answer.refusal());
+fn heard_so(notes: &mut [u64], answer: Hearing, id: u32, bytes: [u8; 8], streams: &mut Streams) {
+    tell(notes, answer, streams);
+    say::frame(notes, id, bytes, streams);
+    end(notes, notes::CLAIM_HEARING, answer.refusal(), streams);
 }
 
-fn tell(notes: &mut [u64], answer: Hearing) {
+fn tell(notes: &mut [u64], answer: Hearing, streams: &mut Streams) {
     match answer {
-        Hearing::BadFrame(why) => frames::bad_frame(notes, why),
+        Hearing::BadFrame(why) => frames::bad_frame(notes, why, streams),
         _ => say::word(
             b"NothingToDo OwnName SendClaimAgain SendNextClaim SendCannotClaim BrokenState ListMalformed",
             number(answer),
+            streams,
         ),
     }
 }
@@ -84,44 +86,44 @@ fn number(answer: Hearing) -> usize {
     }
 }
 
-fn pause(notes: &mut [u64]) {
+fn pause(notes: &mut [u64], streams: &mut Streams) {
     let before = claim(notes);
     let paused = before.pause(get_u16(notes, notes::FIRST));
     keep(notes, paused.claim);
     let answer = paused.answer;
     match answer {
-        Pausing::Waited => say::text(b"Waited"),
-        Pausing::BrokenState => say::text(b"BrokenState"),
-        Pausing::ListMalformed => say::text(b"ListMalformed"),
+        Pausing::Waited => say::text(b"Waited", streams),
+        Pausing::BrokenState => say::text(b"BrokenState", streams),
+        Pausing::ListMalformed => say::text(b"ListMalformed", streams),
     }
-    end(notes, notes::CLAIM_PAUSING, answer.refusal());
+    end(notes, notes::CLAIM_PAUSING, answer.refusal(), streams);
 }
 
-fn stands(notes: &mut [u64]) {
+fn stands(notes: &mut [u64], streams: &mut Streams) {
     let claim = claim(notes);
     let answer = claim.stands();
     match answer {
-        Standing::Held(address) => say::number(b"Held %", address as u64),
-        Standing::Claiming(address) => say::number(b"Claiming %", address as u64),
-        Standing::Silent => say::text(b"Silent"),
-        Standing::BrokenState => say::text(b"BrokenState"),
-        Standing::ListMalformed => say::text(b"ListMalformed"),
+        Standing::Held(address) => say::number(b"Held %", address as u64, streams),
+        Standing::Claiming(address) => say::number(b"Claiming %", address as u64, streams),
+        Standing::Silent => say::text(b"Silent", streams),
+        Standing::BrokenState => say::text(b"BrokenState", streams),
+        Standing::ListMalformed => say::text(b"ListMalformed", streams),
     }
-    say::end(notes, notes::CLAIM_STANDING, answer.refusal());
+    say::end(notes, notes::CLAIM_STANDING, answer.refusal(), streams);
 }
 
-fn our_claim(notes: &mut [u64]) {
+fn our_claim(notes: &mut [u64], streams: &mut Streams) {
     let claim = claim(notes);
     let ours = claim.our_claim();
     let answer = ours.answer;
     match answer {
-        Sending::Frame => say::text(b"Frame"),
-        Sending::BrokenState => say::text(b"BrokenState"),
-        Sending::ListMalformed => say::text(b"ListMalformed"),
+        Sending::Frame => say::text(b"Frame", streams),
+        Sending::BrokenState => say::text(b"BrokenState", streams),
+        Sending::ListMalformed => say::text(b"ListMalformed", streams),
     }
     let eight = ours.bytes;
-    say::frame(notes, ours.id, eight);
-    say::end(notes, notes::CLAIM_SENDING, answer.refusal());
+    say::frame(notes, ours.id, eight, streams);
+    say::end(notes, notes::CLAIM_SENDING, answer.refusal(), streams);
 }
 
 // The claim of the notes. At first it is of NAME 0 without candidates: no call takes it.
@@ -174,13 +176,14 @@ fn keep_list(notes: &mut [u64], list: [u8; CANDIDATES]) {
     }
 }
 
-pub fn show(notes: &[u64]) {
-    say::form(b"  claim.name=@", notes, notes::CLAIM);
+pub fn show(notes: &[u64], streams: &mut Streams) {
+    say::form(b"  claim.name=@", notes, notes::CLAIM, streams);
     let list = list(notes);
-    say::bytes(b" claim.list=", &list);
+    say::bytes(b" claim.list=", &list, streams);
     say::form(
         b" candidates=# position=# wait=# silent=? losses=#\n",
         notes,
         notes::CLAIM + 1,
+        streams,
     );
 }

@@ -1,52 +1,54 @@
 // The words of crate `command`: a list of entries to start a host from, and one host. They use the console's claim.
 use crate::claims::claim;
 use crate::notes::{field, field_u8, field_u32, get, get_u8, get_u32, put, put_all, record};
+use crate::streams::Streams;
 use crate::{frames, notes, say, state};
 use command::{
     Acknowledging, Acknowledgment, ENTRIES, Edition, Entry, Host, Positions, Requested, Requesting,
     Routing, Starting,
 };
 
-pub fn call(n: usize, notes: &mut [u64], bytes: &[u8]) {
+pub fn call(n: usize, notes: &mut [u64], bytes: &[u8], streams: &mut Streams) {
     match n {
-        0 => start(notes),
-        1 => route(notes, bytes),
-        2 => request(notes, bytes),
-        3 => acknowledge(notes),
+        0 => start(notes, streams),
+        1 => route(notes, bytes, streams),
+        2 => request(notes, bytes, streams),
+        3 => acknowledge(notes, streams),
         _ => {}
     }
 }
 
 // A host of the first of the entries: `command::Host::start COUNT EDITION`
-fn start(notes: &mut [u64]) {
+fn start(notes: &mut [u64], streams: &mut Streams) {
     let count = get(notes, notes::FIRST) as usize;
     let edition = edition_of(get(notes, notes::SECOND));
     let started = Host::start(entries(notes, notes::ENTRIES), count, edition);
     keep(notes, started.host);
     let answer = started.answer;
     match answer {
-        Starting::Hosted => say::text(b"Hosted"),
-        Starting::ListMalformed => say::text(b"ListMalformed"),
+        Starting::Hosted => say::text(b"Hosted", streams),
+        Starting::ListMalformed => say::text(b"ListMalformed", streams),
     }
-    say::end(notes, notes::COMMAND_STARTING, answer.refusal());
-    show_host(notes);
+    say::end(notes, notes::COMMAND_STARTING, answer.refusal(), streams);
+    show_host(notes, streams);
 }
 
-fn route(notes: &mut [u64], bytes: &[u8]) {
+fn route(notes: &mut [u64], bytes: &[u8], streams: &mut Streams) {
     let host = host(notes);
     let routed = host.route(claim(notes), get_u32(notes, notes::FIRST), bytes);
     let answer = routed.answer;
-    tell_routing(notes, answer);
-    show_positions(routed.positions);
-    say::end(notes, notes::COMMAND_ROUTING, answer.refusal());
+    tell_routing(notes, answer, streams);
+    show_positions(routed.positions, streams);
+    say::end(notes, notes::COMMAND_ROUTING, answer.refusal(), streams);
 }
 
-fn tell_routing(notes: &mut [u64], answer: Routing) {
+fn tell_routing(notes: &mut [u64], answer: Routing, streams: &mut Streams) {
     match answer {
-        Routing::BadFrame(why) => frames::bad_frame(notes, why),
+        Routing::BadFrame(why) => frames::bad_frame(notes, why, streams),
         _ => say::word(
             b"NothingToDo Picked BrokenState ListMalformed NoAddressHeld",
             number_of_routing(answer),
+            streams,
         ),
     }
 }
@@ -61,28 +63,29 @@ fn number_of_routing(answer: Routing) -> usize {
     }
 }
 
-fn request(notes: &mut [u64], bytes: &[u8]) {
+fn request(notes: &mut [u64], bytes: &[u8], streams: &mut Streams) {
     let host = host(notes);
     let asked = host.request(claim(notes), get_u32(notes, notes::FIRST), bytes);
-    requested(notes, asked);
+    requested(notes, asked, streams);
 }
 
 // What the host makes of a request.
-pub fn requested(notes: &mut [u64], requested: Requested) {
+pub fn requested(notes: &mut [u64], requested: Requested, streams: &mut Streams) {
     let answer = requested.answer;
-    tell_requesting(notes, answer);
-    show_positions(requested.positions);
+    tell_requesting(notes, answer, streams);
+    show_positions(requested.positions, streams);
     let eight = requested.bytes;
-    say::frame(notes, requested.id, eight);
-    say::end(notes, notes::COMMAND_REQUESTING, answer.refusal());
+    say::frame(notes, requested.id, eight, streams);
+    say::end(notes, notes::COMMAND_REQUESTING, answer.refusal(), streams);
 }
 
-fn tell_requesting(notes: &mut [u64], answer: Requesting) {
+fn tell_requesting(notes: &mut [u64], answer: Requesting, streams: &mut Streams) {
     match answer {
-        Requesting::BadFrame(why) => frames::bad_frame(notes, why),
+        Requesting::BadFrame(why) => frames::bad_frame(notes, why, streams),
         _ => say::word(
             b"NothingToDo SendClaim Supported SendNak Unsupported BrokenState ListMalformed DgnTooLarge NoAddressHeld",
             number_of_requesting(answer),
+            streams,
         ),
     }
 }
@@ -102,16 +105,22 @@ fn number_of_requesting(answer: Requesting) -> usize {
 }
 
 // `command::acknowledge CODE INSTANCE REQUESTER DGN`
-fn acknowledge(notes: &mut [u64]) {
+fn acknowledge(notes: &mut [u64], streams: &mut Streams) {
     let acknowledged = command::acknowledge(claim(notes), reply(notes));
     let answer = acknowledged.answer;
     say::word(
         b"Send BrokenState RequesterNotAllowed ListMalformed DgnTooLarge NoAddressHeld",
         number_of_acknowledging(answer),
+        streams,
     );
     let eight = acknowledged.bytes;
-    say::frame(notes, acknowledged.id, eight);
-    say::end(notes, notes::COMMAND_ACKNOWLEDGING, answer.refusal());
+    say::frame(notes, acknowledged.id, eight, streams);
+    say::end(
+        notes,
+        notes::COMMAND_ACKNOWLEDGING,
+        answer.refusal(),
+        streams,
+    );
 }
 
 fn reply(notes: &[u64]) -> Acknowledgment {
@@ -135,20 +144,20 @@ fn number_of_acknowledging(answer: Acknowledging) -> usize {
 }
 
 // The positions up to their count.
-fn show_positions(positions: Positions) {
-    say::text(b" positions=");
+fn show_positions(positions: Positions, streams: &mut Streams) {
+    say::text(b" positions=", streams);
     let at = positions.at;
     let mut i: usize = 0;
     while i < ENTRIES {
         if i < positions.count {
-            show_position(at[i]);
+            show_position(at[i], streams);
         }
         i += 1;
     }
 }
 
-fn show_position(position: u8) {
-    say::number(b" #", position as u64);
+fn show_position(position: u8, streams: &mut Streams) {
+    say::number(b" #", position as u64, streams);
 }
 
 // The host of the notes.
@@ -222,19 +231,33 @@ fn keep_entry(notes: &mut [u64], at: usize, entry: Entry) {
 }
 
 // The entries to start from, and the host.
-pub fn show(notes: &[u64]) {
-    show_entries(notes, b"  command.entries[#", notes::ENTRIES);
-    show_host(notes);
+pub fn show(notes: &[u64], streams: &mut Streams) {
+    show_entries(notes, b"  command.entries[#", notes::ENTRIES, streams);
+    show_host(notes, streams);
 }
 
-fn show_host(notes: &[u64]) {
-    say::form(b"  command.host.count=# edition=", notes, notes::HOST_COUNT);
-    say::word(b"One Two", get(notes, notes::HOST_EDITION) as usize);
-    say::text(b"\n");
-    show_entries(notes, b"  command.host.entries[#", notes::HOST_ENTRIES);
+fn show_host(notes: &[u64], streams: &mut Streams) {
+    say::form(
+        b"  command.host.count=# edition=",
+        notes,
+        notes::HOST_COUNT,
+        streams,
+    );
+    say::word(
+        b"One Two",
+        get(notes, notes::HOST_EDITION) as usize,
+        streams,
+    );
+    say::text(b"\n", streams);
+    show_entries(
+        notes,
+        b"  command.host.entries[#",
+        notes::HOST_ENTRIES,
+        streams,
+    );
 }
 
-fn show_entries(notes: &[u64], head: &[u8], at: usize) {
+fn show_entries(notes: &[u64], head: &[u8], at: usize, streams: &mut Streams) {
     state::show_all(
         notes,
         head,
@@ -242,5 +265,6 @@ fn show_entries(notes: &[u64], head: &[u8], at: usize) {
         at,
         4,
         ENTRIES,
+        streams,
     );
 }

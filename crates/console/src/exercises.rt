@@ -1,6 +1,7 @@
 // Exercises: a message split and joined again, a row written and read back, as a class would do it by many lines.
 use crate::fields::number_of_class;
 use crate::notes::{get, get_u8};
+use crate::streams::Streams;
 use crate::{notes, say};
 use catalogue::{Looked, Reading, Row, ScaledReading, Writing};
 
@@ -20,32 +21,32 @@ struct HeardFast {
     same: bool,
 }
 
-pub fn call(n: usize, notes: &[u64], bytes: &[u8]) {
+pub fn call(n: usize, notes: &[u64], bytes: &[u8], streams: &mut Streams) {
     match n {
-        0 => try_long_message(bytes),
-        1 => try_fast_packet(bytes, get_u8(notes, notes::SECOND)),
-        2 => row_back(get(notes, notes::FIRST) as usize),
+        0 => try_long_message(bytes, streams),
+        1 => try_fast_packet(bytes, get_u8(notes, notes::SECOND), streams),
+        2 => row_back(get(notes, notes::FIRST) as usize, streams),
         _ => {}
     }
 }
 
-fn try_long_message(bytes: &[u8]) {
+fn try_long_message(bytes: &[u8], streams: &mut Streams) {
     let mut storage = [0u8; message::limits::STORAGE_BYTES];
-    long_message(bytes, &mut storage);
+    long_message(bytes, &mut storage, streams);
 }
 
-fn try_fast_packet(bytes: &[u8], sequence: u8) {
+fn try_fast_packet(bytes: &[u8], sequence: u8, streams: &mut Streams) {
     let mut storage = [0u8; fast::limits::STORAGE_BYTES];
-    fast_packet(bytes, sequence, &mut storage);
+    fast_packet(bytes, sequence, &mut storage, streams);
 }
 
 // A message split and sent by 54h, and what a new receiver hands back.
-fn long_message(whole: &[u8], storage: &mut [u8]) {
+fn long_message(whole: &[u8], storage: &mut [u8], streams: &mut Streams) {
     let announced = message::announcement(whole, 0x1FECA);
     let announcement = announced.bytes;
     let answer = announced.answer;
     if answer.refusal() != 0 {
-        return not_split(answer.refusal());
+        return not_split(answer.refusal(), streams);
     }
     let mut heard = hear(
         message::Receiver::new(),
@@ -65,21 +66,27 @@ fn long_message(whole: &[u8], storage: &mut [u8]) {
         let receiver = heard.receiver;
         heard = hear(receiver, storage, 0x1CEBFF54, packet, whole);
     }
-    joined(b"length=# packets=# ", whole.len(), number, heard.same);
+    joined(
+        b"length=# packets=# ",
+        whole.len(),
+        number,
+        heard.same,
+        streams,
+    );
 }
 
-fn not_split(refusal: u8) {
-    say::number(b"not split, refusal #\n", refusal as u64);
+fn not_split(refusal: u8, streams: &mut Streams) {
+    say::number(b"not split, refusal #\n", refusal as u64, streams);
 }
 
 // How long the message was, how many frames it took, and whether it came back.
-fn joined(pattern: &[u8], length: usize, last: u32, same: bool) {
+fn joined(pattern: &[u8], length: usize, last: u32, same: bool, streams: &mut Streams) {
     let numbers = [length as u64, last as u64];
-    say::form(pattern, &numbers, 0);
+    say::form(pattern, &numbers, 0, streams);
     if same {
-        return say::text(b"the same bytes\n");
+        return say::text(b"the same bytes\n", streams);
     }
-    say::text(b"OTHER BYTES\n");
+    say::text(b"OTHER BYTES\n", streams);
 }
 
 fn hear(
@@ -91,7 +98,7 @@ fn hear(
 ) -> Heard {
     let heard = receiver.hear(storage, id, &bytes);
     let answer = heard.answer;
-    let same = check::same(message::message(storage, answer), whole);
+    let same = message::message(storage, answer) == whole;
     let receiver = heard.receiver;
     match answer {
         message::Answer::Finished {
@@ -113,14 +120,14 @@ fn hear(
 }
 
 // A message split and sent by 0Eh in fast packets, and what a new receiver hands back.
-fn fast_packet(whole: &[u8], sequence: u8, storage: &mut [u8]) {
+fn fast_packet(whole: &[u8], sequence: u8, storage: &mut [u8], streams: &mut Streams) {
     let dgns = [0x1F001u32];
     let started = fast::Receiver::start(&dgns);
     let split = fast::frame_of(whole, sequence, 0);
     let first = split.bytes;
     let answer = split.answer;
     if answer.refusal() != 0 {
-        return not_split(answer.refusal());
+        return not_split(answer.refusal(), streams);
     }
     let receiver = started.receiver;
     let mut heard = hear_fast(receiver, storage, first, whole);
@@ -135,7 +142,13 @@ fn fast_packet(whole: &[u8], sequence: u8, storage: &mut [u8]) {
         let receiver = heard.receiver;
         heard = hear_fast(receiver, storage, later, whole);
     }
-    joined(b"length=# last frame=# ", whole.len(), number, heard.same);
+    joined(
+        b"length=# last frame=# ",
+        whole.len(),
+        number,
+        heard.same,
+        streams,
+    );
 }
 
 fn hear_fast(
@@ -146,7 +159,7 @@ fn hear_fast(
 ) -> HeardFast {
     let heard = receiver.hear(storage, 0x19F0010E, &bytes);
     let answer = heard.answer;
-    let same = check::same(fast::message(storage, answer), whole);
+    let same = fast::message(storage, answer) == whole;
     let receiver = heard.receiver;
     match answer {
         fast::Answer::Finished {
@@ -169,67 +182,71 @@ fn hear_fast(
 
 // A row at its least code, its greatest, and the three below that: each read in a frame of zeros as a value, the value
 // written into a frame of ones, and read back there.
-fn row_back(n: usize) {
+fn row_back(n: usize, streams: &mut Streams) {
     let looked = catalogue::row_at(n);
     match looked {
-        Looked::NoSuchRow => say::text(b"NoSuchRow, refusal 11"),
+        Looked::NoSuchRow => say::text(b"NoSuchRow, refusal 11", streams),
         Looked::Is(row) => {
-            code_back(n, row, 0);
-            special_codes(n, row, ones(row.width));
+            code_back(n, row, 0, streams);
+            special_codes(n, row, ones(row.width), streams);
         }
     }
-    say::text(b"\n");
+    say::text(b"\n", streams);
 }
 
-fn special_codes(n: usize, row: Row, greatest: u64) {
+fn special_codes(n: usize, row: Row, greatest: u64, streams: &mut Streams) {
     if greatest < 3 {
         return;
     }
     if 3 < greatest {
-        code_back(n, row, greatest - 3);
+        code_back(n, row, greatest - 3, streams);
     }
-    code_back(n, row, greatest - 2);
-    code_back(n, row, greatest - 1);
-    code_back(n, row, greatest);
+    code_back(n, row, greatest - 2, streams);
+    code_back(n, row, greatest - 1, streams);
+    code_back(n, row, greatest, streams);
 }
 
-fn code_back(n: usize, row: Row, code: u64) {
+fn code_back(n: usize, row: Row, code: u64, streams: &mut Streams) {
     let id = id_of(row.dgn);
     let zeros = frame::bytes_of(shifted(code, row.first));
     let reading = catalogue::read_scaled(n, id, &zeros);
-    say::text(b" ");
+    say::text(b" ", streams);
     match reading {
-        ScaledReading::BadFrame(_) => say::text(b"BadFrame"),
-        ScaledReading::NoSuchRow => say::text(b"NoSuchRow"),
+        ScaledReading::BadFrame(_) => say::text(b"BadFrame", streams),
+        ScaledReading::NoSuchRow => say::text(b"NoSuchRow", streams),
         ScaledReading::Is(value) => {
             let mut bytes = [0xFFu8; 8];
             let writing = catalogue::write(n, id, &mut bytes, value);
-            wrote(writing);
-            read_back(n, id, bytes);
+            wrote(writing, streams);
+            read_back(n, id, bytes, streams);
             let around = frame::number_of(bytes) | shifted(ones(row.width), row.first);
             if around != 0xFFFFFFFFFFFFFFFF {
-                say::text(b" another bit changed");
+                say::text(b" another bit changed", streams);
             }
         }
     }
 }
 
-fn wrote(writing: Writing) {
+fn wrote(writing: Writing, streams: &mut Streams) {
     let refusal = writing.refusal();
     if refusal != 0 {
-        say::number(b"#:", refusal as u64);
+        say::number(b"#:", refusal as u64, streams);
     }
 }
 
-fn read_back(n: usize, id: u32, bytes: [u8; 8]) {
+fn read_back(n: usize, id: u32, bytes: [u8; 8], streams: &mut Streams) {
     let reading = catalogue::read(n, id, &bytes);
     match reading {
-        Reading::BadFrame(_) => say::text(b"BadFrame"),
-        Reading::NoSuchRow => say::text(b"NoSuchRow"),
+        Reading::BadFrame(_) => say::text(b"BadFrame", streams),
+        Reading::NoSuchRow => say::text(b"NoSuchRow", streams),
         Reading::Is(field) => {
-            say::number(b"#=", field.code);
+            say::number(b"#=", field.code, streams);
             let class = field.class;
-            say::word(b"NoData OutOfRange Reserved Number", number_of_class(class));
+            say::word(
+                b"NoData OutOfRange Reserved Number",
+                number_of_class(class),
+                streams,
+            );
         }
     }
 }

@@ -5,33 +5,34 @@ use crate::notes::{
     bounded, field, field_u8, field_u16, field_u32, get, get_u8, get_u16, get_u32, put, put_all,
     record,
 };
+use crate::streams::Streams;
 use crate::{frames, notes, say, state};
 use fast::limits::{DGNS, PLACES, STRETCH};
 use fast::{Answer, Pausing, Place, Receiver, Splitting, Started, Starting};
 use std::num::wrapping_add_usize;
 
-pub fn call(n: usize, notes: &mut [u64], bytes: &[u8], storage: &mut [u8]) {
+pub fn call(n: usize, notes: &mut [u64], bytes: &[u8], storage: &mut [u8], streams: &mut Streams) {
     match n {
-        0 => start(notes, storage),
-        1 => hear(notes, bytes, storage),
-        2 => pause(notes, storage),
-        3 => finished(notes, storage),
-        4 => frame_of(notes, bytes),
+        0 => start(notes, storage, streams),
+        1 => hear(notes, bytes, storage, streams),
+        2 => pause(notes, storage, streams),
+        3 => finished(notes, storage, streams),
+        4 => frame_of(notes, bytes, streams),
         _ => {}
     }
 }
 
-fn start(notes: &mut [u64], storage: &[u8]) {
+fn start(notes: &mut [u64], storage: &[u8], streams: &mut Streams) {
     let list = typed_list(notes);
     let started = start_from(notes, &list);
     keep(notes, started.receiver);
     let answer = started.answer;
     match answer {
-        Starting::Named => say::text(b"Named"),
-        Starting::ListMalformed => say::text(b"ListMalformed"),
+        Starting::Named => say::text(b"Named", streams),
+        Starting::ListMalformed => say::text(b"ListMalformed", streams),
     }
-    say::end(notes, notes::FAST_STARTING, answer.refusal());
-    show(notes, storage);
+    say::end(notes, notes::FAST_STARTING, answer.refusal(), streams);
+    show(notes, storage, streams);
 }
 
 // The numbers of the list that was typed.
@@ -61,7 +62,7 @@ fn bounded_list(count: usize, list: &[u32]) -> usize
     list.len()
 }
 
-fn hear(notes: &mut [u64], bytes: &[u8], storage: &mut [u8]) {
+fn hear(notes: &mut [u64], bytes: &[u8], storage: &mut [u8], streams: &mut Streams) {
     let id = get_u32(notes, notes::FIRST);
     let lent = bounded(get(notes, notes::FAST_STORAGE) as usize, storage);
     let before = receiver(notes);
@@ -69,19 +70,19 @@ fn hear(notes: &mut [u64], bytes: &[u8], storage: &mut [u8]) {
     keep(notes, heard.receiver);
     let answer = heard.answer;
     keep_answer(notes, answer);
-    heard_so(notes, storage, answer);
+    heard_so(notes, storage, answer, streams);
 }
 
-fn heard_so(notes: &mut [u64], storage: &[u8], answer: Answer) {
-    tell(notes, answer);
-    say::bytes(b"", fast::message(storage, answer));
-    say::end(notes, notes::FAST_ANSWER, answer.refusal());
-    show(notes, storage);
+fn heard_so(notes: &mut [u64], storage: &[u8], answer: Answer, streams: &mut Streams) {
+    tell(notes, answer, streams);
+    say::bytes(b"", fast::message(storage, answer), streams);
+    say::end(notes, notes::FAST_ANSWER, answer.refusal(), streams);
+    show(notes, storage, streams);
 }
 
-fn tell(notes: &mut [u64], answer: Answer) {
+fn tell(notes: &mut [u64], answer: Answer, streams: &mut Streams) {
     match answer {
-        Answer::BadFrame(why) => frames::bad_frame(notes, why),
+        Answer::BadFrame(why) => frames::bad_frame(notes, why, streams),
         Answer::Finished {
             place: _,
             sender: _,
@@ -91,11 +92,13 @@ fn tell(notes: &mut [u64], answer: Answer) {
             b"Finished place=# sender=% dgn=~ length=# message=",
             notes,
             notes::FAST_FINISHED + 1,
+            streams,
         ),
         _ => say::word(
             b"StorageTooShort BrokenState MalformedLength NoPlaceFree NoOpenMessage \
               UnexpectedFrame NothingToDo Opened Stored",
             number(answer),
+            streams,
         ),
     }
 }
@@ -115,38 +118,39 @@ fn number(answer: Answer) -> usize {
 }
 
 // The part of the storage that the last answer hands over.
-fn finished(notes: &[u64], storage: &[u8]) {
+fn finished(notes: &[u64], storage: &[u8], streams: &mut Streams) {
     let lent = bounded(get(notes, notes::FAST_STORAGE) as usize, storage);
     let bytes = fast::message(&storage[..lent], kept_answer(notes));
-    say::number(b"length=#", bytes.len() as u64);
-    say::bytes(b" bytes=", bytes);
-    say::text(b"\n");
+    say::number(b"length=#", bytes.len() as u64, streams);
+    say::bytes(b" bytes=", bytes, streams);
+    say::text(b"\n", streams);
 }
 
-fn pause(notes: &mut [u64], storage: &[u8]) {
+fn pause(notes: &mut [u64], storage: &[u8], streams: &mut Streams) {
     let before = receiver(notes);
     let paused = before.pause(get_u16(notes, notes::FIRST));
     keep(notes, paused.receiver);
     let answer = paused.answer;
     match answer {
-        Pausing::Closed(count) => say::number(b"Closed #", count as u64),
-        Pausing::BrokenState => say::text(b"BrokenState"),
+        Pausing::Closed(count) => say::number(b"Closed #", count as u64, streams),
+        Pausing::BrokenState => say::text(b"BrokenState", streams),
     }
-    say::end(notes, notes::FAST_PAUSING, answer.refusal());
-    show(notes, storage);
+    say::end(notes, notes::FAST_PAUSING, answer.refusal(), streams);
+    show(notes, storage, streams);
 }
 
-fn frame_of(notes: &mut [u64], bytes: &[u8]) {
+fn frame_of(notes: &mut [u64], bytes: &[u8], streams: &mut Streams) {
     let sequence = get_u8(notes, notes::SECOND);
     let split = fast::frame_of(bytes, sequence, get_u32(notes, notes::THIRD));
     let answer = split.answer;
     say::word(
         b"Bytes NoCode LengthNotSplit NoSuchFrame",
         number_of_splitting(answer),
+        streams,
     );
     let eight = split.bytes;
-    say::eight(notes, b" ", eight);
-    say::end(notes, notes::FAST_SPLITTING, answer.refusal());
+    say::eight(notes, b" ", eight, streams);
+    say::end(notes, notes::FAST_SPLITTING, answer.refusal(), streams);
 }
 
 fn number_of_splitting(answer: Splitting) -> usize {
@@ -268,32 +272,42 @@ fn keep_answer(notes: &mut [u64], answer: Answer) {
 }
 
 // How many DGNs are named, and which; and the places that are not all zeros, each with the bytes that it has stored.
-pub fn show(notes: &[u64], storage: &[u8]) {
-    say::form(b"  fast.named=# fast.dgns=", notes, notes::FAST_NAMED);
-    show_dgns(notes, get(notes, notes::FAST_NAMED) as usize);
-    say::text(b"\n");
-    show_places(notes, storage);
+pub fn show(notes: &[u64], storage: &[u8], streams: &mut Streams) {
+    say::form(
+        b"  fast.named=# fast.dgns=",
+        notes,
+        notes::FAST_NAMED,
+        streams,
+    );
+    show_dgns(notes, get(notes, notes::FAST_NAMED) as usize, streams);
+    say::text(b"\n", streams);
+    show_places(notes, storage, streams);
 }
 
-fn show_dgns(notes: &[u64], named: usize) {
+fn show_dgns(notes: &[u64], named: usize, streams: &mut Streams) {
     let mut i: usize = 0;
     while i < DGNS {
         if i < named {
-            say::form(b" ~", notes, wrapping_add_usize(notes::FAST_DGNS, i));
+            say::form(
+                b" ~",
+                notes,
+                wrapping_add_usize(notes::FAST_DGNS, i),
+                streams,
+            );
         }
         i += 1;
     }
 }
 
-fn show_places(notes: &[u64], storage: &[u8]) {
+fn show_places(notes: &[u64], storage: &[u8], streams: &mut Streams) {
     let mut i: usize = 0;
     while i < PLACES {
-        show_place(notes, storage, i);
+        show_place(notes, storage, i, streams);
         i += 1;
     }
 }
 
-fn show_place(notes: &[u64], storage: &[u8], position: usize) {
+fn show_place(notes: &[u64], storage: &[u8], position: usize, streams: &mut Streams) {
     let shown = state::show(
         notes,
         b"  fast.places[#",
@@ -301,11 +315,17 @@ fn show_place(notes: &[u64], storage: &[u8], position: usize) {
         notes::FAST_PLACES,
         6,
         position,
+        streams,
     );
     if shown {
         let expected = field_u8(notes, record(notes::FAST_PLACES, 6, position), 4);
-        say::stretch(storage, record(0, STRETCH, position), stored(expected));
-        say::text(b"\n");
+        say::stretch(
+            storage,
+            record(0, STRETCH, position),
+            stored(expected),
+            streams,
+        );
+        say::text(b"\n", streams);
     }
 }
 

@@ -2,89 +2,102 @@
 ghost use Rattle.io.specs.Counts.{IsPrefixLen};
 
 use crate::notes::{field, field_u8, get, get_i64, get_u8, get_u32, put, put_all};
+use crate::streams::Streams;
 use crate::{claims, frames, notes, say};
 use catalogue::{Class, Field, Looked, Reading, Row, ScaledReading, Span, Unit, Value, Writing};
 
-pub fn call(n: usize, notes: &mut [u64], bytes: &mut [u8], packed: &mut [u64]) {
+pub fn call(
+    n: usize,
+    notes: &mut [u64],
+    bytes: &mut [u8],
+    packed: &mut [u64],
+    streams: &mut Streams,
+) {
     if n < 4 {
-        return look(n, notes);
+        return look(n, notes, streams);
     }
     if n < 8 {
-        return look_in(n, notes, packed);
+        return look_in(n, notes, packed, streams);
     }
     if n < 13 {
-        return read_by(n, notes, bytes);
+        return read_by(n, notes, bytes, streams);
     }
     if n < 15 {
-        return write_by(n, notes, bytes);
+        return write_by(n, notes, bytes, streams);
     }
-    tell_of(n, notes);
+    tell_of(n, notes, streams);
 }
 
 // What is said of a DGN, or of a unit at a width.
-fn tell_of(n: usize, notes: &[u64]) {
+fn tell_of(n: usize, notes: &[u64], streams: &mut Streams) {
     match n {
-        15 => claims::truth(catalogue::has_instance(get_u32(notes, notes::FIRST))),
-        16 => steps_in_one(notes),
+        15 => claims::truth(
+            catalogue::has_instance(get_u32(notes, notes::FIRST)),
+            streams,
+        ),
+        16 => steps_in_one(notes, streams),
         _ => {}
     }
 }
 
-fn steps_in_one(notes: &[u64]) {
+fn steps_in_one(notes: &[u64], streams: &mut Streams) {
     let unit = unit_of(get(notes, notes::FIRST));
     let steps = catalogue::steps_in_one(unit, get_u8(notes, notes::SECOND));
-    say::number(b"#\n", steps as u64);
+    say::number(b"#\n", steps as u64, streams);
 }
 
 // Rows of the catalogue.
-fn look(n: usize, notes: &mut [u64]) {
+fn look(n: usize, notes: &mut [u64], streams: &mut Streams) {
     match n {
-        0 => say::number(b"#\n", catalogue::rows() as u64),
-        1 => row_at(notes),
-        2 => row_of(notes),
-        _ => span(catalogue::rows_of(get_u32(notes, notes::FIRST))),
+        0 => say::number(b"#\n", catalogue::rows() as u64, streams),
+        1 => row_at(notes, streams),
+        2 => row_of(notes, streams),
+        _ => span(catalogue::rows_of(get_u32(notes, notes::FIRST)), streams),
     }
 }
 
-fn row_at(notes: &mut [u64]) {
+fn row_at(notes: &mut [u64], streams: &mut Streams) {
     let answer = catalogue::row_at(get(notes, notes::FIRST) as usize);
-    looked(notes, answer);
+    looked(notes, answer, streams);
 }
 
-fn row_of(notes: &mut [u64]) {
+fn row_of(notes: &mut [u64], streams: &mut Streams) {
     let dgn = get_u32(notes, notes::FIRST);
     let answer = catalogue::row_of(dgn, get_u8(notes, notes::SECOND));
-    looked(notes, answer);
+    looked(notes, answer, streams);
 }
 
 // Rows of the lent table.
-fn look_in(n: usize, notes: &mut [u64], packed: &mut [u64]) {
+fn look_in(n: usize, notes: &mut [u64], packed: &mut [u64], streams: &mut Streams) {
     if n == 4 {
-        return packed_rows(notes, packed);
+        return packed_rows(notes, packed, streams);
     }
     let count = lent(get(notes, notes::PACKED) as usize, packed);
-    look_in_these(n, notes, &packed[..count]);
+    look_in_these(n, notes, &packed[..count], streams);
 }
 
-fn look_in_these(n: usize, notes: &mut [u64], packed: &[u64]) {
+fn look_in_these(n: usize, notes: &mut [u64], packed: &[u64], streams: &mut Streams) {
     match n {
-        5 => row_in(notes, packed),
-        6 => row_of_in(notes, packed),
-        _ => span(catalogue::rows_in(packed, get_u32(notes, notes::FIRST))),
+        5 => row_in(notes, packed, streams),
+        6 => row_of_in(notes, packed, streams),
+        _ => span(
+            catalogue::rows_in(packed, get_u32(notes, notes::FIRST)),
+            streams,
+        ),
     }
 }
 
 // The catalogue becomes the lent table.
-fn packed_rows(notes: &mut [u64], packed: &mut [u64]) {
+fn packed_rows(notes: &mut [u64], packed: &mut [u64], streams: &mut Streams) {
     let rows = catalogue::packed_rows();
-    lend(notes, packed, &rows);
+    lend(notes, packed, &rows, streams);
 }
 
 // Packed rows become the lent table.
-pub fn lend(notes: &mut [u64], packed: &mut [u64], rows: &[u64]) {
+pub fn lend(notes: &mut [u64], packed: &mut [u64], rows: &[u64], streams: &mut Streams) {
     put_all(packed, 0, rows);
     put(notes, notes::PACKED, rows.len() as u64);
-    say::form(b"# packed rows are lent\n", notes, notes::PACKED);
+    say::form(b"# packed rows are lent\n", notes, notes::PACKED, streams);
 }
 
 // How many packed rows are lent, and never more than there are.
@@ -97,87 +110,94 @@ fn lent(count: usize, packed: &[u64]) -> usize
     packed.len()
 }
 
-fn row_in(notes: &mut [u64], packed: &[u64]) {
+fn row_in(notes: &mut [u64], packed: &[u64], streams: &mut Streams) {
     let answer = catalogue::row_in(packed, get(notes, notes::FIRST) as usize);
-    looked(notes, answer);
+    looked(notes, answer, streams);
 }
 
-fn row_of_in(notes: &mut [u64], packed: &[u64]) {
+fn row_of_in(notes: &mut [u64], packed: &[u64], streams: &mut Streams) {
     let dgn = get_u32(notes, notes::FIRST);
     let answer = catalogue::row_of_in(packed, dgn, get_u8(notes, notes::SECOND));
-    looked(notes, answer);
+    looked(notes, answer, streams);
 }
 
 // A row that was found becomes the console's row.
-pub fn looked(notes: &mut [u64], answer: Looked) {
-    tell_looked(notes, answer);
-    say::end(notes, notes::CATALOGUE_LOOKED, answer.refusal());
+pub fn looked(notes: &mut [u64], answer: Looked, streams: &mut Streams) {
+    tell_looked(notes, answer, streams);
+    say::end(notes, notes::CATALOGUE_LOOKED, answer.refusal(), streams);
     if answer.refusal() == 0 {
-        show(notes);
+        show(notes, streams);
     }
 }
 
-fn tell_looked(notes: &mut [u64], answer: Looked) {
+fn tell_looked(notes: &mut [u64], answer: Looked, streams: &mut Streams) {
     match answer {
-        Looked::Is(found) => is(notes, found),
-        Looked::NoSuchRow => say::text(b"NoSuchRow"),
+        Looked::Is(found) => is(notes, found, streams),
+        Looked::NoSuchRow => say::text(b"NoSuchRow", streams),
     }
 }
 
-fn is(notes: &mut [u64], found: Row) {
-    say::text(b"Is");
+fn is(notes: &mut [u64], found: Row, streams: &mut Streams) {
+    say::text(b"Is", streams);
     keep(notes, found);
 }
 
-fn span(span: Span) {
+fn span(span: Span, streams: &mut Streams) {
     let numbers = [span.start as u64, span.count as u64];
-    say::form(b"start=# count=#\n", &numbers, 0);
+    say::form(b"start=# count=#\n", &numbers, 0, streams);
 }
 
 // Fields, by the number of their row or by the console's row.
-fn read_by(n: usize, notes: &mut [u64], bytes: &[u8]) {
+fn read_by(n: usize, notes: &mut [u64], bytes: &[u8], streams: &mut Streams) {
     match n {
-        8 => read(notes, bytes),
-        9 => read_scaled(notes, bytes),
-        10 => classify(notes),
-        11 => read_row(notes, bytes),
-        _ => read_row_scaled(notes, bytes),
+        8 => read(notes, bytes, streams),
+        9 => read_scaled(notes, bytes, streams),
+        10 => classify(notes, streams),
+        11 => read_row(notes, bytes, streams),
+        _ => read_row_scaled(notes, bytes, streams),
     }
 }
 
-fn classify(notes: &[u64]) {
-    field_read(catalogue::classify(row(notes), get(notes, notes::FIRST)));
-    say::text(b"\n");
+fn classify(notes: &[u64], streams: &mut Streams) {
+    field_read(
+        catalogue::classify(row(notes), get(notes, notes::FIRST)),
+        streams,
+    );
+    say::text(b"\n", streams);
 }
 
-fn read(notes: &mut [u64], bytes: &[u8]) {
+fn read(notes: &mut [u64], bytes: &[u8], streams: &mut Streams) {
     let row = get(notes, notes::FIRST) as usize;
     let answer = catalogue::read(row, get_u32(notes, notes::SECOND), bytes);
-    reading(notes, answer);
+    reading(notes, answer, streams);
 }
 
-fn read_row(notes: &mut [u64], bytes: &[u8]) {
+fn read_row(notes: &mut [u64], bytes: &[u8], streams: &mut Streams) {
     let answer = catalogue::read_row(row(notes), get_u32(notes, notes::FIRST), bytes);
-    reading(notes, answer);
+    reading(notes, answer, streams);
 }
 
-pub fn reading(notes: &mut [u64], answer: Reading) {
-    tell_reading(notes, answer);
-    say::end(notes, notes::CATALOGUE_READING, answer.refusal());
+pub fn reading(notes: &mut [u64], answer: Reading, streams: &mut Streams) {
+    tell_reading(notes, answer, streams);
+    say::end(notes, notes::CATALOGUE_READING, answer.refusal(), streams);
 }
 
-fn tell_reading(notes: &mut [u64], answer: Reading) {
+fn tell_reading(notes: &mut [u64], answer: Reading, streams: &mut Streams) {
     match answer {
-        Reading::Is(read) => field_read(read),
-        Reading::BadFrame(why) => frames::bad_frame(notes, why),
-        Reading::NoSuchRow => say::text(b"NoSuchRow"),
+        Reading::Is(read) => field_read(read, streams),
+        Reading::BadFrame(why) => frames::bad_frame(notes, why, streams),
+        Reading::NoSuchRow => say::text(b"NoSuchRow", streams),
     }
 }
 
-fn field_read(field: Field) {
+fn field_read(field: Field, streams: &mut Streams) {
     let class = field.class;
-    say::word(b"NoData OutOfRange Reserved Number", number_of_class(class));
-    say::number(b" code=#", field.code);
+    say::word(
+        b"NoData OutOfRange Reserved Number",
+        number_of_class(class),
+        streams,
+    );
+    say::number(b" code=#", field.code, streams);
 }
 
 // The number of a class, in the order in which the notes have them.
@@ -190,39 +210,44 @@ pub fn number_of_class(class: Class) -> usize {
     }
 }
 
-fn read_scaled(notes: &mut [u64], bytes: &[u8]) {
+fn read_scaled(notes: &mut [u64], bytes: &[u8], streams: &mut Streams) {
     let row = get(notes, notes::FIRST) as usize;
     let answer = catalogue::read_scaled(row, get_u32(notes, notes::SECOND), bytes);
-    scaled(notes, answer);
+    scaled(notes, answer, streams);
 }
 
-fn read_row_scaled(notes: &mut [u64], bytes: &[u8]) {
+fn read_row_scaled(notes: &mut [u64], bytes: &[u8], streams: &mut Streams) {
     let answer = catalogue::read_row_scaled(row(notes), get_u32(notes, notes::FIRST), bytes);
-    scaled(notes, answer);
+    scaled(notes, answer, streams);
 }
 
-fn scaled(notes: &mut [u64], answer: ScaledReading) {
-    tell_scaled(notes, answer);
-    say::end(notes, notes::CATALOGUE_SCALED_READING, answer.refusal());
+fn scaled(notes: &mut [u64], answer: ScaledReading, streams: &mut Streams) {
+    tell_scaled(notes, answer, streams);
+    say::end(
+        notes,
+        notes::CATALOGUE_SCALED_READING,
+        answer.refusal(),
+        streams,
+    );
 }
 
-fn tell_scaled(notes: &mut [u64], answer: ScaledReading) {
+fn tell_scaled(notes: &mut [u64], answer: ScaledReading, streams: &mut Streams) {
     match answer {
-        ScaledReading::Is(read) => value(read),
-        ScaledReading::BadFrame(why) => frames::bad_frame(notes, why),
-        ScaledReading::NoSuchRow => say::text(b"NoSuchRow"),
+        ScaledReading::Is(read) => value(read, streams),
+        ScaledReading::BadFrame(why) => frames::bad_frame(notes, why, streams),
+        ScaledReading::NoSuchRow => say::text(b"NoSuchRow", streams),
     }
 }
 
-fn value(value: Value) {
+fn value(value: Value, streams: &mut Streams) {
     match value {
         Value::Scaled(number) => {
-            say::text(b"Scaled ");
-            say::signed(number);
+            say::text(b"Scaled ", streams);
+            say::signed(number, streams);
         }
-        Value::NoData => say::text(b"NoData"),
-        Value::OutOfRange => say::text(b"OutOfRange"),
-        Value::Reserved => say::text(b"Reserved"),
+        Value::NoData => say::text(b"NoData", streams),
+        Value::OutOfRange => say::text(b"OutOfRange", streams),
+        Value::Reserved => say::text(b"Reserved", streams),
     }
 }
 
@@ -246,40 +271,40 @@ fn below_zero(less: i64) -> i64 {
     -1 - less
 }
 
-fn write_by(n: usize, notes: &mut [u64], bytes: &mut [u8]) {
+fn write_by(n: usize, notes: &mut [u64], bytes: &mut [u8], streams: &mut Streams) {
     match n {
-        13 => write(notes, bytes),
-        14 => write_row(notes, bytes),
+        13 => write(notes, bytes, streams),
+        14 => write_row(notes, bytes, streams),
         _ => {}
     }
 }
 
-fn write(notes: &mut [u64], bytes: &mut [u8]) {
+fn write(notes: &mut [u64], bytes: &mut [u8], streams: &mut Streams) {
     let row = get(notes, notes::FIRST) as usize;
     let id = get_u32(notes, notes::SECOND);
     let answer = catalogue::write(row, id, bytes, typed_value(notes, notes::FOURTH));
-    written(notes, bytes, answer);
+    written(notes, bytes, answer, streams);
 }
 
-fn write_row(notes: &mut [u64], bytes: &mut [u8]) {
+fn write_row(notes: &mut [u64], bytes: &mut [u8], streams: &mut Streams) {
     let id = get_u32(notes, notes::FIRST);
     let answer = catalogue::write_row(row(notes), id, bytes, typed_value(notes, notes::THIRD));
-    written(notes, bytes, answer);
+    written(notes, bytes, answer, streams);
 }
 
 // What writing answered, and the lent bytes after it.
-pub fn written(notes: &mut [u64], bytes: &[u8], answer: Writing) {
-    tell_writing(notes, answer);
-    say::bytes(b" bytes=", bytes);
-    say::end(notes, notes::CATALOGUE_WRITING, answer.refusal());
+pub fn written(notes: &mut [u64], bytes: &[u8], answer: Writing, streams: &mut Streams) {
+    tell_writing(notes, answer, streams);
+    say::bytes(b" bytes=", bytes, streams);
+    say::end(notes, notes::CATALOGUE_WRITING, answer.refusal(), streams);
 }
 
-fn tell_writing(notes: &mut [u64], answer: Writing) {
+fn tell_writing(notes: &mut [u64], answer: Writing, streams: &mut Streams) {
     match answer {
-        Writing::Written => say::text(b"Written"),
-        Writing::BadFrame(why) => frames::bad_frame(notes, why),
-        Writing::NoSuchRow => say::text(b"NoSuchRow"),
-        Writing::NoCode => say::text(b"NoCode"),
+        Writing::Written => say::text(b"Written", streams),
+        Writing::BadFrame(why) => frames::bad_frame(notes, why, streams),
+        Writing::NoSuchRow => say::text(b"NoSuchRow", streams),
+        Writing::NoCode => say::text(b"NoCode", streams),
     }
 }
 
@@ -331,15 +356,17 @@ fn number_of_unit(unit: Unit) -> u64 {
     }
 }
 
-pub fn show(notes: &[u64]) {
+pub fn show(notes: &[u64], streams: &mut Streams) {
     say::form(
         b"  catalogue.row.dgn=~ first=# width=# unit=",
         notes,
         notes::ROW,
+        streams,
     );
     say::word(
         b"Other Percent Celsius Volt Ampere Hertz",
         field(notes, notes::ROW, 3) as usize,
+        streams,
     );
-    say::form(b" plain=? two_state=?\n", notes, notes::ROW + 4);
+    say::form(b" plain=? two_state=?\n", notes, notes::ROW + 4, streams);
 }

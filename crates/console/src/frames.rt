@@ -1,77 +1,79 @@
 // The words of crate `frame`.
 use crate::notes::{byte_at, get, get_u8, get_u32};
+use crate::streams::Streams;
 use crate::{notes, say};
 use frame::{Apart, BadFrame, Destination, Formed, Parts, Verdict};
 
-pub fn call(n: usize, notes: &mut [u64], bytes: &[u8]) {
+pub fn call(n: usize, notes: &mut [u64], bytes: &[u8], streams: &mut Streams) {
     match n {
-        0 => take_apart(notes),
-        1 => form(notes),
-        2 => check(notes, bytes),
-        3 => destination_of(notes),
-        4 => dgn(frame::catalogue_form(get_u32(notes, notes::FIRST))),
-        5 => number_of(bytes),
-        _ => bytes_and_numbers(n, notes),
+        0 => take_apart(notes, streams),
+        1 => form(notes, streams),
+        2 => check(notes, bytes, streams),
+        3 => destination_of(notes, streams),
+        4 => dgn(frame::catalogue_form(get_u32(notes, notes::FIRST)), streams),
+        5 => number_of(bytes, streams),
+        _ => bytes_and_numbers(n, notes, streams),
     }
 }
 
-fn bytes_and_numbers(n: usize, notes: &mut [u64]) {
+fn bytes_and_numbers(n: usize, notes: &mut [u64], streams: &mut Streams) {
     match n {
-        6 => bytes_of(notes),
-        7 => dgn_bytes(notes),
-        8 => dgn_of(notes),
+        6 => bytes_of(notes, streams),
+        7 => dgn_bytes(notes, streams),
+        8 => dgn_of(notes, streams),
         _ => {}
     }
 }
 
-fn take_apart(notes: &mut [u64]) {
+fn take_apart(notes: &mut [u64], streams: &mut Streams) {
     let answer = frame::take_apart(get_u32(notes, notes::FIRST));
     match answer {
-        Apart::Into(into) => parts(b"Into priority=# dgn=~ source=%", into),
-        Apart::IdentifierTooLarge => say::text(b"IdentifierTooLarge"),
-        Apart::ReservedBitSet => say::text(b"ReservedBitSet"),
+        Apart::Into(into) => parts(b"Into priority=# dgn=~ source=%", into, streams),
+        Apart::IdentifierTooLarge => say::text(b"IdentifierTooLarge", streams),
+        Apart::ReservedBitSet => say::text(b"ReservedBitSet", streams),
     }
-    say::end(notes, notes::FRAME_APART, answer.refusal());
+    say::end(notes, notes::FRAME_APART, answer.refusal(), streams);
 }
 
-fn parts(pattern: &[u8], parts: Parts) {
+fn parts(pattern: &[u8], parts: Parts, streams: &mut Streams) {
     let numbers = [parts.priority as u64, parts.dgn as u64, parts.source as u64];
-    say::form(pattern, &numbers, 0);
+    say::form(pattern, &numbers, 0, streams);
 }
 
-fn form(notes: &mut [u64]) {
+fn form(notes: &mut [u64], streams: &mut Streams) {
     let priority = get_u8(notes, notes::FIRST);
     let dgn = get_u32(notes, notes::SECOND);
     let answer = frame::form(priority, dgn, get_u8(notes, notes::THIRD));
     match answer {
-        Formed::Identifier(id) => say::number(b"Identifier ^", id as u64),
-        Formed::NoCode => say::text(b"NoCode"),
+        Formed::Identifier(id) => say::number(b"Identifier ^", id as u64, streams),
+        Formed::NoCode => say::text(b"NoCode", streams),
     }
-    say::end(notes, notes::FRAME_FORMED, answer.refusal());
+    say::end(notes, notes::FRAME_FORMED, answer.refusal(), streams);
 }
 
-fn check(notes: &mut [u64], bytes: &[u8]) {
+fn check(notes: &mut [u64], bytes: &[u8], streams: &mut Streams) {
     let checked = frame::check(get_u32(notes, notes::FIRST), bytes);
     let answer = checked.verdict;
-    tell(notes, answer);
+    tell(notes, answer, streams);
     let eight = checked.bytes;
-    say::bytes(b" bytes=", &eight);
-    say::end(notes, notes::FRAME_VERDICT, answer.refusal());
+    say::bytes(b" bytes=", &eight, streams);
+    say::end(notes, notes::FRAME_VERDICT, answer.refusal(), streams);
 }
 
-fn tell(notes: &mut [u64], answer: Verdict) {
+fn tell(notes: &mut [u64], answer: Verdict, streams: &mut Streams) {
     match answer {
-        Verdict::Sound(sound) => parts(b"Sound priority=# dgn=~ source=%", sound),
-        Verdict::Bad(why) => bad_frame(notes, why),
+        Verdict::Sound(sound) => parts(b"Sound priority=# dgn=~ source=%", sound, streams),
+        Verdict::Bad(why) => bad_frame(notes, why, streams),
     }
 }
 
 // Why a frame is bad.
-pub fn bad_frame(notes: &mut [u64], why: BadFrame) {
-    say::text(b"BadFrame ");
+pub fn bad_frame(notes: &mut [u64], why: BadFrame, streams: &mut Streams) {
+    say::text(b"BadFrame ", streams);
     say::word(
         b"IdentifierTooLarge NotEightBytes ReservedBitSet SourceNotAllowed",
         number(why),
+        streams,
     );
     notes::put(notes, notes::FRAME_BAD_FRAME, why.refusal() as u64);
 }
@@ -85,41 +87,44 @@ fn number(why: BadFrame) -> usize {
     }
 }
 
-fn destination_of(notes: &[u64]) {
+fn destination_of(notes: &[u64], streams: &mut Streams) {
     let destination = frame::destination_of(get_u32(notes, notes::FIRST));
     match destination {
-        Destination::NotAddressed => say::text(b"NotAddressed\n"),
-        Destination::All => say::text(b"All\n"),
-        Destination::One(address) => say::number(b"One %\n", address as u64),
+        Destination::NotAddressed => say::text(b"NotAddressed\n", streams),
+        Destination::All => say::text(b"All\n", streams),
+        Destination::One(address) => say::number(b"One %\n", address as u64, streams),
     }
 }
 
-fn dgn(dgn: u32) {
-    say::number(b"~\n", dgn as u64);
+fn dgn(dgn: u32, streams: &mut Streams) {
+    say::number(b"~\n", dgn as u64, streams);
 }
 
-fn number_of(bytes: &[u8]) {
+fn number_of(bytes: &[u8], streams: &mut Streams) {
     let number = frame::number_of(first_eight(bytes));
     let twice = [number, number];
-    say::form(b"@ = #\n", &twice, 0);
+    say::form(b"@ = #\n", &twice, 0, streams);
 }
 
-fn bytes_of(notes: &mut [u64]) {
+fn bytes_of(notes: &mut [u64], streams: &mut Streams) {
     let bytes = frame::bytes_of(get(notes, notes::FIRST));
-    say::eight(notes, b"", bytes);
-    say::text(b"\n");
+    say::eight(notes, b"", bytes, streams);
+    say::text(b"\n", streams);
 }
 
-fn dgn_bytes(notes: &[u64]) {
+fn dgn_bytes(notes: &[u64], streams: &mut Streams) {
     let bytes = frame::dgn_bytes(get_u32(notes, notes::FIRST));
-    say::bytes(b"", &bytes);
-    say::text(b"\n");
+    say::bytes(b"", &bytes, streams);
+    say::text(b"\n", streams);
 }
 
-fn dgn_of(notes: &[u64]) {
+fn dgn_of(notes: &[u64], streams: &mut Streams) {
     let low = get_u8(notes, notes::FIRST);
     let middle = get_u8(notes, notes::SECOND);
-    dgn(frame::dgn_of(low, middle, get_u8(notes, notes::THIRD)));
+    dgn(
+        frame::dgn_of(low, middle, get_u8(notes, notes::THIRD)),
+        streams,
+    );
 }
 
 // The first eight bytes of those that were typed.

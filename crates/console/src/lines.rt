@@ -1,5 +1,5 @@
 // Lines of standard input.
-use libc::STDIN_FILENO;
+use crate::streams::Streams;
 
 // A line of so many bytes is too long.
 pub const LONGEST: usize = 4096;
@@ -20,12 +20,12 @@ struct Byte {
 
 // Reads up to the next line feed or the end of the input. Bytes past the buffer's end are dropped: a line that fills
 // the buffer is one too long.
-pub fn read_line(line: &mut [u8]) -> Line {
+pub fn read_line(line: &mut [u8], streams: &mut Streams) -> Line {
     let mut count: usize = 0;
     let mut turns = u64::MAX;
     while turns > 0 {
         turns -= 1;
-        let byte = read_byte();
+        let byte = read_byte(streams);
         if !byte.is {
             break;
         }
@@ -43,9 +43,9 @@ pub fn read_line(line: &mut [u8]) -> Line {
     }
 }
 
-fn read_byte() -> Byte {
+fn read_byte(streams: &mut Streams) -> Byte {
     let mut one = [0u8; 1];
-    let got = libc::read(STDIN_FILENO, &mut one);
+    let got = streams.read(&mut one);
     Byte {
         value: one[0],
         is: got == 1,

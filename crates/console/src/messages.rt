@@ -3,29 +3,30 @@ use crate::notes::{
     bounded, field, field_u8, field_u16, field_u32, get, get_u8, get_u16, get_u32, put, put_all,
     record,
 };
+use crate::streams::Streams;
 use crate::{frames, notes, say, state};
 use message::limits::{PLACES, STRETCH};
 use message::{Announcing, Answer, Pausing, Place, Receiver, Splitting, Unsplittable};
 
-pub fn call(n: usize, notes: &mut [u64], bytes: &[u8], storage: &mut [u8]) {
+pub fn call(n: usize, notes: &mut [u64], bytes: &[u8], storage: &mut [u8], streams: &mut Streams) {
     match n {
-        0 => new(notes),
-        1 => hear(notes, bytes, storage),
-        2 => pause(notes, storage),
-        3 => finished(notes, storage),
-        4 => announcement(notes, bytes),
-        5 => packet(notes, bytes),
+        0 => new(notes, streams),
+        1 => hear(notes, bytes, storage, streams),
+        2 => pause(notes, storage, streams),
+        3 => finished(notes, storage, streams),
+        4 => announcement(notes, bytes, streams),
+        5 => packet(notes, bytes, streams),
         _ => {}
     }
 }
 
-fn new(notes: &mut [u64]) {
+fn new(notes: &mut [u64], streams: &mut Streams) {
     keep(notes, Receiver::new());
     put(notes, notes::MESSAGE_FINISHED, 0);
-    say::text(b"a receiver of eight free places\n");
+    say::text(b"a receiver of eight free places\n", streams);
 }
 
-fn hear(notes: &mut [u64], bytes: &[u8], storage: &mut [u8]) {
+fn hear(notes: &mut [u64], bytes: &[u8], storage: &mut [u8], streams: &mut Streams) {
     let id = get_u32(notes, notes::FIRST);
     let lent = bounded(get(notes, notes::MESSAGE_STORAGE) as usize, storage);
     let before = receiver(notes);
@@ -33,19 +34,19 @@ fn hear(notes: &mut [u64], bytes: &[u8], storage: &mut [u8]) {
     keep(notes, heard.receiver);
     let answer = heard.answer;
     keep_answer(notes, answer);
-    heard_so(notes, storage, answer);
+    heard_so(notes, storage, answer, streams);
 }
 
-fn heard_so(notes: &mut [u64], storage: &[u8], answer: Answer) {
-    tell(notes, answer);
-    say::bytes(b"", message::message(storage, answer));
-    say::end(notes, notes::MESSAGE_ANSWER, answer.refusal());
-    show(notes, storage);
+fn heard_so(notes: &mut [u64], storage: &[u8], answer: Answer, streams: &mut Streams) {
+    tell(notes, answer, streams);
+    say::bytes(b"", message::message(storage, answer), streams);
+    say::end(notes, notes::MESSAGE_ANSWER, answer.refusal(), streams);
+    show(notes, storage, streams);
 }
 
-fn tell(notes: &mut [u64], answer: Answer) {
+fn tell(notes: &mut [u64], answer: Answer, streams: &mut Streams) {
     match answer {
-        Answer::BadFrame(why) => frames::bad_frame(notes, why),
+        Answer::BadFrame(why) => frames::bad_frame(notes, why, streams),
         Answer::Finished {
             place: _,
             sender: _,
@@ -55,11 +56,13 @@ fn tell(notes: &mut [u64], answer: Answer) {
             b"Finished place=# sender=% dgn=~ length=# message=",
             notes,
             notes::MESSAGE_FINISHED + 1,
+            streams,
         ),
         _ => say::word(
             b"StorageTooShort BrokenState MalformedAnnouncement NoPlaceFree NoOpenMessage \
               UnexpectedPacket NothingToDo Opened Stored",
             number(answer),
+            streams,
         ),
     }
 }
@@ -79,65 +82,65 @@ fn number(answer: Answer) -> usize {
 }
 
 // The part of the storage that the last answer hands over.
-fn finished(notes: &[u64], storage: &[u8]) {
+fn finished(notes: &[u64], storage: &[u8], streams: &mut Streams) {
     let lent = bounded(get(notes, notes::MESSAGE_STORAGE) as usize, storage);
     let bytes = message::message(&storage[..lent], kept_answer(notes));
-    say::number(b"length=#", bytes.len() as u64);
-    say::bytes(b" bytes=", bytes);
-    say::text(b"\n");
+    say::number(b"length=#", bytes.len() as u64, streams);
+    say::bytes(b" bytes=", bytes, streams);
+    say::text(b"\n", streams);
 }
 
-fn pause(notes: &mut [u64], storage: &[u8]) {
+fn pause(notes: &mut [u64], storage: &[u8], streams: &mut Streams) {
     let before = receiver(notes);
     let paused = before.pause(get_u16(notes, notes::FIRST));
     keep(notes, paused.receiver);
     let answer = paused.answer;
     match answer {
-        Pausing::Closed(count) => say::number(b"Closed #", count as u64),
-        Pausing::BrokenState => say::text(b"BrokenState"),
+        Pausing::Closed(count) => say::number(b"Closed #", count as u64, streams),
+        Pausing::BrokenState => say::text(b"BrokenState", streams),
     }
-    say::end(notes, notes::MESSAGE_PAUSING, answer.refusal());
-    show(notes, storage);
+    say::end(notes, notes::MESSAGE_PAUSING, answer.refusal(), streams);
+    show(notes, storage, streams);
 }
 
-fn announcement(notes: &mut [u64], bytes: &[u8]) {
+fn announcement(notes: &mut [u64], bytes: &[u8], streams: &mut Streams) {
     let announced = message::announcement(bytes, get_u32(notes, notes::SECOND));
     let answer = announced.answer;
-    tell_announcing(notes, answer);
+    tell_announcing(notes, answer, streams);
     let eight = announced.bytes;
-    say::eight(notes, b"", eight);
-    say::end(notes, notes::MESSAGE_ANNOUNCING, answer.refusal());
+    say::eight(notes, b"", eight, streams);
+    say::end(notes, notes::MESSAGE_ANNOUNCING, answer.refusal(), streams);
 }
 
-fn tell_announcing(notes: &mut [u64], answer: Announcing) {
+fn tell_announcing(notes: &mut [u64], answer: Announcing, streams: &mut Streams) {
     match answer {
-        Announcing::Bytes => say::text(b"Bytes "),
-        Announcing::Refused(why) => unsplittable(notes, why),
+        Announcing::Bytes => say::text(b"Bytes ", streams),
+        Announcing::Refused(why) => unsplittable(notes, why, streams),
     }
 }
 
-fn packet(notes: &mut [u64], bytes: &[u8]) {
+fn packet(notes: &mut [u64], bytes: &[u8], streams: &mut Streams) {
     let dgn = get_u32(notes, notes::SECOND);
     let split = message::packet(bytes, dgn, get_u32(notes, notes::THIRD));
     let answer = split.answer;
-    tell_splitting(notes, answer);
+    tell_splitting(notes, answer, streams);
     let eight = split.bytes;
-    say::eight(notes, b"", eight);
-    say::end(notes, notes::MESSAGE_SPLITTING, answer.refusal());
+    say::eight(notes, b"", eight, streams);
+    say::end(notes, notes::MESSAGE_SPLITTING, answer.refusal(), streams);
 }
 
-fn tell_splitting(notes: &mut [u64], answer: Splitting) {
+fn tell_splitting(notes: &mut [u64], answer: Splitting, streams: &mut Streams) {
     match answer {
-        Splitting::Bytes => say::text(b"Bytes "),
-        Splitting::Refused(why) => unsplittable(notes, why),
-        Splitting::NoSuchPacket => say::text(b"NoSuchPacket "),
+        Splitting::Bytes => say::text(b"Bytes ", streams),
+        Splitting::Refused(why) => unsplittable(notes, why, streams),
+        Splitting::NoSuchPacket => say::text(b"NoSuchPacket ", streams),
     }
 }
 
-fn unsplittable(notes: &mut [u64], why: Unsplittable) {
+fn unsplittable(notes: &mut [u64], why: Unsplittable, streams: &mut Streams) {
     match why {
-        Unsplittable::NoCode => say::text(b"Refused NoCode "),
-        Unsplittable::LengthNotSplit => say::text(b"Refused LengthNotSplit "),
+        Unsplittable::NoCode => say::text(b"Refused NoCode ", streams),
+        Unsplittable::LengthNotSplit => say::text(b"Refused LengthNotSplit ", streams),
     }
     put(notes, notes::MESSAGE_UNSPLITTABLE, why.refusal() as u64);
 }
@@ -218,15 +221,15 @@ fn keep_answer(notes: &mut [u64], answer: Answer) {
 }
 
 // The places that are not all zeros, each with the bytes that it has stored.
-pub fn show(notes: &[u64], storage: &[u8]) {
+pub fn show(notes: &[u64], storage: &[u8], streams: &mut Streams) {
     let mut i: usize = 0;
     while i < PLACES {
-        show_place(notes, storage, i);
+        show_place(notes, storage, i, streams);
         i += 1;
     }
 }
 
-fn show_place(notes: &[u64], storage: &[u8], position: usize) {
+fn show_place(notes: &[u64], storage: &[u8], position: usize, streams: &mut Streams) {
     let shown = state::show(
         notes,
         b"  message.places[#",
@@ -234,11 +237,17 @@ fn show_place(notes: &[u64], storage: &[u8], position: usize) {
         notes::MESSAGE_PLACES,
         5,
         position,
+        streams,
     );
     if shown {
         let expected = field_u8(notes, record(notes::MESSAGE_PLACES, 5, position), 3);
-        say::stretch(storage, record(0, STRETCH, position), stored(expected));
-        say::text(b"\n");
+        say::stretch(
+            storage,
+            record(0, STRETCH, position),
+            stored(expected),
+            streams,
+        );
+        say::text(b"\n", streams);
     }
 }
 

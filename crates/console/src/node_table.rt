@@ -3,28 +3,29 @@ ghost use Rattle.std.specs.Prelude.{◌≡◌, ◌≤◌, take};
 ghost use Rattle.nodes.specs.Promises.{Hear, Pause, LookUp, FindAddress, FindChallenger};
 
 use crate::notes::{field, field_u16, get, get_u8, get_u16, get_u32, put_all, record};
+use crate::streams::Streams;
 use crate::{frames, notes, say, state};
 use nodes::{FoundAddress, FoundChallenger, Hearing, LookedUp, Node, Pausing, RECORDS};
 
 // How many records the console keeps.
 pub const MOST_RECORDS: usize = 300;
 
-pub fn call(n: usize, notes: &mut [u64], bytes: &[u8]) {
+pub fn call(n: usize, notes: &mut [u64], bytes: &[u8], streams: &mut Streams) {
     match n {
-        0 => emptied(notes),
-        1 => heard(notes, bytes),
-        2 => looked_up(notes),
-        3 => found_address(notes),
-        4 => paused(notes),
-        5 => found_challenger(notes),
+        0 => emptied(notes, streams),
+        1 => heard(notes, bytes, streams),
+        2 => looked_up(notes, streams),
+        3 => found_address(notes, streams),
+        4 => paused(notes, streams),
+        5 => found_challenger(notes, streams),
         _ => {}
     }
 }
 
-fn emptied(notes: &mut [u64]) {
+fn emptied(notes: &mut [u64], streams: &mut Streams) {
     keep_first(notes, nodes::empty());
-    say::text(b"254 records in which nobody has an address\n");
-    show(notes);
+    say::text(b"254 records in which nobody has an address\n", streams);
+    show(notes, streams);
 }
 
 fn keep_first(notes: &mut [u64], first: [Node; RECORDS]) {
@@ -56,26 +57,27 @@ fn lent(notes: &[u64]) -> usize
     300
 }
 
-fn heard(notes: &mut [u64], bytes: &[u8]) {
+fn heard(notes: &mut [u64], bytes: &[u8], streams: &mut Streams) {
     let id = get_u32(notes, notes::FIRST);
     let after = hear(table(notes), lent(notes), id, bytes);
     let table = after.table;
     keep(notes, table);
     let answer = after.answer;
-    tell(notes, answer);
-    say::end(notes, notes::NODES_HEARD, answer.refusal());
-    show(notes);
+    tell(notes, answer, streams);
+    say::end(notes, notes::NODES_HEARD, answer.refusal(), streams);
+    show(notes, streams);
 }
 
-fn tell(notes: &mut [u64], answer: Hearing) {
+fn tell(notes: &mut [u64], answer: Hearing, streams: &mut Streams) {
     match answer {
-        Hearing::Taken(address) => say::number(b"Taken %", address as u64),
-        Hearing::Challenges(address) => say::number(b"Challenges %", address as u64),
-        Hearing::HeldByLower(address) => say::number(b"HeldByLower %", address as u64),
-        Hearing::BadFrame(why) => frames::bad_frame(notes, why),
+        Hearing::Taken(address) => say::number(b"Taken %", address as u64, streams),
+        Hearing::Challenges(address) => say::number(b"Challenges %", address as u64, streams),
+        Hearing::HeldByLower(address) => say::number(b"HeldByLower %", address as u64, streams),
+        Hearing::BadFrame(why) => frames::bad_frame(notes, why, streams),
         _ => say::word(
             b"Silent NothingToDo TableTooShort BrokenState",
             number(answer),
+            streams,
         ),
     }
 }
@@ -89,61 +91,66 @@ fn number(answer: Hearing) -> usize {
     }
 }
 
-fn paused(notes: &mut [u64]) {
+fn paused(notes: &mut [u64], streams: &mut Streams) {
     let ms = get_u16(notes, notes::FIRST);
     let after = pause(table(notes), lent(notes), ms);
     let table = after.table;
     keep(notes, table);
     let answer = after.answer;
-    tell_pause(answer);
-    say::end(notes, notes::NODES_PAUSING, answer.refusal());
-    show(notes);
+    tell_pause(answer, streams);
+    say::end(notes, notes::NODES_PAUSING, answer.refusal(), streams);
+    show(notes, streams);
 }
 
-fn tell_pause(answer: Pausing) {
+fn tell_pause(answer: Pausing, streams: &mut Streams) {
     match answer {
-        Pausing::Replaced(count) => say::number(b"Replaced #", count as u64),
-        Pausing::TableTooShort => say::text(b"TableTooShort"),
-        Pausing::BrokenState => say::text(b"BrokenState"),
+        Pausing::Replaced(count) => say::number(b"Replaced #", count as u64, streams),
+        Pausing::TableTooShort => say::text(b"TableTooShort", streams),
+        Pausing::BrokenState => say::text(b"BrokenState", streams),
     }
 }
 
-fn looked_up(notes: &mut [u64]) {
+fn looked_up(notes: &mut [u64], streams: &mut Streams) {
     let answer = look_up(table(notes), lent(notes), get_u8(notes, notes::FIRST));
     match answer {
-        LookedUp::Present(name) => say::number(b"Present @", name),
-        LookedUp::Absent => say::text(b"Absent"),
-        LookedUp::TableTooShort => say::text(b"TableTooShort"),
-        LookedUp::BrokenState => say::text(b"BrokenState"),
+        LookedUp::Present(name) => say::number(b"Present @", name, streams),
+        LookedUp::Absent => say::text(b"Absent", streams),
+        LookedUp::TableTooShort => say::text(b"TableTooShort", streams),
+        LookedUp::BrokenState => say::text(b"BrokenState", streams),
     }
-    say::end(notes, notes::NODES_LOOKED_UP, answer.refusal());
+    say::end(notes, notes::NODES_LOOKED_UP, answer.refusal(), streams);
 }
 
-fn found_address(notes: &mut [u64]) {
+fn found_address(notes: &mut [u64], streams: &mut Streams) {
     let answer = find_address(table(notes), lent(notes), get(notes, notes::FIRST));
     match answer {
-        FoundAddress::At(address) => say::number(b"At %", address as u64),
-        FoundAddress::NoAddress => say::text(b"NoAddress"),
-        FoundAddress::TableTooShort => say::text(b"TableTooShort"),
-        FoundAddress::BrokenState => say::text(b"BrokenState"),
+        FoundAddress::At(address) => say::number(b"At %", address as u64, streams),
+        FoundAddress::NoAddress => say::text(b"NoAddress", streams),
+        FoundAddress::TableTooShort => say::text(b"TableTooShort", streams),
+        FoundAddress::BrokenState => say::text(b"BrokenState", streams),
     }
-    say::end(notes, notes::NODES_FOUND_ADDRESS, answer.refusal());
+    say::end(notes, notes::NODES_FOUND_ADDRESS, answer.refusal(), streams);
 }
 
-fn found_challenger(notes: &mut [u64]) {
+fn found_challenger(notes: &mut [u64], streams: &mut Streams) {
     let answer = find_challenger(table(notes), lent(notes), get_u8(notes, notes::FIRST));
     match answer {
-        FoundChallenger::Waits { name, wait } => waits(name, wait),
-        FoundChallenger::NoChallenger => say::text(b"NoChallenger"),
-        FoundChallenger::TableTooShort => say::text(b"TableTooShort"),
-        FoundChallenger::BrokenState => say::text(b"BrokenState"),
+        FoundChallenger::Waits { name, wait } => waits(name, wait, streams),
+        FoundChallenger::NoChallenger => say::text(b"NoChallenger", streams),
+        FoundChallenger::TableTooShort => say::text(b"TableTooShort", streams),
+        FoundChallenger::BrokenState => say::text(b"BrokenState", streams),
     }
-    say::end(notes, notes::NODES_FOUND_CHALLENGER, answer.refusal());
+    say::end(
+        notes,
+        notes::NODES_FOUND_CHALLENGER,
+        answer.refusal(),
+        streams,
+    );
 }
 
-fn waits(name: u64, wait: u16) {
+fn waits(name: u64, wait: u16, streams: &mut Streams) {
     let two = [name, wait as u64];
-    say::form(b"Waits name=@ wait=#", &two, 0);
+    say::form(b"Waits name=@ wait=#", &two, 0, streams);
 }
 
 // A table after a frame, and what was answered.
@@ -249,7 +256,7 @@ fn keep(notes: &mut [u64], table: [Node; MOST_RECORDS]) {
 }
 
 // The records that are not all zeros.
-pub fn show(notes: &[u64]) {
+pub fn show(notes: &[u64], streams: &mut Streams) {
     state::show_all(
         notes,
         b"  nodes[%",
@@ -257,5 +264,6 @@ pub fn show(notes: &[u64]) {
         notes::NODES,
         4,
         MOST_RECORDS,
+        streams,
     );
 }

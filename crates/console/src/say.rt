@@ -1,20 +1,20 @@
 // What the console prints: texts, numbers, bytes, and the end of an answer with its number.
 use crate::notes::{bounded, byte_at, get, put};
+use crate::streams::Streams;
 use crate::{notes, typing};
-use libc::STDOUT_FILENO;
 use std::num::wrapping_add_usize;
 
-pub fn text(text: &[u8]) {
-    io::write_all(STDOUT_FILENO, text);
+pub fn text(text: &[u8], streams: &mut Streams) {
+    streams.write(text);
 }
 
 // A pattern with numbers, taken from a place on: `#` is one in decimal digits, `%` an address, `~` a DGN, `^` an
 // identifier and `@` a NAME, all in hexadecimal digits, `?` true or false. Every other character is printed as it is.
-pub fn form(pattern: &[u8], numbers: &[u64], at: usize) {
+pub fn form(pattern: &[u8], numbers: &[u64], at: usize, streams: &mut Streams) {
     let mut next = at;
     let mut i: usize = 0;
     while i < pattern.len() {
-        if piece(pattern[i], get(numbers, next)) {
+        if piece(pattern[i], get(numbers, next), streams) {
             next = wrapping_add_usize(next, 1);
         }
         i += 1;
@@ -22,16 +22,16 @@ pub fn form(pattern: &[u8], numbers: &[u64], at: usize) {
 }
 
 // A character of a pattern, and whether it was the number.
-fn piece(c: u8, number: u64) -> bool {
+fn piece(c: u8, number: u64, streams: &mut Streams) -> bool {
     match c {
-        b'#' => decimal(number),
-        b'%' => hex(number, 2),
-        b'~' => hex(number, 5),
-        b'^' => hex(number, 8),
-        b'@' => hex(number, 16),
-        b'?' => word(b"false true", number as usize),
+        b'#' => decimal(number, streams),
+        b'%' => hex(number, 2, streams),
+        b'~' => hex(number, 5, streams),
+        b'^' => hex(number, 8, streams),
+        b'@' => hex(number, 16, streams),
+        b'?' => word(b"false true", number as usize, streams),
         _ => {
-            character(c);
+            character(c, streams);
             return false;
         }
     }
@@ -39,107 +39,114 @@ fn piece(c: u8, number: u64) -> bool {
 }
 
 // A pattern with one number.
-pub fn number(pattern: &[u8], number: u64) {
+pub fn number(pattern: &[u8], number: u64, streams: &mut Streams) {
     let numbers = [number];
-    form(pattern, &numbers, 0);
+    form(pattern, &numbers, 0, streams);
 }
 
 // One of these words, counted from 0.
-pub fn word(words: &[u8], n: usize) {
+pub fn word(words: &[u8], n: usize, streams: &mut Streams) {
     let word = typing::nth_name(words, 0, n);
-    characters(words, word.from, word.to);
+    characters(words, word.from, word.to, streams);
 }
 
 // Characters of a text.
-pub fn characters(text: &[u8], from: usize, to: usize) {
+pub fn characters(text: &[u8], from: usize, to: usize, streams: &mut Streams) {
     let mut i = from;
     while i < to {
-        character(byte_at(text, i));
+        character(byte_at(text, i), streams);
         i += 1;
     }
 }
 
-fn character(c: u8) {
+fn character(c: u8, streams: &mut Streams) {
     let one = [c];
-    text(&one);
+    text(&one, streams);
 }
 
-fn decimal(number: u64) {
+fn decimal(number: u64, streams: &mut Streams) {
     let mut digits = [0u8; 20];
     let end = text::put_decimal(&mut digits, 0, b"", number);
     let count = bounded(end, &digits);
-    text(&digits[..count]);
+    text(&digits[..count], streams);
 }
 
 // At least so many digits, and more where the number has more; in small letters, as `text` writes none.
-fn hex(number: u64, least: usize) {
-    text(b"0x");
-    io::print_hex(STDOUT_FILENO, number, least);
+fn hex(number: u64, least: usize, streams: &mut Streams) {
+    text(b"0x", streams);
+    hex_digits(number, least, streams);
+}
+
+// The digits alone.
+fn hex_digits(number: u64, least: usize, streams: &mut Streams) {
+    let mut digits = [0u8; 16];
+    let count = io::hex(number, least, &mut digits);
+    text(&digits[..count], streams);
 }
 
 // A number that may be negative.
-pub fn signed(number: i64) {
+pub fn signed(number: i64, streams: &mut Streams) {
     if number < 0 {
         let size = (-1 - number) as u64 + 1;
-        text(b"-");
-        decimal(size);
+        text(b"-", streams);
+        decimal(size, streams);
         return;
     }
-    decimal(number as u64);
+    decimal(number as u64, streams);
 }
 
-fn byte(byte: u8) {
-    io::print_hex(STDOUT_FILENO, byte as u64, 2);
+fn byte(byte: u8, streams: &mut Streams) {
+    hex_digits(byte as u64, 2, streams);
 }
 
 // Bytes as pairs of hexadecimal digits.
-pub fn bytes(label: &[u8], bytes: &[u8]) {
-    text(label);
+pub fn bytes(label: &[u8], bytes: &[u8], streams: &mut Streams) {
+    text(label, streams);
     let mut i: usize = 0;
     while i < bytes.len() {
-        byte(bytes[i]);
+        byte(bytes[i], streams);
         i += 1;
     }
 }
 
 // Some bytes of a storage, from a place on; 0 past its end.
-pub fn stretch(storage: &[u8], from: usize, count: usize) {
+pub fn stretch(storage: &[u8], from: usize, count: usize, streams: &mut Streams) {
     let mut i: usize = 0;
     while i < count {
-        byte(byte_at(storage, wrapping_add_usize(from, i)));
+        byte(byte_at(storage, wrapping_add_usize(from, i)), streams);
         i += 1;
     }
 }
 
 // Eight bytes that a call gave. They are noted, and the word `that` means them in the next line.
-pub fn eight(notes: &mut [u64], label: &[u8], eight: [u8; 8]) {
+pub fn eight(notes: &mut [u64], label: &[u8], eight: [u8; 8], streams: &mut Streams) {
     put(notes, notes::THAT, frame::number_of(eight));
-    bytes(label, &eight);
+    bytes(label, &eight, streams);
 }
 
 // A frame that stands beside an answer.
-pub fn frame(notes: &mut [u64], id: u32, bytes: [u8; 8]) {
-    number(b" id=^", id as u64);
-    eight(notes, b" bytes=", bytes);
+pub fn frame(notes: &mut [u64], id: u32, bytes: [u8; 8], streams: &mut Streams) {
+    number(b" id=^", id as u64, streams);
+    eight(notes, b" bytes=", bytes, streams);
 }
 
 // The end of an answer: the number of its refusal, which is noted, and the end of the line.
-pub fn end(notes: &mut [u64], kind: usize, refusal: u8) {
+pub fn end(notes: &mut [u64], kind: usize, refusal: u8, streams: &mut Streams) {
     put(notes, kind, refusal as u64);
     if refusal != 0 {
-        number(b", refusal #", refusal as u64);
+        number(b", refusal #", refusal as u64, streams);
     }
-    text(b"\n");
+    text(b"\n", streams);
 }
 
 // No call or field of this part has the name.
-pub fn unknown() {
-    text(b"malformed: no such call or field; type help\n");
+pub fn unknown(streams: &mut Streams) {
+    text(b"malformed: no such call or field; type help\n", streams);
 }
 
 // What is wrong with a line, and at which of its words, counted from 0.
-pub fn malformed(n: usize, why: &[u8]) {
-    number(b"malformed, word #: ", n as u64);
-    text(why);
-    text(b"\n");
+pub fn malformed(n: usize, why: &[u8], streams: &mut Streams) {
+    number(b"malformed, word #: ", n as u64, streams);
+    text(why, streams);
+    text(b"\n", streams);
 }

@@ -1,25 +1,26 @@
 // The words of crate `text`: a piece put into bytes that the console lends for one call, hyphens all of them.
 use crate::notes::{bounded, get};
+use crate::streams::Streams;
 use crate::{notes, say};
 
 // So many bytes are lent at most.
 const MOST_LENT: usize = 64;
 
-pub fn call(n: usize, notes: &[u64], bytes: &[u8]) {
+pub fn call(n: usize, notes: &[u64], bytes: &[u8], streams: &mut Streams) {
     if n == 4 {
-        return width(notes);
+        return width(notes, streams);
     }
     let mut all = [b'-'; MOST_LENT];
     let lent = bounded(get(notes, notes::FIRST) as usize, &all);
-    answer(n, notes, &mut all[..lent], bytes);
+    answer(n, notes, &mut all[..lent], bytes, streams);
 }
 
 // The answer, and the lent bytes.
-fn answer(n: usize, notes: &[u64], out: &mut [u8], bytes: &[u8]) {
+fn answer(n: usize, notes: &[u64], out: &mut [u8], bytes: &[u8], streams: &mut Streams) {
     let end = piece(n, notes, out, bytes);
-    say::number(b"# \"", end as u64);
-    say::text(out);
-    say::text(b"\"\n");
+    say::number(b"# \"", end as u64, streams);
+    say::text(out, streams);
+    say::text(b"\"\n", streams);
 }
 
 // Puts the piece of the n-th call; the key of bytes is not typed.
@@ -34,6 +35,10 @@ fn piece(n: usize, notes: &[u64], out: &mut [u8], bytes: &[u8]) -> usize {
     }
 }
 
-fn width(notes: &[u64]) {
-    say::number(b"#\n", text::decimal_width(get(notes, notes::FIRST)) as u64);
+fn width(notes: &[u64], streams: &mut Streams) {
+    say::number(
+        b"#\n",
+        text::decimal_width(get(notes, notes::FIRST)) as u64,
+        streams,
+    );
 }

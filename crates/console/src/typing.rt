@@ -1,5 +1,6 @@
 // A typed line: its words, and the numbers and bytes that they mean. The line stands in the notes, a letter a note.
 use crate::notes::{byte_at, field_u8, get, put};
+use crate::streams::Streams;
 use crate::{notes, say};
 use std::num::{wrapping_add_usize, wrapping_sub_usize};
 
@@ -257,10 +258,10 @@ fn ends_part(c: u8) -> bool {
 }
 
 // Whether the line has no word here; if it has one, that is said.
-pub fn ends_here(notes: &[u64], n: usize) -> bool {
+pub fn ends_here(notes: &[u64], n: usize, streams: &mut Streams) -> bool {
     let rest = nth_word(notes, n);
     if rest.from < rest.to {
-        say::malformed(n, b"one argument too many");
+        say::malformed(n, b"one argument too many", streams);
         return false;
     }
     true

@@ -1,11 +1,11 @@
 // A first program over the library: it hears the three frames of a long message, and prints the message.
 #![tactic(auto)]
 
-use libc::STDOUT_FILENO;
 use rvc::messages::Receiver;
 use rvc::messages::limits::STORAGE_BYTES;
+use std::io;
 
-fn main() {
+fn main(rt: HostRuntime) -> io::Result<()> {
     let mut store = [0u8; STORAGE_BYTES];
     let receiver = Receiver::new();
     let opened = receiver.hear(&mut store, 0x1CECFF54, b"\x20\x09\x00\x02\xFF\xEB\xFE\x00");
@@ -14,5 +14,5 @@ fn main() {
     let receiver = stored.receiver;
     let finished = receiver.hear(&mut store, 0x1CEBFF54, b"\x02*9\xFF\xFF\xFF\xFF\xFF");
     let answer = finished.answer;
-    io::write_all(STDOUT_FILENO, rvc::messages::message(&store, answer));
+    rt.write_all(rvc::messages::message(&store, answer))
 }

@@ -85,10 +85,10 @@ return_split (c ∷ d ∷ l) b e = refused_gives e
 -- The line.
 
 -- bracketed from the right, as it is read
-abbrev in_turn : Parts → List ℕ
-in_turn p = gap_key ++ (p.gap ++ (id_key ++ (p.id ++ (data_key ++ (p.bytes ++ return_text p.returns)))))
+abbrev from_right : Parts → List ℕ
+from_right p = gap_key ++ (p.gap ++ (id_key ++ (p.id ++ (data_key ++ (p.bytes ++ return_text p.returns)))))
 
-pub in_turn : (p : Parts) → spelled p ≡ in_turn p
+pub in_turn : (p : Parts) → spelled p ≡ from_right p
 unfolding spelled
 in_turn p = simp append_assoc
 

@@ -51,7 +51,7 @@ say_more Report before pieces piece n e =
     rw (report_join (length before + 1) pieces (piece ∷ []), k, append-nil)
 
 -- A run counts its lines.
-pub ran_lines : {block : List ℕ} {at at' : ℕ} {c c' : Cutter} {pieces : List Piece} {stop : Stop} → Ran block at c pieces at' c' stop
+pub ran_lines : {block : List ℕ} {at : ℕ} {c : Cutter} {at' : ℕ} {c' : Cutter} {pieces : List Piece} {stop : Stop} → Ran block at c pieces at' c' stop
     → c'.lines ≡ c.lines + length pieces
 ran_lines begun = omega arith
 ran_lines (a_line {pieces = pieces} r piece ran n y) = omega (arith, (brought n y).1, ran_lines ran, length-append pieces (piece ∷ []))

@@ -1,7 +1,7 @@
 -- The laws of this program (RULES 17.14 to 17.17), each a named statement. proofs/ has a proof of each under the same
 -- name written small: those about a line in MendingLaws.antt, those about what was written and is read again in
 -- Again.antt, and those about the calls in Laws.antt.
-use Rattle.std.specs.Prelude.{◌≡◌, false, List, [], ◌∷◌, ◌++◌, ◌↔◌, ℕ, ◌+◌, ◌<◌, length, take}
+use Rattle.std.specs.Prelude.{◌≡◌, false, List, [], ◌∷◌, ◌++◌, ◌↔◌, ℕ, ◌<◌, length, take}
 use Rattle.words.specs.Words.{refused, gives}
 use Rattle.capture.specs.Line.{Frame, IsLineOf}
 use Rattle.capture.specs.Stream.{longest_line, piece_of}

@@ -10,14 +10,16 @@ mod own_faults;
 mod replies;
 mod show;
 mod state;
+mod streams;
 
 ghost use Rattle.std.specs.Prelude.{◌≡◌, ◌<◌, length};
 
-use libc::STDIN_FILENO;
 use rvc::captures::{Cutter, Cutting, Ending, Reading};
 use rvc::identifiers::{Parts, Verdict};
 use rvc::messages::limits::STORAGE_BYTES;
 use state::Panel;
+use std::io;
+use streams::Streams;
 
 // The panel while it listens: the lines of its input so far, and whether more may come.
 #[derive(Clone, Copy)]
@@ -34,25 +36,39 @@ struct Turn {
     next: usize,
 }
 
-fn main() {
-    let mut block = io::large_buffer();
+fn main(rt: HostRuntime) -> io::Result<()> {
+    let mut streams = Streams::new(&rt);
+    let mut block = block();
     let mut storage = [0u8; STORAGE_BYTES];
     let listener = Listener {
         cutter: Cutter::new(),
-        panel: network::start(),
+        panel: network::start(&mut streams),
         more: true,
     };
-    let listener = listen(listener, &mut block, &mut storage);
-    let panel = last_line(listener, &mut storage);
-    show::show_panel(panel);
+    let listener = listen(listener, &mut block, &mut storage, &mut streams);
+    let panel = last_line(listener, &mut storage, &mut streams);
+    show::show_panel(panel, &mut streams);
+    streams.outcome()
+}
+
+// Room for a block of the input.
+fn block() -> [u8; 65536]
+    ensures { length result ≡ 65536 }
+{
+    [0; 65536]
 }
 
 // Block after block. Nothing says that an input ends, so the loop counts down from a number that no input uses up.
-fn listen(listener: Listener, block: &mut [u8], storage: &mut [u8]) -> Listener {
+fn listen(
+    listener: Listener,
+    block: &mut [u8],
+    storage: &mut [u8],
+    streams: &mut Streams,
+) -> Listener {
     let mut listener = listener;
     let mut turns = u64::MAX;
     while turns > 0 {
-        listener = read_block(listener, block, storage);
+        listener = read_block(listener, block, storage, streams);
         if !listener.more {
             return listener;
         }
@@ -62,9 +78,13 @@ fn listen(listener: Listener, block: &mut [u8], storage: &mut [u8]) -> Listener 
 }
 
 // Reads once; nothing read is the end.
-fn read_block(listener: Listener, block: &mut [u8], storage: &mut [u8]) -> Listener {
-    let got = libc::read(STDIN_FILENO, block);
-    let count = io::count(got, block);
+fn read_block(
+    listener: Listener,
+    block: &mut [u8],
+    storage: &mut [u8],
+    streams: &mut Streams,
+) -> Listener {
+    let count = streams.read(block);
     if count == 0 {
         let cutter = listener.cutter;
         let panel = listener.panel;
@@ -74,15 +94,20 @@ fn read_block(listener: Listener, block: &mut [u8], storage: &mut [u8]) -> Liste
             more: false,
         };
     }
-    hear_block(listener, &block[..count], storage)
+    hear_block(listener, &block[..count], storage, streams)
 }
 
 // The lines of a block.
-fn hear_block(listener: Listener, block: &[u8], storage: &mut [u8]) -> Listener {
+fn hear_block(
+    listener: Listener,
+    block: &[u8],
+    storage: &mut [u8],
+    streams: &mut Streams,
+) -> Listener {
     let mut listener = listener;
     let mut at: usize = 0;
     while at < block.len() {
-        let turn = next_line(listener, block, at, storage);
+        let turn = next_line(listener, block, at, storage, streams);
         listener = turn.listener;
         at = turn.next;
     }
@@ -90,7 +115,13 @@ fn hear_block(listener: Listener, block: &[u8], storage: &mut [u8]) -> Listener 
 }
 
 // The next line of a block, if it has one.
-fn next_line(listener: Listener, block: &[u8], at: usize, storage: &mut [u8]) -> Turn
+fn next_line(
+    listener: Listener,
+    block: &[u8],
+    at: usize,
+    storage: &mut [u8],
+    streams: &mut Streams,
+) -> Turn
     requires { at < length block.now }
     ensures { at < result.next }
 {
@@ -101,16 +132,16 @@ fn next_line(listener: Listener, block: &[u8], at: usize, storage: &mut [u8]) ->
     let answer = cut.answer;
     match answer {
         Cutting::Within { from, to } => {
-            let panel = hear_line(panel, &block[from..to], storage);
+            let panel = hear_line(panel, &block[from..to], storage, streams);
             turned(cutter, panel, true, cut.read_to)
         }
         Cutting::Carried(count) => {
             let carry = cutter.carry;
-            let panel = hear_line(panel, &carry[..count], storage);
+            let panel = hear_line(panel, &carry[..count], storage, streams);
             turned(cutter, panel, true, cut.read_to)
         }
         Cutting::TooLong => {
-            too_long();
+            too_long(streams);
             turned(cutter, panel, true, cut.read_to)
         }
         Cutting::BlockUsed => turned(cutter, panel, true, block.len()),
@@ -132,17 +163,17 @@ fn turned(cutter: Cutter, panel: Panel, more: bool, next: usize) -> Turn
 }
 
 // The end of the input, which may end a line.
-fn last_line(listener: Listener, storage: &mut [u8]) -> Panel {
+fn last_line(listener: Listener, storage: &mut [u8], streams: &mut Streams) -> Panel {
     let cutter = listener.cutter;
     let panel = listener.panel;
     let ending = cutter.last();
     match ending {
         Ending::Carried(count) => {
             let carry = cutter.carry;
-            hear_line(panel, &carry[..count], storage)
+            hear_line(panel, &carry[..count], storage, streams)
         }
         Ending::TooLong => {
-            too_long();
+            too_long(streams);
             panel
         }
         Ending::Nothing => panel,
@@ -150,36 +181,42 @@ fn last_line(listener: Listener, storage: &mut [u8]) -> Panel {
 }
 
 // A line that is too long is malformed.
-fn too_long() {
+fn too_long(streams: &mut Streams) {
     let answer = Reading::Malformed;
-    show::refused(answer.refusal());
+    show::refused(answer.refusal(), streams);
 }
 
 // A line: the pause before its frame, then the frame. A malformed line passes no time.
-fn hear_line(panel: Panel, text: &[u8], storage: &mut [u8]) -> Panel {
+fn hear_line(panel: Panel, text: &[u8], storage: &mut [u8], streams: &mut Streams) -> Panel {
     let line = rvc::captures::take_apart(text);
     let answer = line.answer;
     let bytes = line.bytes;
     match answer {
         Reading::Sound => {
-            let panel = network::pause(panel, line.gap);
-            hear_frame(panel, line.id, bytes, storage)
+            let panel = network::pause(panel, line.gap, streams);
+            hear_frame(panel, line.id, bytes, storage, streams)
         }
         Reading::Malformed => {
-            show::refused(answer.refusal());
+            show::refused(answer.refusal(), streams);
             panel
         }
     }
 }
 
 // A frame that is refused by itself is refused once, whatever it is for.
-fn hear_frame(panel: Panel, id: u32, bytes: [u8; 8], storage: &mut [u8]) -> Panel {
+fn hear_frame(
+    panel: Panel,
+    id: u32,
+    bytes: [u8; 8],
+    storage: &mut [u8],
+    streams: &mut Streams,
+) -> Panel {
     let checked = rvc::identifiers::check(id, &bytes);
     let verdict = checked.verdict;
     match verdict {
-        Verdict::Sound(parts) => hear_sound(panel, parts, id, bytes, storage),
+        Verdict::Sound(parts) => hear_sound(panel, parts, id, bytes, storage, streams),
         Verdict::Bad(_) => {
-            show::refused(verdict.refusal());
+            show::refused(verdict.refusal(), streams);
             panel
         }
     }
@@ -187,17 +224,24 @@ fn hear_frame(panel: Panel, id: u32, bytes: [u8; 8], storage: &mut [u8]) -> Pane
 
 // Each part of the panel hears every sound frame, and leaves those that are not meant for it. What a frame can change
 // is what its part returns.
-fn hear_sound(panel: Panel, parts: Parts, id: u32, bytes: [u8; 8], storage: &mut [u8]) -> Panel {
-    let contested = network::contest(panel.claim, id, bytes);
+fn hear_sound(
+    panel: Panel,
+    parts: Parts,
+    id: u32,
+    bytes: [u8; 8],
+    storage: &mut [u8],
+    streams: &mut Streams,
+) -> Panel {
+    let contested = network::contest(panel.claim, id, bytes, streams);
     let claim = contested.claim;
     let nodes = panel.nodes;
-    let nodes = names::hear_claim(nodes, id, bytes);
-    let nodes = network::hear_own_claim(nodes, contested);
-    let receiver = network::join(panel.receiver, id, bytes, storage);
+    let nodes = names::hear_claim(nodes, id, bytes, streams);
+    let nodes = network::hear_own_claim(nodes, contested, streams);
+    let receiver = network::join(panel.receiver, id, bytes, storage, streams);
     let host = panel.host;
     let faults = panel.faults;
-    replies::answer_request(faults.sender, host, claim, id, bytes);
-    replies::answer_command(host, claim, parts.source, id, bytes);
+    replies::answer_request(faults.sender, host, claim, id, bytes, streams);
+    replies::answer_command(host, claim, parts.source, id, bytes, streams);
     let tanks = panel.tanks;
     let chargers = panel.chargers;
     let slides = panel.slides;
@@ -207,8 +251,8 @@ fn hear_sound(panel: Panel, parts: Parts, id: u32, bytes: [u8; 8], storage: &mut
         host,
         faults,
         receiver,
-        tanks: state::hear_tank(tanks, parts.dgn, id, bytes),
-        chargers: state::hear_charger(chargers, parts.dgn, id, bytes),
-        slides: state::hear_slide(slides, parts.dgn, id, bytes),
+        tanks: state::hear_tank(tanks, parts.dgn, id, bytes, streams),
+        chargers: state::hear_charger(chargers, parts.dgn, id, bytes, streams),
+        slides: state::hear_slide(slides, parts.dgn, id, bytes, streams),
     }
 }

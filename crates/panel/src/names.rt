@@ -1,9 +1,10 @@
 // Who has which address: the panel's node table. `hear`, `pause` and `look_up` lend it to the library as a slice, and
-// nothing else does: such a function is proved by hand.
+// nothing else does.
 ghost use Rattle.std.specs.Prelude.{◌≡◌};
 ghost use Rattle.nodes.specs.Promises.{Hear, LookUp, Pause};
 
 use crate::show;
+use crate::streams::Streams;
 use rvc::identifiers::standard::NO_ADDRESS;
 use rvc::node_table::{Hearing, LookedUp, Node, Pausing, RECORDS};
 
@@ -23,78 +24,88 @@ struct AfterPause {
 
 // Hears a frame, and shows who takes or challenges an address by it. A claim gives up any other address of its sender,
 // which a challenger then takes.
-pub fn hear_claim(table: [Node; RECORDS], id: u32, bytes: [u8; 8]) -> [Node; RECORDS] {
+pub fn hear_claim(
+    table: [Node; RECORDS],
+    id: u32,
+    bytes: [u8; 8],
+    streams: &mut Streams,
+) -> [Node; RECORDS] {
     let after = hear(table, id, &bytes);
     let answer = after.answer;
     let heard = after.table;
     match answer {
         Hearing::Taken(address) => {
-            show_node(heard, address);
-            show_others(table, heard, address);
+            show_node(heard, address, streams);
+            show_others(table, heard, address, streams);
         }
         Hearing::Challenges(address) => {
-            show::show_challenger(address, rvc::identifiers::number_of(bytes));
-            show_others(table, heard, address);
+            show::show_challenger(address, rvc::identifiers::number_of(bytes), streams);
+            show_others(table, heard, address, streams);
         }
-        Hearing::HeldByLower(address) => show_others(table, heard, address),
-        Hearing::Silent => show_others(table, heard, NO_ADDRESS),
+        Hearing::HeldByLower(address) => show_others(table, heard, address, streams),
+        Hearing::Silent => show_others(table, heard, NO_ADDRESS, streams),
         Hearing::NothingToDo
         | Hearing::TableTooShort
         | Hearing::BrokenState
-        | Hearing::BadFrame(_) => show::refused(answer.refusal()),
+        | Hearing::BadFrame(_) => show::refused(answer.refusal(), streams),
     }
     heard
 }
 
 // Time passes for the challengers, and those that it gives an address are shown.
-pub fn pause_nodes(table: [Node; RECORDS], gap: u16) -> [Node; RECORDS] {
+pub fn pause_nodes(table: [Node; RECORDS], gap: u16, streams: &mut Streams) -> [Node; RECORDS] {
     let after = pause(table, gap);
     let answer = after.answer;
     let paused = after.table;
-    show::refused(answer.refusal());
+    show::refused(answer.refusal(), streams);
     if let Pausing::Replaced(count) = answer {
         if 0 < count {
-            show_others(table, paused, NO_ADDRESS);
+            show_others(table, paused, NO_ADDRESS, streams);
         }
     }
     paused
 }
 
 // Everybody who has an address.
-pub fn show_nodes(table: [Node; RECORDS]) {
+pub fn show_nodes(table: [Node; RECORDS], streams: &mut Streams) {
     let mut address: u8 = 0;
     while address < 254 {
-        show_node(table, address);
+        show_node(table, address, streams);
         address += 1;
     }
 }
 
 // Everybody who has an address that another NAME had before, except at the address that is shown already.
-fn show_others(before: [Node; RECORDS], after: [Node; RECORDS], shown: u8) {
+fn show_others(before: [Node; RECORDS], after: [Node; RECORDS], shown: u8, streams: &mut Streams) {
     let mut address: u8 = 0;
     while address < 254 {
         if address != shown {
-            show_change(before[address as usize], after[address as usize], address);
+            show_change(
+                before[address as usize],
+                after[address as usize],
+                address,
+                streams,
+            );
         }
         address += 1;
     }
 }
 
 // Who has an address, if it is another NAME than before.
-fn show_change(before: Node, after: Node, address: u8) {
+fn show_change(before: Node, after: Node, address: u8, streams: &mut Streams) {
     if after.name != before.name {
         if after.present {
-            show::show_name(address, after.name);
+            show::show_name(address, after.name, streams);
         }
     }
 }
 
 // Who has an address, if anybody has.
-fn show_node(table: [Node; RECORDS], address: u8) {
+fn show_node(table: [Node; RECORDS], address: u8, streams: &mut Streams) {
     let answer = look_up(table, address);
-    show::refused(answer.refusal());
+    show::refused(answer.refusal(), streams);
     if let LookedUp::Present(name) = answer {
-        show::show_name(address, name);
+        show::show_name(address, name, streams);
     }
 }
 

@@ -1,5 +1,6 @@
 // The panel as a node of the network: its address, and the long messages that it joins.
 use crate::state::Panel;
+use crate::streams::Streams;
 use crate::{names, own_faults, replies, show, state};
 use rvc::claims::{Claim, Heard, Hearing, Standing, Starting};
 use rvc::messages::{Answer, Receiver};
@@ -12,34 +13,39 @@ const NAME: u64 = 0x8000_1234_5678_9ABC;
 const PRODUCT_IDENTIFICATION: u32 = 0xFEEB;
 
 // Claims the first of two addresses.
-pub fn start() -> Panel {
+pub fn start(streams: &mut Streams) -> Panel {
     let started = Claim::start(NAME, b"\x9C\x9D");
     let answer = started.answer;
     let bytes = started.bytes;
     let claim = started.claim;
     match answer {
         Starting::SendClaim => {
-            show::send(started.id, bytes);
-            show::show_standing(claim);
+            show::send(started.id, bytes, streams);
+            show::show_standing(claim, streams);
         }
-        Starting::ListMalformed => show::refused(answer.refusal()),
+        Starting::ListMalformed => show::refused(answer.refusal(), streams),
     }
-    let nodes = names::hear_claim(rvc::node_table::empty(), started.id, bytes);
-    state::new(claim, nodes, replies::start(), own_faults::start())
+    let nodes = names::hear_claim(rvc::node_table::empty(), started.id, bytes, streams);
+    state::new(
+        claim,
+        nodes,
+        replies::start(streams),
+        own_faults::start(streams),
+    )
 }
 
 // Time passes for the claim, for our faults, for the node table, for the open messages, and for what the panel shows.
 // For simplicity the whole pause is the claim's first: an address that is held at its end is held for all its steps.
-pub fn pause(panel: Panel, gap: u16) -> Panel {
-    let claim = pause_claim(panel.claim, gap);
-    let faults = own_faults::pause(panel.faults, claim, gap);
+pub fn pause(panel: Panel, gap: u16, streams: &mut Streams) -> Panel {
+    let claim = pause_claim(panel.claim, gap, streams);
+    let faults = own_faults::pause(panel.faults, claim, gap, streams);
     let nodes = panel.nodes;
-    let nodes = names::pause_nodes(nodes, gap);
-    let receiver = pause_receiver(panel.receiver, gap);
+    let nodes = names::pause_nodes(nodes, gap, streams);
+    let receiver = pause_receiver(panel.receiver, gap, streams);
     let tanks = panel.tanks;
     let chargers = panel.chargers;
-    let tanks = state::pause_tanks(tanks, gap);
-    let chargers = state::pause_chargers(chargers, gap);
+    let tanks = state::pause_tanks(tanks, gap, streams);
+    let chargers = state::pause_chargers(chargers, gap, streams);
     let mut panel = panel;
     panel.claim = claim;
     panel.faults = faults;
@@ -51,13 +57,13 @@ pub fn pause(panel: Panel, gap: u16) -> Panel {
 }
 
 // An address is held after 250 ms, and is then told.
-fn pause_claim(claim: Claim, gap: u16) -> Claim {
+fn pause_claim(claim: Claim, gap: u16, streams: &mut Streams) -> Claim {
     let paused = claim.pause(gap);
     let answer = paused.answer;
     let after = paused.claim;
-    show::refused(answer.refusal());
+    show::refused(answer.refusal(), streams);
     if is_held(claim) != is_held(after) {
-        show::show_standing(after);
+        show::show_standing(after, streams);
     }
     after
 }
@@ -74,41 +80,46 @@ fn is_held(claim: Claim) -> bool {
 }
 
 // A message whose sender pauses for too long is dropped without a word.
-fn pause_receiver(receiver: Receiver, gap: u16) -> Receiver {
+fn pause_receiver(receiver: Receiver, gap: u16, streams: &mut Streams) -> Receiver {
     let paused = receiver.pause(gap);
     let answer = paused.answer;
-    show::refused(answer.refusal());
+    show::refused(answer.refusal(), streams);
     paused.receiver
 }
 
 // A rival's claim at our address: a lower NAME wins it, and we go on to the next (3.3).
-pub fn contest(claim: Claim, id: u32, bytes: [u8; 8]) -> Heard {
+pub fn contest(claim: Claim, id: u32, bytes: [u8; 8], streams: &mut Streams) -> Heard {
     let heard = claim.hear(id, &bytes);
     let answer = heard.answer;
     let to_send = heard.bytes;
     let after = heard.claim;
     match answer {
         Hearing::NothingToDo => {}
-        Hearing::OwnName => show::say(b"own name heard\n"),
-        Hearing::SendClaimAgain => show::send(heard.id, to_send),
+        Hearing::OwnName => show::say(b"own name heard\n", streams),
+        Hearing::SendClaimAgain => show::send(heard.id, to_send, streams),
         Hearing::SendNextClaim | Hearing::SendCannotClaim => {
-            show::send(heard.id, to_send);
-            show::show_standing(after);
+            show::send(heard.id, to_send, streams);
+            show::show_standing(after, streams);
         }
         Hearing::BrokenState | Hearing::BadFrame(_) | Hearing::ListMalformed => show::refused(
             answer.refusal(),
+            streams,
         ),
     }
     heard
 }
 
 // The node table hears what we claim, as every other node does. A claim that we send again ends a challenge.
-pub fn hear_own_claim(nodes: [Node; RECORDS], contested: Heard) -> [Node; RECORDS] {
+pub fn hear_own_claim(
+    nodes: [Node; RECORDS],
+    contested: Heard,
+    streams: &mut Streams,
+) -> [Node; RECORDS] {
     let answer = contested.answer;
     let bytes = contested.bytes;
     match answer {
         Hearing::SendClaimAgain | Hearing::SendNextClaim | Hearing::SendCannotClaim =>
-            names::hear_claim(nodes, contested.id, bytes),
+            names::hear_claim(nodes, contested.id, bytes, streams),
         Hearing::NothingToDo
         | Hearing::OwnName
         | Hearing::BrokenState
@@ -118,10 +129,16 @@ pub fn hear_own_claim(nodes: [Node; RECORDS], contested: Heard) -> [Node; RECORD
 }
 
 // A frame of a long message; the storage is lent to the receiver.
-pub fn join(receiver: Receiver, id: u32, bytes: [u8; 8], storage: &mut [u8]) -> Receiver {
+pub fn join(
+    receiver: Receiver,
+    id: u32,
+    bytes: [u8; 8],
+    storage: &mut [u8],
+    streams: &mut Streams,
+) -> Receiver {
     let heard = receiver.hear(storage, id, &bytes);
     let answer = heard.answer;
-    show::refused(answer.refusal());
+    show::refused(answer.refusal(), streams);
     if let Answer::Finished {
         place: _,
         sender,
@@ -129,14 +146,19 @@ pub fn join(receiver: Receiver, id: u32, bytes: [u8; 8], storage: &mut [u8]) -> 
         length: _,
     } = answer
     {
-        finished(sender, dgn, rvc::messages::message(storage, answer));
+        finished(
+            sender,
+            dgn,
+            rvc::messages::message(storage, answer),
+            streams,
+        );
     }
     heard.receiver
 }
 
 // The panel shows product identifications, and no other long message.
-fn finished(sender: u8, dgn: u32, text: &[u8]) {
+fn finished(sender: u8, dgn: u32, text: &[u8], streams: &mut Streams) {
     if dgn == PRODUCT_IDENTIFICATION {
-        show::show_product(sender, text);
+        show::show_product(sender, text, streams);
     }
 }

@@ -1,6 +1,7 @@
 // The panel's own fault: one of the two tanks that are wired to it (replies.rt) gives no data. The panel broadcasts
 // this once a second as DM_RV (3.2.5), and answers it to a request.
 use crate::show;
+use crate::streams::Streams;
 use rvc::claims::Claim;
 use rvc::diagnostics::{DM_RV, Requested, Requesting, STEP, Sender, Stepping, names};
 use rvc::fields::Value;
@@ -29,11 +30,11 @@ pub struct Faults {
 }
 
 // A sender with one active fault.
-pub fn start() -> Faults {
+pub fn start(streams: &mut Streams) -> Faults {
     let started = Sender::start(no_fault());
-    let added = started.add(open_circuit(no_fault()), PERIOD);
+    let added = started.add(open_circuit(no_fault(), streams), PERIOD);
     let answer = added.answer;
-    show::refused(answer.refusal());
+    show::refused(answer.refusal(), streams);
     let sender = added.sender;
     Faults {
         sender,
@@ -47,32 +48,32 @@ fn no_fault() -> [u8; 8] {
 }
 
 // The fault takes the yellow lamp (3.2.5.3), its service point and its failure mode. The other fields stay.
-fn open_circuit(bytes: [u8; 8]) -> [u8; 8] {
-    let bytes = write(bytes, names::YELLOW_LAMP_STATUS, 1);
-    let bytes = write_service_point(bytes, SECOND_GRAY_TANK);
-    write(bytes, names::FAILURE_MODE, OPEN_CIRCUIT)
+fn open_circuit(bytes: [u8; 8], streams: &mut Streams) -> [u8; 8] {
+    let bytes = write(bytes, names::YELLOW_LAMP_STATUS, 1, streams);
+    let bytes = write_service_point(bytes, SECOND_GRAY_TANK, streams);
+    write(bytes, names::FAILURE_MODE, OPEN_CIRCUIT, streams)
 }
 
 // A row's field of our DM_RV.
-fn write(bytes: [u8; 8], row: usize, number: i64) -> [u8; 8] {
+fn write(bytes: [u8; 8], row: usize, number: i64, streams: &mut Streams) -> [u8; 8] {
     let mut bytes = bytes;
     let answer = rvc::diagnostics::write(row, DM_RV_ID, &mut bytes, Value::Scaled(number));
-    show::refused(answer.refusal());
+    show::refused(answer.refusal(), streams);
     bytes
 }
 
 // The service point of our DM_RV, which stands in three rows.
-fn write_service_point(bytes: [u8; 8], number: u32) -> [u8; 8] {
+fn write_service_point(bytes: [u8; 8], number: u32, streams: &mut Streams) -> [u8; 8] {
     let mut bytes = bytes;
     let answer = rvc::diagnostics::write_service_point(DM_RV_ID, &mut bytes, number);
-    show::refused(answer.refusal());
+    show::refused(answer.refusal(), streams);
     bytes
 }
 
 // Time passes for the sender, in steps of 50 ms. What is left of a pause is counted on in the next.
-pub fn pause(faults: Faults, claim: Claim, gap: u16) -> Faults {
+pub fn pause(faults: Faults, claim: Claim, gap: u16, streams: &mut Streams) -> Faults {
     let waited = faults.since_step as u32 + gap as u32;
-    let sender = take_steps(faults.sender, claim, waited / STEP as u32);
+    let sender = take_steps(faults.sender, claim, waited / STEP as u32, streams);
     Faults {
         sender,
         since_step: (waited % STEP as u32) as u16,
@@ -80,40 +81,40 @@ pub fn pause(faults: Faults, claim: Claim, gap: u16) -> Faults {
 }
 
 // Step after step: a pause has 1,311 at most.
-fn take_steps(sender: Sender, claim: Claim, steps: u32) -> Sender {
+fn take_steps(sender: Sender, claim: Claim, steps: u32, streams: &mut Streams) -> Sender {
     let mut sender = sender;
     let mut turns = steps;
     while turns > 0 {
-        sender = take_step(sender, claim);
+        sender = take_step(sender, claim, streams);
         turns -= 1;
     }
     sender
 }
 
 // A step: a fault that is due is sent. While we hold no address the step is refused, and nothing is said of it.
-fn take_step(sender: Sender, claim: Claim) -> Sender {
+fn take_step(sender: Sender, claim: Claim, streams: &mut Streams) -> Sender {
     let stepped = sender.step(claim);
     let answer = stepped.answer;
     let to_send = stepped.bytes;
     match answer {
-        Stepping::Send(_) => show::send(stepped.id, to_send),
+        Stepping::Send(_) => show::send(stepped.id, to_send, streams),
         Stepping::NothingDue | Stepping::NoAddressHeld => {}
-        Stepping::BrokenState | Stepping::ListMalformed => show::refused(answer.refusal()),
+        Stepping::BrokenState | Stepping::ListMalformed => show::refused(answer.refusal(), streams),
     }
     stepped.sender
 }
 
 // What the sender says to a request for DM_RV: the fault, as it is broadcast.
-pub fn answer_request(requested: Requested) {
+pub fn answer_request(requested: Requested, streams: &mut Streams) {
     let answer = requested.answer;
     let to_send = requested.bytes;
     match answer {
         Requesting::NothingToDo => {}
-        Requesting::Send => show::send(requested.id, to_send),
+        Requesting::Send => show::send(requested.id, to_send, streams),
         Requesting::BrokenState
         | Requesting::BadFrame(_)
         | Requesting::ListMalformed
         | Requesting::DgnTooLarge
-        | Requesting::NoAddressHeld => show::refused(answer.refusal()),
+        | Requesting::NoAddressHeld => show::refused(answer.refusal(), streams),
     }
 }

@@ -1,5 +1,6 @@
 // What the panel answers for two tanks whose senders are wired to the panel itself: requests for their status, and
 // commands.
+use crate::streams::Streams;
 use crate::{own_faults, show};
 use rvc::claims::{Claim, Standing};
 use rvc::commands::{
@@ -19,7 +20,7 @@ struct Wired {
 }
 
 // Hosts the second fresh water and the second gray waste tank (6.28.2), by the acknowledgment rules of 2023.
-pub fn start() -> Host {
+pub fn start(streams: &mut Streams) -> Host {
     let none = entry(0, 0, 0);
     let fresh = entry(TANK_CALIBRATION_COMMAND, TANK_STATUS, 16);
     let gray = entry(TANK_CALIBRATION_COMMAND, TANK_STATUS, 18);
@@ -28,7 +29,7 @@ pub fn start() -> Host {
     entries[1] = gray;
     let started = Host::start(entries, 2, Edition::Two);
     let answer = started.answer;
-    show::refused(answer.refusal());
+    show::refused(answer.refusal(), streams);
     started.host
 }
 
@@ -42,33 +43,47 @@ fn entry(command: u32, status: u32, instance: u8) -> Entry {
 }
 
 // A request for a DGN: one for DM_RV is the sender's, and any other the host's.
-pub fn answer_request(sender: Sender, host: Host, claim: Claim, id: u32, bytes: [u8; 8]) {
+pub fn answer_request(
+    sender: Sender,
+    host: Host,
+    claim: Claim,
+    id: u32,
+    bytes: [u8; 8],
+    streams: &mut Streams,
+) {
     let replied = sender.reply(host, claim, id, &bytes);
     let of_faults = replied.faults;
     let of_host = replied.host;
-    own_faults::answer_request(of_faults);
-    answer_by_host(claim, of_host);
+    own_faults::answer_request(of_faults, streams);
+    answer_by_host(claim, of_host, streams);
 }
 
 // What the host says: our claim, our statuses or a NAK.
-fn answer_by_host(claim: Claim, requested: Requested) {
+fn answer_by_host(claim: Claim, requested: Requested, streams: &mut Streams) {
     let answer = requested.answer;
     let to_send = requested.bytes;
     match answer {
         Requesting::NothingToDo | Requesting::Unsupported => {}
-        Requesting::SendClaim | Requesting::SendNak => show::send(requested.id, to_send),
-        Requesting::Supported => send_statuses(claim, requested.positions),
+        Requesting::SendClaim | Requesting::SendNak => show::send(requested.id, to_send, streams),
+        Requesting::Supported => send_statuses(claim, requested.positions, streams),
         Requesting::BrokenState
         | Requesting::BadFrame(_)
         | Requesting::ListMalformed
         | Requesting::DgnTooLarge
-        | Requesting::NoAddressHeld => show::refused(answer.refusal()),
+        | Requesting::NoAddressHeld => show::refused(answer.refusal(), streams),
     }
 }
 
 // A calibration of a wired tank: the panel cannot do it, and says so (6.28.3). No tank is marked zero-is-all, so that a
 // command is for one tank at most, the instance in byte 0.
-pub fn answer_command(host: Host, claim: Claim, source: u8, id: u32, bytes: [u8; 8]) {
+pub fn answer_command(
+    host: Host,
+    claim: Claim,
+    source: u8,
+    id: u32,
+    bytes: [u8; 8],
+    streams: &mut Streams,
+) {
     let routed = host.route(claim, id, &bytes);
     let answer = routed.answer;
     let positions = routed.positions;
@@ -76,18 +91,18 @@ pub fn answer_command(host: Host, claim: Claim, source: u8, id: u32, bytes: [u8;
         Routing::NothingToDo => {}
         Routing::Picked => {
             if 0 < positions.count {
-                send_nak(claim, source, bytes[0]);
+                send_nak(claim, source, bytes[0], streams);
             }
         }
         Routing::BrokenState
         | Routing::BadFrame(_)
         | Routing::ListMalformed
-        | Routing::NoAddressHeld => { show::refused(answer.refusal()) }
+        | Routing::NoAddressHeld => { show::refused(answer.refusal(), streams) }
     }
 }
 
 // Code 1 of Table 7.5: the command will not be executed.
-fn send_nak(claim: Claim, requester: u8, instance: u8) {
+fn send_nak(claim: Claim, requester: u8, instance: u8, streams: &mut Streams) {
     let reply = Acknowledgment {
         code: 1,
         instance,
@@ -97,39 +112,43 @@ fn send_nak(claim: Claim, requester: u8, instance: u8) {
     let formed = rvc::commands::acknowledge(claim, reply);
     let answer = formed.answer;
     let bytes = formed.bytes;
-    show::refused(answer.refusal());
+    show::refused(answer.refusal(), streams);
     if let Acknowledging::Send = answer {
-        show::send(formed.id, bytes);
+        show::send(formed.id, bytes, streams);
     }
 }
 
 // Statuses are sent from a held address only; without one the request is refused already.
-fn send_statuses(claim: Claim, positions: Positions) {
+fn send_statuses(claim: Claim, positions: Positions, streams: &mut Streams) {
     let standing = claim.stands();
     if let Standing::Held(address) = standing {
-        send_each(address, positions);
+        send_each(address, positions, streams);
     }
 }
 
 // One frame for each tank, and no long message (6.28.2).
-fn send_each(address: u8, positions: Positions) {
+fn send_each(address: u8, positions: Positions, streams: &mut Streams) {
     let at = positions.at;
     let count = positions.count;
     let mut i: usize = 0;
     while i < 16 {
         if i < count {
-            send_status(address, at[i]);
+            send_status(address, at[i], streams);
         }
         i += 1;
     }
 }
 
 // The status of a wired tank, with priority 6 (6.28.2).
-fn send_status(address: u8, position: u8) {
+fn send_status(address: u8, position: u8, streams: &mut Streams) {
     let formed = rvc::identifiers::form(6, TANK_STATUS, address);
     match formed {
-        Formed::Identifier(id) => show::send(id, status(id, sender_says(position))),
-        Formed::NoCode => show::refused(formed.refusal()),
+        Formed::Identifier(id) => show::send(
+            id,
+            status(id, sender_says(position), streams),
+            streams,
+        ),
+        Formed::NoCode => show::refused(formed.refusal(), streams),
     }
 }
 
@@ -148,22 +167,29 @@ fn sender_says(position: u8) -> Wired {
 }
 
 // A status begins as FFh, no data, and takes the fields that are known.
-fn status(id: u32, tank: Wired) -> [u8; 8] {
+fn status(id: u32, tank: Wired, streams: &mut Streams) -> [u8; 8] {
     let level = tank.level;
     let bytes = write(
         [0xFFu8; 8],
         tank_status::INSTANCE,
         id,
         Value::Scaled(tank.instance),
+        streams,
     );
-    let bytes = write(bytes, tank_status::RELATIVE_LEVEL, id, level);
-    write(bytes, tank_status::RESOLUTION, id, Value::Scaled(4))
+    let bytes = write(bytes, tank_status::RELATIVE_LEVEL, id, level, streams);
+    write(
+        bytes,
+        tank_status::RESOLUTION,
+        id,
+        Value::Scaled(4),
+        streams,
+    )
 }
 
 // A row's field of our status.
-fn write(bytes: [u8; 8], row: Row, id: u32, value: Value) -> [u8; 8] {
+fn write(bytes: [u8; 8], row: Row, id: u32, value: Value, streams: &mut Streams) -> [u8; 8] {
     let mut bytes = bytes;
     let answer = rvc::fields::write_row(row, id, &mut bytes, value);
-    show::refused(answer.refusal());
+    show::refused(answer.refusal(), streams);
     bytes
 }

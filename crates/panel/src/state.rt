@@ -1,6 +1,7 @@
 // What the panel keeps, and how the status of a tank, a charger or a slide changes it.
 use crate::own_faults::Faults;
 use crate::show;
+use crate::streams::Streams;
 use rvc::claims::Claim;
 use rvc::commands::Host;
 use rvc::fields::dgns::{CHARGER_STATUS, SLIDE_STATUS, TANK_STATUS};
@@ -103,11 +104,17 @@ pub fn new(claim: Claim, nodes: [Node; RECORDS], host: Host, faults: Faults) -> 
 }
 
 // A tank's status: it is kept for the tank that it names, and shown if it changes anything.
-pub fn hear_tank(tanks: [Tank; 4], dgn: u32, id: u32, bytes: [u8; 8]) -> [Tank; 4] {
+pub fn hear_tank(
+    tanks: [Tank; 4],
+    dgn: u32,
+    id: u32,
+    bytes: [u8; 8],
+    streams: &mut Streams,
+) -> [Tank; 4] {
     if dgn != TANK_STATUS {
         return tanks;
     }
-    let instance = instance_of(tank_status::INSTANCE, id, bytes);
+    let instance = instance_of(tank_status::INSTANCE, id, bytes, streams);
     if 3 < instance {
         return tanks;
     }
@@ -115,7 +122,7 @@ pub fn hear_tank(tanks: [Tank; 4], dgn: u32, id: u32, bytes: [u8; 8]) -> [Tank; 
     let old = tanks[position];
     let new = read_tank(id, bytes);
     if !same_tank(old, new) {
-        show::show_tank(instance, new);
+        show::show_tank(instance, new, streams);
     }
     let mut tanks = tanks;
     tanks[position] = new;
@@ -123,11 +130,17 @@ pub fn hear_tank(tanks: [Tank; 4], dgn: u32, id: u32, bytes: [u8; 8]) -> [Tank; 
 }
 
 // A charger's status, likewise; instance 0 is invalid (6.20.8).
-pub fn hear_charger(chargers: [Charger; 2], dgn: u32, id: u32, bytes: [u8; 8]) -> [Charger; 2] {
+pub fn hear_charger(
+    chargers: [Charger; 2],
+    dgn: u32,
+    id: u32,
+    bytes: [u8; 8],
+    streams: &mut Streams,
+) -> [Charger; 2] {
     if dgn != CHARGER_STATUS {
         return chargers;
     }
-    let instance = instance_of(charger_status::INSTANCE, id, bytes);
+    let instance = instance_of(charger_status::INSTANCE, id, bytes, streams);
     if instance == 0 {
         return chargers;
     }
@@ -138,7 +151,7 @@ pub fn hear_charger(chargers: [Charger; 2], dgn: u32, id: u32, bytes: [u8; 8]) -
     let old = chargers[position];
     let new = read_charger(id, bytes);
     if !same_charger(old, new) {
-        show::show_charger(instance, new);
+        show::show_charger(instance, new, streams);
     }
     let mut chargers = chargers;
     chargers[position] = new;
@@ -146,11 +159,17 @@ pub fn hear_charger(chargers: [Charger; 2], dgn: u32, id: u32, bytes: [u8; 8]) -
 }
 
 // A slide's status, likewise; rooms are counted from 1 (6.14.1).
-pub fn hear_slide(slides: [Slide; 4], dgn: u32, id: u32, bytes: [u8; 8]) -> [Slide; 4] {
+pub fn hear_slide(
+    slides: [Slide; 4],
+    dgn: u32,
+    id: u32,
+    bytes: [u8; 8],
+    streams: &mut Streams,
+) -> [Slide; 4] {
     if dgn != SLIDE_STATUS {
         return slides;
     }
-    let instance = instance_of(slide_status::INSTANCE, id, bytes);
+    let instance = instance_of(slide_status::INSTANCE, id, bytes, streams);
     if instance == 0 {
         return slides;
     }
@@ -161,7 +180,7 @@ pub fn hear_slide(slides: [Slide; 4], dgn: u32, id: u32, bytes: [u8; 8]) -> [Sli
     let old = slides[position];
     let new = read_slide(id, bytes);
     if !same_slide(old, new) {
-        show::show_slide(instance, new);
+        show::show_slide(instance, new, streams);
     }
     let mut slides = slides;
     slides[position] = new;
@@ -169,43 +188,43 @@ pub fn hear_slide(slides: [Slide; 4], dgn: u32, id: u32, bytes: [u8; 8]) -> [Sli
 }
 
 // Time passes for the tanks, and one that it makes stale is shown.
-pub fn pause_tanks(tanks: [Tank; 4], gap: u16) -> [Tank; 4] {
+pub fn pause_tanks(tanks: [Tank; 4], gap: u16, streams: &mut Streams) -> [Tank; 4] {
     [
-        pause_tank(0, tanks[0], gap),
-        pause_tank(1, tanks[1], gap),
-        pause_tank(2, tanks[2], gap),
-        pause_tank(3, tanks[3], gap),
+        pause_tank(0, tanks[0], gap, streams),
+        pause_tank(1, tanks[1], gap, streams),
+        pause_tank(2, tanks[2], gap, streams),
+        pause_tank(3, tanks[3], gap, streams),
     ]
 }
 
-fn pause_tank(instance: u64, tank: Tank, gap: u16) -> Tank {
+fn pause_tank(instance: u64, tank: Tank, gap: u16, streams: &mut Streams) -> Tank {
     if !tank.heard {
         return tank;
     }
     let mut paused = tank;
     paused.silence = waited(tank.silence, gap);
     if is_stale(tank.silence) != is_stale(paused.silence) {
-        show::show_tank(instance, paused);
+        show::show_tank(instance, paused, streams);
     }
     paused
 }
 
 // Time passes for the chargers, likewise.
-pub fn pause_chargers(chargers: [Charger; 2], gap: u16) -> [Charger; 2] {
+pub fn pause_chargers(chargers: [Charger; 2], gap: u16, streams: &mut Streams) -> [Charger; 2] {
     [
-        pause_charger(1, chargers[0], gap),
-        pause_charger(2, chargers[1], gap),
+        pause_charger(1, chargers[0], gap, streams),
+        pause_charger(2, chargers[1], gap, streams),
     ]
 }
 
-fn pause_charger(instance: u64, charger: Charger, gap: u16) -> Charger {
+fn pause_charger(instance: u64, charger: Charger, gap: u16, streams: &mut Streams) -> Charger {
     if !charger.heard {
         return charger;
     }
     let mut paused = charger;
     paused.silence = waited(charger.silence, gap);
     if is_stale(charger.silence) != is_stale(paused.silence) {
-        show::show_charger(instance, paused);
+        show::show_charger(instance, paused, streams);
     }
     paused
 }
@@ -249,9 +268,9 @@ fn read_slide(id: u32, bytes: [u8; 8]) -> Slide {
 }
 
 // The instance that a status names; FFh, which is none, where it cannot be read.
-fn instance_of(row: Row, id: u32, bytes: [u8; 8]) -> u64 {
+fn instance_of(row: Row, id: u32, bytes: [u8; 8], streams: &mut Streams) -> u64 {
     let reading = rvc::fields::read_row(row, id, &bytes);
-    show::refused(reading.refusal());
+    show::refused(reading.refusal(), streams);
     let Reading::Is(field) = reading else {
         return 0xFF;
     };

@@ -17,7 +17,7 @@ use Rattle.words.proofs.Words.{by_test, true_false}
 use Rattle.words.proofs.Lists.{found_at, found_nowhere, miss_at, Miss, end, on, distinct_head, distinct_tail, absent_head, absent_tail}
 use Rattle.capture.specs.Line.{greatest_gap}
 use Rattle.traffic.specs.Figures.{Seen, time_of, pair_in, pairs_in, is_refused, refused_in, frames_of, is_pair, waits_from, gaps_of}
-use Rattle.traffic.specs.Figures.{sum, least, greatest, once_each, most_pairs, named, is_other, other_in}
+use Rattle.traffic.specs.Figures.{least, once_each, most_pairs, named, is_other, other_in}
 use Rattle.traffic.specs.Counters.{table_size, row_at, PutRow, first_frame, least_with, next_frame, since_from}
 use Rattle.traffic.specs.Counters.{RowHolds, Holds, Held, frame_line, refused_one, other_one}
 use Rattle.traffic.specs.declared.counters.Row.{Row}

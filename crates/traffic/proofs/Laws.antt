@@ -1,10 +1,10 @@
 -- The laws of this program.
 -- Assumes nothing.
-use mathlib.Core.Path.{◌≡◌, refl, sym, ap, ◌∙◌}
+use mathlib.Core.Path.{◌≡◌, refl, sym, ap, subst, ◌∙◌}
 use mathlib.Core.Bool.{Bool, true, false}
 use mathlib.Core.List.{List, [], ◌∷◌, ◌++◌, map, append_assoc, append-nil}
 use mathlib.Core.Logic.{◌⊎◌, inl, inr}
-use Prim.Native.Nat.{ℕ, zero, suc, ◌+◌, ◌*◌, ◌≤◌, ◌<◌, min, max}
+use Prim.Native.Nat.{ℕ, zero, suc, ◌+◌, ◌*◌, ◌≤◌, ◌<◌, max}
 use native.Mathlib.Omega.{arith}
 use borrow.Author.Tests.{eq-eqb, le-leb, leb-true, leb-false}
 use lib.ListN.{length, take, drop, get_or, length-append, length-take, length-drop, length-map}
@@ -161,15 +161,19 @@ least_exactly g [] = (rw (eq-eqb g g refl), rw (le-leb g g (omega arith)))
 least_exactly g (m ∷ gaps) =
     let i = least_exactly m gaps in
     let l = least (m ∷ gaps) in
+    let least_of_all = least (g ∷ m ∷ gaps) in
+    let below_g : least_of_all ≤ g = omega arith in
+    let below_l : least_of_all ≤ l = omega arith in
+    let below : every (λ n. least_of_all ≤? n) (m ∷ gaps) ≡ true = below_all least_of_all l (m ∷ gaps) below_l i.1 in
     by_test (g ≤? l)
     (λ e.
     let h : g ≤ l = leb-true g l e in
-    let q : min g l ≡ g = omega arith in
-    rw q (rw (eq-eqb g g refl), rw (le-leb g g (omega arith)) (below_all g l (m ∷ gaps) h i.1)))
+    let q : least_of_all =? g ≡ true = eq-eqb least_of_all g (omega arith) in
+    (rw q, rw (le-leb least_of_all g below_g) below))
     (λ e.
     let h : l < g = leb-false g l e in
-    let q : min g l ≡ l = omega arith in
-    rw q (either (l =? g) i.0, rw (le-leb l g (omega arith)) i.1))
+    let q : least_of_all ≡ l = omega arith in
+    (subst (λ (x : ℕ). any (◌=?◌ x) (g ∷ m ∷ gaps) ≡ true) (sym q) (either (l =? g) i.0), rw (le-leb least_of_all g below_g) below))
 
 above_all : (a b : ℕ) (ns : List ℕ) → a ≤ b → every (λ n. n ≤? a) ns ≡ true → every (λ n. n ≤? b) ns ≡ true
 above_all a b [] h e = refl
@@ -184,15 +188,19 @@ greatest_exactly g [] =
 greatest_exactly g (m ∷ gaps) =
     let i = greatest_exactly m gaps in
     let l = greatest (m ∷ gaps) in
+    let greatest_of_all = greatest (g ∷ m ∷ gaps) in
+    let above_g : g ≤ greatest_of_all = omega arith in
+    let above_l : l ≤ greatest_of_all = omega arith in
+    let above : every (λ n. n ≤? greatest_of_all) (m ∷ gaps) ≡ true = above_all l greatest_of_all (m ∷ gaps) above_l i.1 in
     by_test (l ≤? g)
     (λ e.
     let h : l ≤ g = leb-true l g e in
-    let q : max g l ≡ g = omega arith in
-    rw q (rw (eq-eqb g g refl), rw (le-leb g g (omega arith)) (above_all l g (m ∷ gaps) h i.1)))
+    let q : greatest_of_all =? g ≡ true = eq-eqb greatest_of_all g (omega arith) in
+    (rw q, rw (le-leb g greatest_of_all above_g) above))
     (λ e.
     let h : g < l = leb-false l g e in
-    let q : max g l ≡ l = omega arith in
-    rw q (either (l =? g) i.0, rw (le-leb g l (omega arith)) i.1))
+    let q : greatest_of_all ≡ l = omega arith in
+    (subst (λ (x : ℕ). any (◌=?◌ x) (g ∷ m ∷ gaps) ≡ true) (sym q) (either (l =? g) i.0), rw (le-leb g greatest_of_all above_g) above))
 
 -- Named pairs.
 

@@ -17,7 +17,6 @@ use Rattle.capture.specs.Line.{line_read}
 use Rattle.capture.specs.Promises.{TakeApart, told_reading, frame_in}
 use Rattle.capture.specs.declared.Line.{Line}
 use Rattle.capture.specs.declared.Reading.{Reading}
-use Rattle.capture.specs.declared.Reading.TheVariants as Reading
 use Rattle.traffic.specs.Figures.{Seen, pair_of, seen_in}
 use Rattle.traffic.specs.Counters.{says_by, says_of}
 use Rattle.traffic.specs.declared.seen.Says.{Says}

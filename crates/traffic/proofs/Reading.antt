@@ -17,13 +17,12 @@ use Rattle.capture.specs.declared.Cutter.{Cutter}
 use Rattle.capture.specs.declared.Cut.{Cut}
 use Rattle.capture.specs.declared.Cutting.TheVariants as Cutting
 use Rattle.capture.specs.declared.Ending.{Ending}
-use Rattle.capture.specs.declared.Ending.TheVariants as Ending
 use Rattle.capture.proofs.Feeding.{next_advances, within_block, carried_fits}
 use Rattle.capture.proofs.Runs.{brought, used_lines, over_same, not_ended, ran_join}
 use Rattle.traffic.specs.Figures.{Seen, seen_in, seen_of}
 use Rattle.traffic.specs.Report.{refusal_text, refusals_text}
 use Rattle.traffic.specs.Counters.{table_size, Holds, Held, OneMore, Counted}
-use Rattle.traffic.specs.Reader.{say, close, Ready, Took, after, stayed, Went, Taken, Done, Turned, Runs, Closed, ClosedBehind, Finished, Starts}
+use Rattle.traffic.specs.Reader.{say, close, Ready, Took, stayed, Went, Taken, Done, Turned, Runs, Closed, ClosedBehind, Finished, Starts}
 use Rattle.traffic.specs.declared.counters.Totals.{Totals}
 use Rattle.traffic.specs.declared.reader.Step.{Step}
 use Rattle.traffic.specs.declared.reader.Reader.{Reader}

@@ -10,10 +10,12 @@ mod counters;
 mod reader;
 mod report;
 mod seen;
+mod streams;
 
 use counters::TABLE_SIZE;
-use libc::{STDIN_FILENO, STDOUT_FILENO};
 use reader::{Going, Reader};
+use std::io;
+use streams::Streams;
 
 // The reader after a block, and whether another is to be read.
 #[derive(Clone, Copy)]
@@ -22,14 +24,29 @@ struct Fed {
     more: bool,
 }
 
-fn main() {
-    let mut block = io::large_buffer();
+fn main(rt: HostRuntime) -> io::Result<()> {
+    let mut streams = Streams::new(&rt);
+    let mut block = block();
     let mut table = table();
     let mut out = output();
-    io::write_all(STDOUT_FILENO, b"format=1\n");
-    let reader = read_all(reader::new(), &mut block, &mut table, &mut out);
+    streams.write(b"format=1\n");
+    let reader = read_all(
+        reader::new(),
+        &mut streams,
+        &mut block,
+        &mut table,
+        &mut out,
+    );
     let written_to = reader::finish(reader, &mut table, &mut out);
-    io::write_all(STDOUT_FILENO, &out[..written_to]);
+    streams.write(&out[..written_to]);
+    streams.outcome()
+}
+
+// Room for a block of the input.
+fn block() -> [u8; 65536]
+    ensures { length result ≡ 65536 }
+{
+    [0; 65536]
 }
 
 // The counters of the pairs.
@@ -47,14 +64,20 @@ fn output() -> [u8; 131072]
 }
 
 // Block after block. Nothing says that an input ends, so the loop counts down from a number that no input uses up.
-fn read_all(reader: Reader, block: &mut [u8], table: &mut [u64], out: &mut [u8]) -> Reader
+fn read_all(
+    reader: Reader,
+    streams: &mut Streams,
+    block: &mut [u8],
+    table: &mut [u64],
+    out: &mut [u8],
+) -> Reader
     requires { (out_room ≤ length out.old) × Ready reader table.old }
     ensures { Ready result table.new }
 {
     let mut reader = reader;
     let mut turns = u64::MAX;
     while turns > 0 {
-        let fed = read_block(reader, block, table, out);
+        let fed = read_block(reader, streams, block, table, out);
         reader = fed.reader;
         if !fed.more {
             return reader;
@@ -65,23 +88,34 @@ fn read_all(reader: Reader, block: &mut [u8], table: &mut [u64], out: &mut [u8])
 }
 
 // Reads once; nothing read is the end.
-fn read_block(reader: Reader, block: &mut [u8], table: &mut [u64], out: &mut [u8]) -> Fed
+fn read_block(
+    reader: Reader,
+    streams: &mut Streams,
+    block: &mut [u8],
+    table: &mut [u64],
+    out: &mut [u8],
+) -> Fed
     requires { (out_room ≤ length out.old) × Ready reader table.old }
     ensures { Ready result.reader table.new }
 {
-    let got = libc::read(STDIN_FILENO, block);
-    let count = io::count(got, block);
+    let count = streams.read(block);
     if count == 0 {
         return Fed {
             reader,
             more: false,
         };
     }
-    feed(reader, &block[..count], table, out)
+    feed(reader, streams, &block[..count], table, out)
 }
 
 // Takes the lines of a block, and writes what they print.
-fn feed(reader: Reader, block: &[u8], table: &mut [u64], out: &mut [u8]) -> Fed
+fn feed(
+    reader: Reader,
+    streams: &mut Streams,
+    block: &[u8],
+    table: &mut [u64],
+    out: &mut [u8],
+) -> Fed
     requires { (out_room ≤ length out.old) × Ready reader table.old }
     ensures { BlockTaken block.now reader table.old result table.new }
 {
@@ -90,7 +124,7 @@ fn feed(reader: Reader, block: &[u8], table: &mut [u64], out: &mut [u8]) -> Fed
     loop {
         let run = reader::lines(reader, block, read_to, table, out);
         let written_to = run.written_to;
-        io::write_all(STDOUT_FILENO, &out[..written_to]);
+        streams.write(&out[..written_to]);
         reader = run.reader;
         let going = run.going;
         match going {

@@ -4,14 +4,16 @@
 
 mod show;
 mod state;
+mod streams;
 mod tile_line;
 mod values;
 
 ghost use Rattle.std.specs.Prelude.{◌≡◌, ◌<◌, length};
 
-use libc::STDIN_FILENO;
 use rvc::captures::{Cutter, Cutting, Ending, Reading};
 use state::Wall;
+use std::io;
+use streams::Streams;
 
 // The wall while it listens: the lines of its input so far, and whether more may come.
 #[derive(Clone, Copy)]
@@ -29,24 +31,33 @@ struct Turn {
 }
 
 // Hears the whole input, and shows the wall.
-fn main() {
-    let mut block = io::large_buffer();
+fn main(rt: HostRuntime) -> io::Result<()> {
+    let mut streams = Streams::new(&rt);
+    let mut block = block();
     let listener = Listener {
         cutter: Cutter::new(),
         wall: state::new(),
         more: true,
     };
-    let listener = listen(listener, &mut block);
-    let wall = last_line(listener);
-    show::show_wall(wall);
+    let listener = listen(listener, &mut block, &mut streams);
+    let wall = last_line(listener, &mut streams);
+    show::show_wall(wall, &mut streams);
+    streams.outcome()
+}
+
+// Room for a block of the input.
+fn block() -> [u8; 65536]
+    ensures { length result ≡ 65536 }
+{
+    [0; 65536]
 }
 
 // Block after block. Nothing says that an input ends, so the loop counts down from a number that no input uses up.
-fn listen(listener: Listener, block: &mut [u8]) -> Listener {
+fn listen(listener: Listener, block: &mut [u8], streams: &mut Streams) -> Listener {
     let mut listener = listener;
     let mut turns = u64::MAX;
     while turns > 0 {
-        listener = read_block(listener, block);
+        listener = read_block(listener, block, streams);
         if !listener.more {
             return listener;
         }
@@ -56,9 +67,8 @@ fn listen(listener: Listener, block: &mut [u8]) -> Listener {
 }
 
 // Reads once; nothing read is the end.
-fn read_block(listener: Listener, block: &mut [u8]) -> Listener {
-    let got = libc::read(STDIN_FILENO, block);
-    let count = io::count(got, block);
+fn read_block(listener: Listener, block: &mut [u8], streams: &mut Streams) -> Listener {
+    let count = streams.read(block);
     if count == 0 {
         let cutter = listener.cutter;
         let wall = listener.wall;
@@ -68,15 +78,15 @@ fn read_block(listener: Listener, block: &mut [u8]) -> Listener {
             more: false,
         };
     }
-    hear_block(listener, &block[..count])
+    hear_block(listener, &block[..count], streams)
 }
 
 // The lines of a block.
-fn hear_block(listener: Listener, block: &[u8]) -> Listener {
+fn hear_block(listener: Listener, block: &[u8], streams: &mut Streams) -> Listener {
     let mut listener = listener;
     let mut at: usize = 0;
     while at < block.len() {
-        let turn = next_line(listener, block, at);
+        let turn = next_line(listener, block, at, streams);
         listener = turn.listener;
         at = turn.next;
     }
@@ -84,7 +94,7 @@ fn hear_block(listener: Listener, block: &[u8]) -> Listener {
 }
 
 // The next line of a block, if it has one.
-fn next_line(listener: Listener, block: &[u8], at: usize) -> Turn
+fn next_line(listener: Listener, block: &[u8], at: usize, streams: &mut Streams) -> Turn
     requires { at < length block.now }
     ensures { at < result.next }
 {
@@ -95,16 +105,16 @@ fn next_line(listener: Listener, block: &[u8], at: usize) -> Turn
     let answer = cut.answer;
     match answer {
         Cutting::Within { from, to } => {
-            let wall = hear_line(wall, cutter.lines, &block[from..to]);
+            let wall = hear_line(wall, cutter.lines, &block[from..to], streams);
             turned(cutter, wall, true, cut.read_to)
         }
         Cutting::Carried(count) => {
             let carry = cutter.carry;
-            let wall = hear_line(wall, cutter.lines, &carry[..count]);
+            let wall = hear_line(wall, cutter.lines, &carry[..count], streams);
             turned(cutter, wall, true, cut.read_to)
         }
         Cutting::TooLong => {
-            malformed(cutter.lines);
+            malformed(cutter.lines, streams);
             turned(cutter, wall, true, cut.read_to)
         }
         Cutting::BlockUsed => turned(cutter, wall, true, block.len()),
@@ -123,7 +133,7 @@ fn turned(cutter: Cutter, wall: Wall, more: bool, next: usize) -> Turn
 }
 
 // The end of the input, which may end a line. The cutter has not counted that line.
-fn last_line(listener: Listener) -> Wall {
+fn last_line(listener: Listener, streams: &mut Streams) -> Wall {
     let cutter = listener.cutter;
     let wall = listener.wall;
     let number = std::num::wrapping_add_u32(cutter.lines, 1);
@@ -131,10 +141,10 @@ fn last_line(listener: Listener) -> Wall {
     match ending {
         Ending::Carried(count) => {
             let carry = cutter.carry;
-            hear_line(wall, number, &carry[..count])
+            hear_line(wall, number, &carry[..count], streams)
         }
         Ending::TooLong => {
-            malformed(number);
+            malformed(number, streams);
             wall
         }
         Ending::Nothing => wall,
@@ -142,33 +152,33 @@ fn last_line(listener: Listener) -> Wall {
 }
 
 // A malformed line, by its number; so is one that is too long.
-fn malformed(number: u32) {
+fn malformed(number: u32, streams: &mut Streams) {
     let answer = Reading::Malformed;
-    show::refused(number, answer.refusal());
+    show::refused(number, answer.refusal(), streams);
 }
 
 // A line of either kind, by its number.
-fn hear_line(wall: Wall, number: u32, text: &[u8]) -> Wall {
+fn hear_line(wall: Wall, number: u32, text: &[u8], streams: &mut Streams) -> Wall {
     if tile_line::begins(text) {
-        return name_tile(wall, number, text);
+        return name_tile(wall, number, text, streams);
     }
-    hear_frame(wall, number, text)
+    hear_frame(wall, number, text, streams)
 }
 
 // A line that names a tile.
-fn name_tile(wall: Wall, number: u32, text: &[u8]) -> Wall {
+fn name_tile(wall: Wall, number: u32, text: &[u8], streams: &mut Streams) -> Wall {
     let line = tile_line::take_apart(text);
     if !line.sound {
-        malformed(number);
+        malformed(number, streams);
         return wall;
     }
     let step = state::name(wall, line);
-    show::refused(number, step.refusal);
+    show::refused(number, step.refusal, streams);
     step.wall
 }
 
 // A line of a capture: the pause before its frame, then the frame. A malformed line passes no time.
-fn hear_frame(wall: Wall, number: u32, text: &[u8]) -> Wall {
+fn hear_frame(wall: Wall, number: u32, text: &[u8], streams: &mut Streams) -> Wall {
     let line = rvc::captures::take_apart(text);
     let answer = line.answer;
     let bytes = line.bytes;
@@ -176,11 +186,11 @@ fn hear_frame(wall: Wall, number: u32, text: &[u8]) -> Wall {
         Reading::Sound => {
             let wall = state::pause(wall, line.gap);
             let step = state::hear(wall, line.id, bytes);
-            show::refused(number, step.refusal);
+            show::refused(number, step.refusal, streams);
             step.wall
         }
         Reading::Malformed => {
-            malformed(number);
+            malformed(number, streams);
             wall
         }
     }

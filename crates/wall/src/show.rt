@@ -2,8 +2,8 @@
 ghost use Rattle.std.specs.Prelude.{◌<◌, ◌≤◌};
 
 use crate::state::{Label, Wall};
+use crate::streams::Streams;
 use crate::{state, values};
-use libc::STDOUT_FILENO;
 use rvc::texts;
 use tiles::{Asking, Panel, Reading, TILES};
 
@@ -21,80 +21,83 @@ enum Part {
 }
 
 // The number of a refusal, with that of its line; 0 is none, and says nothing.
-pub fn refused(line: u32, number: u8) {
+pub fn refused(line: u32, number: u8, streams: &mut Streams) {
     if number == 0 {
         return;
     }
-    say(b"line=");
-    decimal(line as u64);
-    say(b" refusal=");
-    decimal(number as u64);
-    say(b"\n");
+    say(b"line=", streams);
+    decimal(line as u64, streams);
+    say(b" refusal=", streams);
+    decimal(number as u64, streams);
+    say(b"\n", streams);
 }
 
 // The wall: its rows of boxes, with a border above the first and below each.
-pub fn show_wall(wall: Wall) {
+pub fn show_wall(wall: Wall, streams: &mut Streams) {
     let panel = wall.panel;
     if !has_named(panel, 0, TILES) {
-        say(b"no tile is named\n");
+        say(b"no tile is named\n", streams);
         return;
     }
-    show_border();
+    show_border(streams);
     let mut first: usize = 0;
     while first < TILES {
-        show_row(wall, first);
+        show_row(wall, first, streams);
         first += COLUMNS;
     }
 }
 
 // A row of boxes; nothing where none of its tiles is named.
-fn show_row(wall: Wall, first: usize)
+fn show_row(wall: Wall, first: usize, streams: &mut Streams)
     requires { first ≤ 28 }
 {
     let panel = wall.panel;
     if !has_named(panel, first, first + COLUMNS) {
         return;
     }
-    show_line(wall, first, Part::Title);
-    show_line(wall, first, Part::Value);
-    show_line(wall, first, Part::Note);
-    show_border();
+    show_line(wall, first, Part::Title, streams);
+    show_line(wall, first, Part::Value, streams);
+    show_line(wall, first, Part::Note, streams);
+    show_border(streams);
 }
 
 // A line of the boxes of a row.
-fn show_line(wall: Wall, first: usize, part: Part)
+fn show_line(wall: Wall, first: usize, part: Part, streams: &mut Streams)
     requires { first ≤ 28 }
 {
     let mut column: usize = 0;
     while column < COLUMNS {
-        say(b"|");
-        show_part(wall, first + column, part);
+        say(b"|", streams);
+        show_part(wall, first + column, part, streams);
         column += 1;
     }
-    say(b"|\n");
+    say(b"|\n", streams);
 }
 
 // The line above and below boxes.
-fn show_border() {
-    say(b"+------------------+------------------+------------------+------------------+\n");
+fn show_border(streams: &mut Streams) {
+    say(
+        b"+------------------+------------------+------------------+------------------+\n",
+        streams,
+    );
 }
 
 // A line of a box; spaces where the tile names no row.
-fn show_part(wall: Wall, tile: usize, part: Part)
+fn show_part(wall: Wall, tile: usize, part: Part, streams: &mut Streams)
     requires { tile < 32 }
 {
     let panel = wall.panel;
     let labels = wall.labels;
     let reading = reading_of(panel, tile);
     if is_blank(reading) {
-        spaces(WIDTH);
+        spaces(WIDTH, streams);
         return;
     }
     let label = labels[tile];
     match part {
-        Part::Title => show_title(tile, label),
-        Part::Value => show_value(reading),
-        Part::Note => show_note(label),
+        Part::Title => show_title(tile, label, streams),
+        Part::Value => show_value(reading, streams),
+        Part::Note => show_note(label, streams),
     }
 }
 
@@ -129,74 +132,74 @@ fn is_blank(reading: Reading) -> bool {
 }
 
 // The number in two places, and the name.
-fn show_title(tile: usize, label: Label) {
+fn show_title(tile: usize, label: Label, streams: &mut Streams) {
     let name = label.name;
-    say(b" ");
+    say(b" ", streams);
     if tile < 10 {
-        say(b" ");
+        say(b" ", streams);
     }
-    decimal(tile as u64);
-    say(b" ");
-    say(&name);
+    decimal(tile as u64, streams);
+    say(b" ", streams);
+    say(&name, streams);
 }
 
 // What a tile shows, with its unit. The sign of a degree is two bytes and one character.
-fn show_value(reading: Reading) {
+fn show_value(reading: Reading, streams: &mut Streams) {
     match reading {
-        Reading::Blank => spaces(WIDTH),
-        Reading::NoData => show_word(b"no data"),
-        Reading::OutOfRange => show_word(b"out of range"),
-        Reading::Reserved => show_word(b"reserved"),
-        Reading::Degrees(number) => show_float(number, b" \xC2\xB0C", 3),
-        Reading::Percent(number) => show_float(number, b" %", 2),
-        Reading::Hertz(number) => show_float(number, b" Hz", 3),
-        Reading::Volts(number) => show_twentieths(number, b" V"),
-        Reading::Amperes(number) => show_twentieths(number, b" A"),
+        Reading::Blank => spaces(WIDTH, streams),
+        Reading::NoData => show_word(b"no data", streams),
+        Reading::OutOfRange => show_word(b"out of range", streams),
+        Reading::Reserved => show_word(b"reserved", streams),
+        Reading::Degrees(number) => show_float(number, b" \xC2\xB0C", 3, streams),
+        Reading::Percent(number) => show_float(number, b" %", 2, streams),
+        Reading::Hertz(number) => show_float(number, b" Hz", 3, streams),
+        Reading::Volts(number) => show_twentieths(number, b" V", streams),
+        Reading::Amperes(number) => show_twentieths(number, b" A", streams),
     }
 }
 
 // Whether the value can be trusted: it never came, or came too long ago, or nothing is to be said.
-fn show_note(label: Label) {
+fn show_note(label: Label, streams: &mut Streams) {
     if !label.heard {
-        show_word(b"never heard");
+        show_word(b"never heard", streams);
         return;
     }
     if state::is_stale(label) {
-        show_word(b"stale");
+        show_word(b"stale", streams);
         return;
     }
-    spaces(WIDTH);
+    spaces(WIDTH, streams);
 }
 
 // A number with its unit, which is so many characters wide.
-fn show_float(number: f32, unit: &[u8], width: usize)
+fn show_float(number: f32, unit: &[u8], width: usize, streams: &mut Streams)
     requires { width ≤ 3 }
 {
     let mut text = [0u8; WIDTH];
     let end = values::put_float(&mut text, number);
-    show_centred(&text[..end], unit, end + width);
+    show_centred(&text[..end], unit, end + width, streams);
 }
 
 // A number of twentieths with its unit, which is two characters wide.
-fn show_twentieths(number: i64, unit: &[u8]) {
+fn show_twentieths(number: i64, unit: &[u8], streams: &mut Streams) {
     let mut text = [0u8; WIDTH];
     let end = values::put_twentieths(&mut text, number);
-    show_centred(&text[..end], unit, end + 2);
+    show_centred(&text[..end], unit, end + 2, streams);
 }
 
 // A text without a unit.
-fn show_word(word: &[u8]) {
-    show_centred(word, b"", word.len());
+fn show_word(word: &[u8], streams: &mut Streams) {
+    show_centred(word, b"", word.len(), streams);
 }
 
 // A text and its unit, together so many characters wide, in the middle of a line of a box.
-fn show_centred(text: &[u8], unit: &[u8], width: usize) {
+fn show_centred(text: &[u8], unit: &[u8], width: usize, streams: &mut Streams) {
     let margin = room(width);
     let left = margin / 2;
-    spaces(left);
-    say(text);
-    say(unit);
-    spaces(margin - left);
+    spaces(left, streams);
+    say(text, streams);
+    say(unit, streams);
+    spaces(margin - left, streams);
 }
 
 // The characters that a text leaves of a line.
@@ -210,21 +213,21 @@ fn room(width: usize) -> usize
 }
 
 // So many spaces.
-fn spaces(count: usize)
+fn spaces(count: usize, streams: &mut Streams)
     requires { count ≤ 18 }
 {
     let blank = [b' '; WIDTH];
-    say(&blank[..count]);
+    say(&blank[..count], streams);
 }
 
 // A whole number.
-fn decimal(number: u64) {
+fn decimal(number: u64, streams: &mut Streams) {
     let mut digits = [0u8; 20];
     let end = texts::put_decimal(&mut digits, 0, b"", number);
-    say(&digits[..end]);
+    say(&digits[..end], streams);
 }
 
-// Every text goes out here. A write that fails is not reported.
-fn say(text: &[u8]) {
-    io::write_all(STDOUT_FILENO, text);
+// Every text goes out here.
+fn say(text: &[u8], streams: &mut Streams) {
+    streams.write(text);
 }

@@ -1,11 +1,8 @@
 -- What the loop of `busread::feed` keeps, and why it ends.
-use mathlib.Core.Path.{◌≡◌, refl, sym, ◌∙◌}
+use mathlib.Core.Path.{◌≡◌}
 use Prim.Native.Nat.{◌-◌}
 use lib.ListN.{length}
-use lib.Seq.{length-take-le}
 use Rattle.busread.specs.Reader.{Ready}
-use borrow.Author.Rules.{rules}
-use native.Mathlib.Omega.{arith}
 use Rattle.busread.proofs.feed.Given as goal
 
 abbrev pub invariant-loop-read_to : goal.invariant-loop-read_to

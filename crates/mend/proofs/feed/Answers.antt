@@ -1,13 +1,9 @@
 -- `mend::feed` meets its contract. Assumes nothing.
-use mathlib.Core.Path.{◌≡◌, refl, sym, ◌∙◌}
-use mathlib.Core.List.{List, [], ◌++◌}
-use Prim.Native.Nat.{◌-◌}
+use mathlib.Core.Path.{refl, sym}
+use mathlib.Core.List.{[], ◌++◌}
 use native.Mathlib.Omega.{arith}
-use borrow.Author.Rules.{rules}
-use lib.ListN.{length}
 use lib.Seq.{length-take-le}
-use Rattle.capture.specs.Stream.{Piece}
-use Rattle.capture.specs.Runs.{goes_on, Ran, begun}
+use Rattle.capture.specs.Runs.{begun}
 use Rattle.capture.proofs.Runs.{ran_join}
 use Rattle.mend.proofs.feed.Goals as goal
 
@@ -20,7 +16,7 @@ lines-run-requires c = omega arith
 pub slice_bounds-write-end-in-loop-well : goal.slice_bounds-write-end-in-loop-well
 slice_bounds-write-end-in-loop-well c =
     let l = c.lines-run in
-    sym (length-take-le l.result.written_to l.new.1.1.1.1.0 l.ensures.fits)
+    sym (length-take-le l.result.written_to l.new.out l.ensures.fits)
 
 pub loop-well-smaller : goal.loop-well-smaller
 loop-well-smaller c =
@@ -29,24 +25,21 @@ loop-well-smaller c =
 
 pub loop-well-preserved : goal.loop-well-preserved
 loop-well-preserved c =
-    let t = c in
-    let i = t.loop-well.invariant in
-    let d = t.lines-run.ensures.done in
+    let i = c.loop-well.invariant in
+    let d = c.lines-run.ensures.done in
     let ran = rw c.in-On.is at d.ran in
-    (t.lines-run.auto.1.1.1.1.0 ∙ i.0, i.1 ++ d.pieces, ran_join i.2 ran)
+    (omega arith, i.1 ++ d.pieces, ran_join i.2 ran)
 
 pub returns-in-Used : goal.returns-in-Used
 returns-in-Used c =
-    let t = c in
-    let i = t.loop-well.invariant in
-    let d = t.lines-run.ensures.done in
+    let i = c.loop-well.invariant in
+    let d = c.lines-run.ensures.done in
     let ran = rw c.in-Used.is at d.ran in
-    record { read_to = t.lines-run.result.read_to; pieces = i.1 ++ d.pieces; ran = ran_join i.2 ran }
+    record { read_to = c.lines-run.result.read_to; pieces = i.1 ++ d.pieces; ran = ran_join i.2 ran }
 
 pub returns-in-Over : goal.returns-in-Over
 returns-in-Over c =
-    let t = c in
-    let i = t.loop-well.invariant in
-    let d = t.lines-run.ensures.done in
+    let i = c.loop-well.invariant in
+    let d = c.lines-run.ensures.done in
     let ran = rw c.in-Over.is at d.ran in
-    record { read_to = t.lines-run.result.read_to; pieces = i.1 ++ d.pieces; ran = ran_join i.2 ran }
+    record { read_to = c.lines-run.result.read_to; pieces = i.1 ++ d.pieces; ran = ran_join i.2 ran }

@@ -1,14 +1,10 @@
 -- What the loop of `mend::feed` keeps, and why it ends.
-use mathlib.Core.Path.{◌≡◌, refl, sym, ◌∙◌}
-use mathlib.Core.List.{List, [], ◌++◌}
+use mathlib.Core.Path.{◌≡◌}
+use mathlib.Core.List.{List}
 use Prim.Native.Nat.{◌-◌}
-use native.Mathlib.Omega.{arith}
-use borrow.Author.Rules.{rules}
 use lib.ListN.{length}
-use lib.Seq.{length-take-le}
 use Rattle.capture.specs.Stream.{Piece}
-use Rattle.capture.specs.Runs.{goes_on, Ran, begun}
-use Rattle.capture.proofs.Runs.{ran_join}
+use Rattle.capture.specs.Runs.{goes_on, Ran}
 use Rattle.mend.proofs.feed.Given as goal
 
 abbrev pub invariant-loop-well : goal.invariant-loop-well

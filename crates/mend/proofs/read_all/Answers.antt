@@ -1,8 +1,7 @@
 -- `mend::read_all` meets its contract. Assumes nothing.
-use mathlib.Core.Path.{◌≡◌, refl}
+use mathlib.Core.Path.{refl}
 use borrow.Author.Rules.{rules}
 use native.Mathlib.Omega.{arith}
-use lib.ListN.{length}
 use Rattle.mend.proofs.read_all.Goals as goal
 
 pub loop-turns-init : goal.loop-turns-init

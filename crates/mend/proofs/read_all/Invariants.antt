@@ -1,7 +1,5 @@
 -- What the loop of `mend::read_all` keeps, and why it ends.
-use mathlib.Core.Path.{◌≡◌, refl}
-use borrow.Author.Rules.{rules}
-use native.Mathlib.Omega.{arith}
+use mathlib.Core.Path.{◌≡◌}
 use lib.ListN.{length}
 use Rattle.mend.proofs.read_all.Given as goal
 

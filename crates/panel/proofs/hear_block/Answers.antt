@@ -1,9 +1,5 @@
 -- `panel::hear_block` is safe and ends. Assumes nothing.
-use mathlib.Core.Path.{◌≡◌}
-use Prim.Native.Nat.{◌-◌}
 use native.Mathlib.Omega.{arith}
-use borrow.Author.Rules.{rules}
-use lib.ListN.{length}
 use Rattle.panel.proofs.hear_block.Goals as goal
 
 pub loop-at-smaller : goal.loop-at-smaller

@@ -1,8 +1,6 @@
 -- What the loop of `panel::hear_block` keeps, and why it ends.
 use mathlib.Core.Path.{◌≡◌}
 use Prim.Native.Nat.{◌-◌}
-use native.Mathlib.Omega.{arith}
-use borrow.Author.Rules.{rules}
 use lib.ListN.{length}
 use Rattle.panel.proofs.hear_block.Given as goal
 

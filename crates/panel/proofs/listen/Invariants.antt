@@ -1,6 +1,5 @@
 -- What the loop of `panel::listen` keeps, and why it ends.
 use mathlib.Core.Path.{◌≡◌}
-use borrow.Author.Rules.{rules}
 use lib.ListN.{length}
 use Rattle.panel.proofs.listen.Given as goal
 

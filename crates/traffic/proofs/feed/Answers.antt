@@ -1,12 +1,7 @@
 -- `traffic::feed` meets its contract. Assumes nothing.
-use mathlib.Core.Path.{◌≡◌, refl, sym, ◌∙◌}
-use Prim.Native.Nat.{◌-◌}
-use lib.ListN.{length}
+use mathlib.Core.Path.{refl, sym}
 use lib.Seq.{length-take-le}
-use Rattle.capture.specs.Runs.{goes_on}
-use Rattle.traffic.specs.Reader.{Ready, Taken}
 use Rattle.traffic.proofs.Reading.{nothing_taken, taken_join}
-use borrow.Author.Rules.{rules}
 use native.Mathlib.Omega.{arith}
 use Rattle.traffic.proofs.feed.Goals as goal
 
@@ -16,8 +11,8 @@ loop-read_to-init c = (refl, refl, c.requires.1, nothing_taken)
 pub lines-run-requires : goal.lines-run-requires
 lines-run-requires c = (omega arith, c.loop-read_to.invariant.2)
 
-pub slice_bounds-write_all-end-in-loop-read_to : goal.slice_bounds-write_all-end-in-loop-read_to
-slice_bounds-write_all-end-in-loop-read_to c = let l = c.lines-run in sym (length-take-le l.result.written_to l.new.1.1.1.1.0 l.ensures.fits)
+pub slice_bounds-write-end-in-loop-read_to : goal.slice_bounds-write-end-in-loop-read_to
+slice_bounds-write-end-in-loop-read_to c = let l = c.lines-run in sym (length-take-le l.result.written_to l.new.out l.ensures.fits)
 
 pub loop-read_to-smaller : goal.loop-read_to-smaller
 loop-read_to-smaller c = let h = c.lines-run.ensures.advances c.in-On.is in omega arith
@@ -27,7 +22,7 @@ loop-read_to-preserved c =
     let i = c.loop-read_to.invariant in
     let l = c.lines-run in
     let d = rw c.in-On.is at l.ensures.done.taken in
-    (l.auto.1.1.1.1.0 ∙ i.0, l.auto.1.1.1.0 ∙ i.1, l.ensures.ready, taken_join i.3 d)
+    (omega arith, omega arith, l.ensures.ready, taken_join i.3 d)
 
 pub returns-in-Used : goal.returns-in-Used
 returns-in-Used c =

@@ -1,13 +1,9 @@
 -- What the loop of `traffic::feed` keeps, and why it ends.
-use mathlib.Core.Path.{◌≡◌, refl, sym, ◌∙◌}
+use mathlib.Core.Path.{◌≡◌}
 use Prim.Native.Nat.{◌-◌}
 use lib.ListN.{length}
-use lib.Seq.{length-take-le}
 use Rattle.capture.specs.Runs.{goes_on}
 use Rattle.traffic.specs.Reader.{Ready, Taken}
-use Rattle.traffic.proofs.Reading.{nothing_taken, taken_join}
-use borrow.Author.Rules.{rules}
-use native.Mathlib.Omega.{arith}
 use Rattle.traffic.proofs.feed.Given as goal
 
 abbrev pub invariant-loop-read_to : goal.invariant-loop-read_to

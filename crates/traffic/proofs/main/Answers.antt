@@ -1,6 +1,4 @@
 -- `traffic::main` meets its contract. Assumes nothing.
-use mathlib.Core.Path.{sym}
-use lib.Seq.{length-take-le}
 use borrow.Author.Rules.{rules}
 use Rattle.traffic.proofs.Reading.{ready_at_start}
 use Rattle.traffic.proofs.main.Goals as goal

@@ -1,7 +1,5 @@
 -- `traffic::read_all` meets its contract. Assumes nothing.
-use mathlib.Core.Path.{◌≡◌, refl}
-use lib.ListN.{length}
-use Rattle.traffic.specs.Reader.{Ready}
+use mathlib.Core.Path.{refl}
 use borrow.Author.Rules.{rules}
 use native.Mathlib.Omega.{arith}
 use Rattle.traffic.proofs.read_all.Goals as goal

@@ -1,5 +1,5 @@
 -- `wall::hear_block` is safe and ends. Assumes nothing.
-use Rattle.std.proofs.Common.{◌-◌, ◌≤◌, length, arith, rules}
+use Rattle.std.proofs.Common.{arith}
 use Rattle.wall.proofs.hear_block.Goals as goal
 
 pub loop-at-smaller : goal.loop-at-smaller

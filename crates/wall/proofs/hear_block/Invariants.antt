@@ -1,5 +1,5 @@
 -- What the loop of `wall::hear_block` keeps, and why it ends.
-use Rattle.std.proofs.Common.{◌-◌, ◌≤◌, length, arith, rules}
+use Rattle.std.proofs.Common.{◌-◌, ◌≤◌, length}
 use Rattle.wall.proofs.hear_block.Given as goal
 
 abbrev pub invariant-loop-at : goal.invariant-loop-at

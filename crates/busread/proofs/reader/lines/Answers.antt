@@ -1,12 +1,8 @@
 -- `busread::reader::lines` meets its contract. Assumes nothing.
-use mathlib.Core.Path.{◌≡◌, refl, ◌∙◌}
-use mathlib.Core.Logic.{◌⊎◌, inl, inr, ⊎_elim}
-use Prim.Native.Nat.{◌≤◌, ◌<◌, ◌-◌}
-use lib.ListN.{length, take}
-use Rattle.busread.specs.Reader.{kept_by, Ready, Ran, begun}
-use Rattle.busread.specs.declared.reader.Going.TheVariants.{On}
+use mathlib.Core.Path.{refl}
+use mathlib.Core.Logic.{inl, inr, ⊎_elim}
+use Rattle.busread.specs.Reader.{kept_by, begun}
 use Rattle.busread.proofs.Reading.{stopped, used_not_on, over_not_on}
-use borrow.Author.Rules.{rules}
 use native.Mathlib.Omega.{arith}
 use Rattle.busread.proofs.reader.lines.Goals as goal
 
@@ -26,7 +22,7 @@ loop-written_to-preserved c =
     let t = c.turn-turned in
     let e = c.in-On.is in
     let h = t.ensures.advances e in
-    (rw e at (t.ensures.runs a.from a.reader.cutter (kept_by a.reader a.storage.now) l.invariant.0), t.ensures.ready, t.ensures.fits, t.auto.1.1.1.1.0 ∙ l.invariant.3, t.auto.1.1.1.0 ∙ l.invariant.4, omega arith, inr (omega arith, h.1))
+    (rw e at (t.ensures.runs a.from a.reader.cutter (kept_by a.reader a.storage.now) l.invariant.0), t.ensures.ready, t.ensures.fits, omega arith, omega arith, omega arith, inr (omega arith, h.1))
 
 pub returns-in-Used : goal.returns-in-Used
 returns-in-Used c = stopped c.loop-written_to.invariant.0 c.turn-turned.ensures (used_not_on c.in-Used.is)

@@ -1,5 +1,4 @@
 -- `busread::reader::long_line` meets its contract. Assumes nothing.
-use borrow.Author.Rules.{rules}
 use Rattle.busread.proofs.reader.long_line.Goals as goal
 
 pub returns : goal.returns

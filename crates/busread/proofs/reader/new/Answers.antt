@@ -1,7 +1,6 @@
 -- `busread::reader::new` meets its contract. Assumes nothing.
 use mathlib.Core.Path.{ap}
 use native.Mathlib.Omega.{arith}
-use borrow.Author.Rules.{rules}
 use Rattle.capture.specs.declared.Cutter.{Cutter}
 use Rattle.busread.proofs.reader.new.Goals as goal
 

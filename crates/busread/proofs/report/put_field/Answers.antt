@@ -3,7 +3,6 @@ use Rattle.busread.specs.Report.{field_text}
 use Rattle.text.specs.Text.{text}
 use Rattle.text.proofs.Pieces.{fits_wrote, behind}
 use native.Mathlib.Omega.{arith}
-use borrow.Author.Rules.{rules}
 use Rattle.busread.proofs.report.put_field.Goals as goal
 
 pub put_place-place_end-requires : goal.put_place-place_end-requires
@@ -13,22 +12,17 @@ put_place-place_end-requires c =
 
 pub put_value-value_end-requires : goal.put_value-value_end-requires
 put_value-value_end-requires c =
-    let q = c in
-    let w = fits_wrote q.put-head_end.ensures (omega arith) in
-    let p = q.put_place-place_end.ensures in
+    let w = fits_wrote c.put-head_end.ensures (omega arith) in
+    let p = c.put_place-place_end.ensures in
     omega (arith, w.next, w.room, p.1, p.0.room)
 
 pub returns : goal.returns
 unfolding field_text
 returns c =
-    let q₄ = c in
-    let q₃ = q₄ in
-    let q₂ = q₃ in
-    let q₁ = q₂ in
-    let h = q₁.requires in
-    let w₁ = fits_wrote q₁.put-head_end.ensures (omega (arith, h.0, h.1)) in
-    let w₂ = q₂.put_place-place_end.ensures in
-    let w₃ = q₃.put_value-value_end.ensures in
-    let w₄ = fits_wrote {word = text "\n"} q₄.put.ensures
+    let h = c.requires in
+    let w₁ = fits_wrote c.put-head_end.ensures (omega (arith, h.0, h.1)) in
+    let w₂ = c.put_place-place_end.ensures in
+    let w₃ = c.put_value-value_end.ensures in
+    let w₄ = fits_wrote {word = text "\n"} c.put.ensures
     (omega (arith, w₁.next, w₁.room, w₂.1, w₂.0.room, w₃.1, w₃.0.room)) in
     (behind (behind (behind w₁ w₂.0) w₃.0) w₄, omega (arith, w₁.next, w₂.1, w₃.1, w₄.next))

@@ -3,7 +3,6 @@ use Rattle.text.specs.Text.{text}
 use Rattle.text.proofs.Pieces.{wrote_decimal}
 use Rattle.busread.specs.Report.{class_name, value_text}
 use native.Mathlib.Omega.{arith}
-use borrow.Author.Rules.{rules}
 use Rattle.busread.proofs.report.put_value.Goals as goal
 
 pub returns-in-Number : goal.returns-in-Number

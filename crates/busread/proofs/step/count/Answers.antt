@@ -1,6 +1,5 @@
 -- `busread::step::count` meets its contract. Assumes nothing.
 use native.Mathlib.Omega.{arith}
-use borrow.Author.Rules.{rules}
 use Rattle.busread.proofs.step.count.Goals as goal
 
 pub returns-in-Refused : goal.returns-in-Refused

@@ -3,7 +3,6 @@ use mathlib.Core.Path.{◌∙◌, ap}
 use Rattle.capture.specs.Promises.{frame_in}
 use Rattle.busread.specs.Report.{counted}
 use Rattle.busread.proofs.Printing.{took}
-use borrow.Author.Rules.{rules}
 use Rattle.busread.proofs.step.hear.Goals as goal
 
 pub returns : goal.returns

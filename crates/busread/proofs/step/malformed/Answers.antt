@@ -1,7 +1,6 @@
 -- `busread::step::malformed` meets its contract. Assumes nothing.
 use Rattle.busread.proofs.Printing.{passed}
 use native.Mathlib.Omega.{arith}
-use borrow.Author.Rules.{rules}
 use Rattle.busread.proofs.step.malformed.Goals as goal
 
 pub returns : goal.returns

@@ -1,5 +1,4 @@
 -- `busread::step::print_of` meets its contract. Assumes nothing.
-use borrow.Author.Rules.{rules}
 use Rattle.busread.proofs.step.print_of.Goals as goal
 
 pub returns-in-StorageTooShort : goal.returns-in-StorageTooShort

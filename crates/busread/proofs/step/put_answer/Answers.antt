@@ -5,7 +5,6 @@ use Rattle.capture.specs.Promises.{frame_in}
 use Rattle.text.proofs.Pieces.{nothing}
 use Rattle.busread.proofs.Printing.{prints, message_bytes, message_most}
 use native.Mathlib.Omega.{arith}
-use borrow.Author.Rules.{rules}
 use Rattle.busread.proofs.step.put_answer.Goals as goal
 
 pub put_message-requires : goal.put_message-requires

@@ -1,16 +1,13 @@
 -- `busread::step::put_fields` meets its contract. Assumes nothing.
 use mathlib.Core.Path.{sym}
-use Prim.Native.Nat.{◌≤◌, ◌-◌, ◌*◌, ◌+◌, ◌/◌, ◌%◌}
+use Prim.Native.Nat.{◌/◌, ◌%◌}
 use native.Mathlib.Nat.{div-one}
-use lib.ListN.{take}
 use lib.Seq.{length-take-le}
 use Rattle.frame.specs.Identifier.{source_of, dgn_of}
-use Rattle.text.specs.Pieces.{Wrote}
 use Rattle.busread.specs.Report.{head_text, fields_text}
 use Rattle.text.proofs.Pieces.{behind, nothing}
-use Rattle.busread.proofs.Fields.{row_there, row_missing, span_there, span_fits, room_left, rows_in, fields_turn}
+use Rattle.busread.proofs.Fields.{row_there, row_missing, span_there, span_fits, room_left, fields_turn}
 use Rattle.busread.proofs.Fields.{whole_span}
-use borrow.Author.Rules.{rules}
 use native.Mathlib.Omega.{arith}
 use Rattle.busread.proofs.step.put_fields.Goals as goal
 
@@ -28,15 +25,14 @@ pub slice_bounds-head-end : goal.slice_bounds-head-end
 slice_bounds-head-end c = c.put_head-size.ensures.0.fits
 
 pub slice_bounds-put_field-end : goal.slice_bounds-put_field-end
-slice_bounds-put_field-end c = sym (length-take-le c.put_head-size.result c.put_head-size.new.0 c.put_head-size.ensures.0.fits)
+slice_bounds-put_field-end c = sym (length-take-le c.put_head-size.result c.put_head-size.new.out c.put_head-size.ensures.0.fits)
 
 pub put_field-end-requires : goal.put_field-end-requires
 put_field-end-requires c = (
-  let start = c in
-      let span = c.rows_in-span.result in
+  let span = c.rows_in-span.result in
       let l = c.loop-i in
-      room_left start.args.at l.i span.start l.invariant.2 (omega arith) l.invariant.1 start.requires.0 l.invariant.3.room,
-  rw (length-take-le c.put_head-size.result c.put_head-size.new.0 c.put_head-size.ensures.0.fits) c.put_head-size.ensures.1,
+      room_left c.args.at l.i span.start l.invariant.2 (omega arith) l.invariant.1 c.requires.0 l.invariant.3.room,
+  rw (length-take-le c.put_head-size.result c.put_head-size.new.out c.put_head-size.ensures.0.fits) c.put_head-size.ensures.1,
 )
 
 pub loop-i-preserved : goal.loop-i-preserved

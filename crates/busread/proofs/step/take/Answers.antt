@@ -1,6 +1,5 @@
 -- `busread::step::take` meets its contract. Assumes nothing.
 use Rattle.busread.proofs.Printing.{sound_line, malformed_line}
-use borrow.Author.Rules.{rules}
 use Rattle.busread.proofs.step.take.Goals as goal
 
 pub returns-in-Sound : goal.returns-in-Sound

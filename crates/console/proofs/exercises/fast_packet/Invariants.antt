@@ -3,7 +3,7 @@ use Rattle.std.proofs.Common.{◌≡◌, ◌-◌, ◌≤◌, length, rules}
 use Rattle.console.proofs.exercises.fast_packet.Given as goal
 
 abbrev pub invariant-loop-number : goal.invariant-loop-number
-invariant-loop-number l = (number ≤ 31) × (length l.heard ≡ length l.initial.storage)
+invariant-loop-number l = (l.number ≤ 31) × (length l.storage ≡ length l.initial.storage)
 
 abbrev pub decreases-loop-number : goal.decreases-loop-number
-decreases-loop-number l = 31 - number
+decreases-loop-number l = 31 - l.number

@@ -3,7 +3,7 @@ use Rattle.std.proofs.Common.{◌≡◌, ◌-◌, ◌≤◌, length, rules}
 use Rattle.console.proofs.exercises.long_message.Given as goal
 
 abbrev pub invariant-loop-number : goal.invariant-loop-number
-invariant-loop-number l = (number ≤ 255) × (length l.heard ≡ length l.initial.storage)
+invariant-loop-number l = (l.number ≤ 255) × (length l.storage ≡ length l.initial.storage)
 
 abbrev pub decreases-loop-number : goal.decreases-loop-number
-decreases-loop-number l = 255 - number
+decreases-loop-number l = 255 - l.number

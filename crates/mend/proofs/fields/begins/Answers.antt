@@ -1,10 +1,9 @@
 -- `mend::fields::begins` meets its contract. Assumes nothing.
 use mathlib.Core.Path.{◌≡◌, sym, ◌∙◌}
-use Prim.Native.Nat.{◌≤◌, ◌<◌, ◌+◌, ◌-◌}
+use Prim.Native.Nat.{◌≤◌, ◌<◌, ◌+◌}
 use native.Mathlib.Omega.{arith}
 use borrow.Author.Rules.{rules}
 use lib.ListN.{length, drop, length-drop}
-use Rattle.capture.specs.Line.{begins_with}
 use Rattle.capture.proofs.Lines.{begins_pass, begins_stop, begins_end}
 use Rattle.mend.proofs.Finding.{begins_short}
 use Rattle.mend.proofs.fields.begins.Goals as goal

@@ -1,12 +1,8 @@
 -- What the loop of `mend::fields::begins` keeps, and why it ends.
-use mathlib.Core.Path.{◌≡◌, sym, ◌∙◌}
-use Prim.Native.Nat.{◌≤◌, ◌<◌, ◌+◌, ◌-◌}
-use native.Mathlib.Omega.{arith}
-use borrow.Author.Rules.{rules}
-use lib.ListN.{length, drop, length-drop}
+use mathlib.Core.Path.{◌≡◌}
+use Prim.Native.Nat.{◌≤◌, ◌+◌, ◌-◌}
+use lib.ListN.{length, drop}
 use Rattle.capture.specs.Line.{begins_with}
-use Rattle.capture.proofs.Lines.{begins_pass, begins_stop, begins_end}
-use Rattle.mend.proofs.Finding.{begins_short}
 use Rattle.mend.proofs.fields.begins.Given as goal
 
 abbrev pub invariant-loop-i : goal.invariant-loop-i

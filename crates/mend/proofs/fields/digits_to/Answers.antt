@@ -1,11 +1,11 @@
 -- `mend::fields::digits_to` meets its contract. Assumes nothing.
-use mathlib.Core.Path.{◌≡◌, refl, sym, ◌∙◌}
-use Prim.Native.Nat.{◌≤◌, ◌<◌, ◌+◌, ◌-◌}
+use mathlib.Core.Path.{refl, sym, ◌∙◌}
+use Prim.Native.Nat.{◌≤◌, ◌<◌}
 use native.Mathlib.Omega.{arith}
 use borrow.Author.Rules.{rules}
-use lib.ListN.{length, drop, get_or}
+use lib.ListN.{length, get_or}
 use Rattle.capture.specs.Digits.{value_of}
-use Rattle.mend.specs.Mending.{capital, ahead}
+use Rattle.mend.specs.Mending.{capital}
 use Rattle.mend.proofs.Finding.{ahead_stop, ahead_pass, ahead_end}
 use Rattle.mend.proofs.fields.digits_to.Goals as goal
 

@@ -1,12 +1,8 @@
 -- What the loop of `mend::fields::digits_to` keeps, and why it ends.
-use mathlib.Core.Path.{◌≡◌, refl, sym, ◌∙◌}
-use Prim.Native.Nat.{◌≤◌, ◌<◌, ◌+◌, ◌-◌}
-use native.Mathlib.Omega.{arith}
-use borrow.Author.Rules.{rules}
-use lib.ListN.{length, drop, get_or}
-use Rattle.capture.specs.Digits.{value_of}
-use Rattle.mend.specs.Mending.{capital, ahead}
-use Rattle.mend.proofs.Finding.{ahead_stop, ahead_pass, ahead_end}
+use mathlib.Core.Path.{◌≡◌}
+use Prim.Native.Nat.{◌≤◌, ◌+◌, ◌-◌}
+use lib.ListN.{length, drop}
+use Rattle.mend.specs.Mending.{ahead}
 use Rattle.mend.proofs.fields.digits_to.Given as goal
 
 abbrev pub invariant-loop-i : goal.invariant-loop-i

@@ -1,7 +1,6 @@
 -- `mend::fields::rest` meets its contract. Assumes nothing.
 use mathlib.Core.Path.{sym}
 use native.Mathlib.Omega.{arith}
-use borrow.Author.Rules.{rules}
 use Rattle.mend.proofs.Finding.{tail_none, tail_more, tail_return, tail_other}
 use Rattle.mend.proofs.fields.rest.Goals as goal
 

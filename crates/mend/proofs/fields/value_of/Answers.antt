@@ -1,5 +1,4 @@
 -- `mend::fields::value_of` meets its contract. Assumes nothing.
-use borrow.Author.Rules.{rules}
 use Rattle.words.proofs.Tests.{tests}
 use Rattle.capture.specs.Digits.{value_of}
 use Rattle.mend.proofs.fields.value_of.Goals as goal

@@ -2,7 +2,6 @@
 use mathlib.Core.Path.{sym, ap, ◌∙◌}
 use Prim.Native.Nat.{ℕ, ◌+◌}
 use native.Mathlib.Omega.{arith}
-use borrow.Author.Rules.{rules}
 use Rattle.words.specs.Words.{◌<?◌}
 use Rattle.mend.specs.Places.{parts_at}
 use Rattle.mend.proofs.Finding.{zeros_test, length_part, either_same, actions_same}
@@ -11,13 +10,9 @@ use Rattle.mend.proofs.line.due.Goals as goal
 pub returns : goal.returns
 unfolding parts_at
 returns c =
-    let z = c in
-    let s₂ = z in
-    let s₁ = s₂ in
-    let start = s₁ in
-    let a = start.args in
-    let f = start.requires in
-    let t = zeros_test _ z.leading_zeros-zeros.result z.leading_zeros-zeros.ensures.0 z.leading_zeros-zeros.ensures.1 in
+    let a = c.args in
+    let f = c.requires in
+    let t = zeros_test _ c.leading_zeros-zeros.result c.leading_zeros-zeros.ensures.0 c.leading_zeros-zeros.ensures.1 in
     let l = length_part a.line.now (a.places.gap_to + 4) a.places.id_to f.id (omega (arith, f.bytes, f.within)) in
-    actions_same (parts_at a.line.now a.places) (c.either.ensures ∙ either_same s₁.has_small-small_id.ensures s₂.has_small-small_data.ensures) t
+    actions_same (parts_at a.line.now a.places) (c.either.ensures ∙ either_same c.has_small-small_id.ensures c.has_small-small_data.ensures) t
     (ap (λ (n : ℕ). n <? 8) (sym l))

@@ -1,11 +1,9 @@
 -- `mend::line::has_small` meets its contract. Assumes nothing.
-use mathlib.Core.Path.{◌≡◌, refl, sym, ◌∙◌}
-use Prim.Native.Nat.{◌≤◌, ◌<◌, ◌-◌}
+use mathlib.Core.Path.{refl, sym, ◌∙◌}
+use Prim.Native.Nat.{◌≤◌, ◌<◌}
 use native.Mathlib.Omega.{arith}
 use borrow.Author.Rules.{rules}
-use lib.ListN.{length, drop}
-use Rattle.words.specs.Lists.{any}
-use Rattle.mend.specs.Mending.{is_small}
+use lib.ListN.{length}
 use Rattle.mend.proofs.Finding.{small_found, small_pass, small_end}
 use Rattle.mend.proofs.line.has_small.Goals as goal
 

@@ -1,12 +1,9 @@
 -- What the loop of `mend::line::has_small` keeps, and why it ends.
-use mathlib.Core.Path.{◌≡◌, refl, sym, ◌∙◌}
-use Prim.Native.Nat.{◌≤◌, ◌<◌, ◌-◌}
-use native.Mathlib.Omega.{arith}
-use borrow.Author.Rules.{rules}
+use mathlib.Core.Path.{◌≡◌}
+use Prim.Native.Nat.{◌≤◌, ◌-◌}
 use lib.ListN.{length, drop}
 use Rattle.words.specs.Lists.{any}
 use Rattle.mend.specs.Mending.{is_small}
-use Rattle.mend.proofs.Finding.{small_found, small_pass, small_end}
 use Rattle.mend.proofs.line.has_small.Given as goal
 
 abbrev pub invariant-loop-i : goal.invariant-loop-i

@@ -1,10 +1,9 @@
 -- `mend::line::leading_zeros` meets its contract. Assumes nothing.
-use mathlib.Core.Path.{◌≡◌, refl, sym, ◌∙◌}
-use Prim.Native.Nat.{◌≤◌, ◌<◌, ◌+◌, ◌-◌}
+use mathlib.Core.Path.{refl, sym, ◌∙◌}
+use Prim.Native.Nat.{◌≤◌, ◌<◌, ◌+◌}
 use native.Mathlib.Omega.{arith}
 use borrow.Author.Rules.{rules}
-use lib.ListN.{length, drop}
-use Rattle.mend.specs.Mending.{without_zeros}
+use lib.ListN.{length}
 use Rattle.mend.proofs.Finding.{zero_stop, zero_pass, zero_end}
 use Rattle.mend.proofs.line.leading_zeros.Goals as goal
 

@@ -1,11 +1,8 @@
 -- What the loop of `mend::line::leading_zeros` keeps, and why it ends.
-use mathlib.Core.Path.{◌≡◌, refl, sym, ◌∙◌}
-use Prim.Native.Nat.{◌≤◌, ◌<◌, ◌+◌, ◌-◌}
-use native.Mathlib.Omega.{arith}
-use borrow.Author.Rules.{rules}
+use mathlib.Core.Path.{◌≡◌}
+use Prim.Native.Nat.{◌≤◌, ◌-◌}
 use lib.ListN.{length, drop}
 use Rattle.mend.specs.Mending.{without_zeros}
-use Rattle.mend.proofs.Finding.{zero_stop, zero_pass, zero_end}
 use Rattle.mend.proofs.line.leading_zeros.Given as goal
 
 abbrev pub invariant-loop-i : goal.invariant-loop-i

@@ -1,10 +1,10 @@
 -- `mend::line::put_capitals` meets its contract. Assumes nothing.
 use mathlib.Core.Path.{◌≡◌, refl}
-use Prim.Native.Nat.{◌≤◌, ◌<◌, ◌+◌, ◌-◌}
+use Prim.Native.Nat.{◌<◌, ◌+◌}
 use native.Mathlib.Omega.{arith}
 use borrow.Author.Rules.{rules}
 use lib.ListN.{length, length-set}
-use lib.Seq.{paste, paste-zero}
+use lib.Seq.{paste-zero}
 use Rattle.mend.specs.Mending.{capitals}
 use Rattle.mend.proofs.Putting.{capital_turn, capital_end}
 use Rattle.mend.proofs.line.put_capitals.Goals as goal

@@ -1,12 +1,9 @@
 -- What the loop of `mend::line::put_capitals` keeps, and why it ends.
-use mathlib.Core.Path.{◌≡◌, refl}
-use Prim.Native.Nat.{◌≤◌, ◌<◌, ◌+◌, ◌-◌}
-use native.Mathlib.Omega.{arith}
-use borrow.Author.Rules.{rules}
-use lib.ListN.{length, length-set}
-use lib.Seq.{paste, paste-zero}
+use mathlib.Core.Path.{◌≡◌}
+use Prim.Native.Nat.{◌≤◌, ◌-◌}
+use lib.ListN.{length}
+use lib.Seq.{paste}
 use Rattle.mend.specs.Mending.{capitals}
-use Rattle.mend.proofs.Putting.{capital_turn, capital_end}
 use Rattle.mend.proofs.line.put_capitals.Given as goal
 
 abbrev pub invariant-loop-i : goal.invariant-loop-i

@@ -1,12 +1,7 @@
 -- `mend::reader::lines` meets its contract. Assumes nothing.
-use mathlib.Core.Path.{◌≡◌, refl, ◌∙◌}
-use mathlib.Core.Logic.{◌⊎◌, inl, inr, ⊎_elim}
-use Prim.Native.Nat.{◌≤◌, ◌<◌, ◌-◌}
+use mathlib.Core.Path.{refl}
+use mathlib.Core.Logic.{inl, inr, ⊎_elim}
 use native.Mathlib.Omega.{arith}
-use borrow.Author.Rules.{rules}
-use lib.ListN.{length}
-use Rattle.mend.specs.Reader.{Done}
-use Rattle.mend.specs.declared.reader.Going.TheVariants.{On}
 use Rattle.mend.proofs.Reading.{begins, stopped, used_not_on, over_not_on}
 use Rattle.mend.proofs.reader.lines.Goals as goal
 
@@ -23,27 +18,24 @@ loop-written_to-smaller c =
 
 pub loop-written_to-preserved : goal.loop-written_to-preserved
 loop-written_to-preserved c =
-    let t = c in
-    let l = t.loop-written_to in
-    let a = t.args in
+    let l = c.loop-written_to in
+    let a = c.args in
     let e = c.in-On.is in
-    let h = t.turn-turned.ensures.advances e in (
-      rw e at (t.turn-turned.ensures.does a.from a.cutter l.invariant.0),
-      t.turn-turned.ensures.fits,
-      t.turn-turned.auto.1.1.1.1.0 ∙ l.invariant.2,
+    let h = c.turn-turned.ensures.advances e in (
+      rw e at (c.turn-turned.ensures.does a.from a.cutter l.invariant.0),
+      c.turn-turned.ensures.fits,
+      omega arith,
       omega arith,
       inr (omega arith, h.1),
     )
 
 pub returns-in-Used : goal.returns-in-Used
 returns-in-Used c =
-    let t = c in
-    stopped t.loop-written_to.invariant.0 t.turn-turned.ensures (used_not_on c.in-Used.is)
+    stopped c.loop-written_to.invariant.0 c.turn-turned.ensures (used_not_on c.in-Used.is)
 
 pub returns-in-Over : goal.returns-in-Over
 returns-in-Over c =
-    let t = c in
-    stopped t.loop-written_to.invariant.0 t.turn-turned.ensures (over_not_on c.in-Over.is)
+    stopped c.loop-written_to.invariant.0 c.turn-turned.ensures (over_not_on c.in-Over.is)
 
 pub returns : goal.returns
 returns c =

@@ -1,13 +1,10 @@
 -- What the loop of `mend::reader::lines` keeps, and why it ends.
-use mathlib.Core.Path.{◌≡◌, refl, ◌∙◌}
-use mathlib.Core.Logic.{◌⊎◌, inl, inr, ⊎_elim}
+use mathlib.Core.Path.{◌≡◌}
+use mathlib.Core.Logic.{◌⊎◌}
 use Prim.Native.Nat.{◌≤◌, ◌<◌, ◌-◌}
-use native.Mathlib.Omega.{arith}
-use borrow.Author.Rules.{rules}
 use lib.ListN.{length}
 use Rattle.mend.specs.Reader.{Done}
 use Rattle.mend.specs.declared.reader.Going.TheVariants.{On}
-use Rattle.mend.proofs.Reading.{begins, stopped, used_not_on, over_not_on}
 use Rattle.mend.proofs.reader.lines.Given as goal
 
 abbrev pub invariant-loop-written_to : goal.invariant-loop-written_to

@@ -1,6 +1,5 @@
 -- `mend::reader::put_too_long` meets its contract. Assumes nothing.
 use native.Mathlib.Omega.{arith}
-use borrow.Author.Rules.{rules}
 use Rattle.text.proofs.Pieces.{nothing}
 use Rattle.mend.specs.Report.{piece_mended}
 use Rattle.mend.proofs.reader.put_too_long.Goals as goal
@@ -8,11 +7,9 @@ use Rattle.mend.proofs.reader.put_too_long.Goals as goal
 pub returns-in-Capture : goal.returns-in-Capture
 unfolding piece_mended
 returns-in-Capture c =
-    let start = c in
-    (rw c.in-Capture.is (nothing start.args.out.now start.args.at (omega arith)), omega arith)
+    (rw c.in-Capture.is (nothing c.args.out.now c.args.at (omega arith)), omega arith)
 
 pub returns-in-Report : goal.returns-in-Report
 unfolding piece_mended
 returns-in-Report c =
-    let p = c in
-    (rw p.in-Report.is p.put_dropped.ensures.0, p.put_dropped.ensures.1)
+    (rw c.in-Report.is c.put_dropped.ensures.0, c.put_dropped.ensures.1)

@@ -1,6 +1,5 @@
 -- `mend::report::any` meets its contract. Assumes nothing.
 use mathlib.Core.Path.{◌∙◌}
-use borrow.Author.Rules.{rules}
 use Rattle.mend.proofs.Finding.{either_same}
 use Rattle.mend.proofs.report.any.Goals as goal
 

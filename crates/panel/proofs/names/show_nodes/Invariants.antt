@@ -1,5 +1,4 @@
 -- What the loop of `panel::names::show_nodes` keeps, and why it ends.
-use borrow.Author.Rules.{rules}
 use Prim.Native.Nat.{◌≤◌, ◌-◌}
 use Rattle.panel.proofs.names.show_nodes.Given as goal
 

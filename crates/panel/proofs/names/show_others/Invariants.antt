@@ -1,5 +1,4 @@
 -- What the loop of `panel::names::show_others` keeps, and why it ends.
-use borrow.Author.Rules.{rules}
 use lib.ListN.{length}
 use mathlib.Core.Path.{◌≡◌}
 use Prim.Native.Nat.{◌≤◌, ◌-◌}

@@ -1,5 +1,4 @@
 -- What the loop of `panel::own_faults::take_steps` keeps, and why it ends.
-use borrow.Author.Rules.{rules}
 use Prim.Native.Nat.{◌≤◌}
 use Rattle.panel.proofs.own_faults.take_steps.Given as goal
 

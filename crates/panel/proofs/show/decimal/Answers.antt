@@ -1,20 +1,13 @@
 -- `panel::show::decimal` is safe and ends. Assumes nothing.
 use mathlib.Core.Path.{sym}
-use Prim.Native.Nat.{◌≤◌}
 use native.Mathlib.Omega.{arith}
 use lib.Seq.{length-take-le}
-use lib.ListN.{length}
 use Rattle.text.proofs.Pieces.{end_within}
-use borrow.Author.Rules.{rules}
 use Rattle.panel.proofs.show.decimal.Goals as goal
 
-fits : (c : goal.After-put_decimal-end) → c.put_decimal-end.result ≤ length c.put_decimal-end.new.0
-fits c = end_within c.put_decimal-end.ensures (omega arith)
-
 pub slice_bounds-digits-end : goal.slice_bounds-digits-end
-slice_bounds-digits-end c = fits c
+slice_bounds-digits-end c = end_within c.put_decimal-end.ensures (omega arith)
 
 pub slice_bounds-say-end : goal.slice_bounds-say-end
 slice_bounds-say-end c =
-    let p = c in
-    sym (length-take-le p.put_decimal-end.result p.put_decimal-end.new.0 (fits p))
+    sym (length-take-le c.put_decimal-end.result c.put_decimal-end.new.out (end_within c.put_decimal-end.ensures (omega arith)))

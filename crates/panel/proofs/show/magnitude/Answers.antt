@@ -8,7 +8,6 @@ use mir.ValLaws.{to_z-of_z}
 use mir.Val.{Fits, SFits}
 use mir.Syntax.{w64}
 use Rattle.catalogue.proofs.Scales.{is_below, is_from, flip}
-use borrow.Author.Rules.{rules}
 use Rattle.panel.proofs.show.magnitude.Goals as goal
 
 pub overflow_sub-result : goal.overflow_sub-result

@@ -10,19 +10,17 @@ count_refused-requires c = (search rules, (bounds c.requires.held).refusals)
 
 pub returns-in-Refused : goal.returns-in-Refused
 returns-in-Refused c =
-    let g = c.enum_told-1.given in
-    rw (g.1, c.count_refused.ensures)
+    rw (c.in-Refused.is, c.count_refused.ensures)
     (record {
-      holds = λ lines h. holds_refused c.args.seen.pause g.0.0 (omega (arith, c.struct_known-2-1.given)) h;
+      holds = λ lines h. holds_refused c.args.seen.pause _ (omega arith) h;
       one = refl;
     })
 
 pub returns-in-Frame : goal.returns-in-Frame
 returns-in-Frame c =
     let f = c.count_frame.ensures in
-    let g = c.says-1.given in
-    rw g.1
+    rw c.in-Frame.is
     (record {
-      holds = λ lines h. f.holds lines c.args.seen.pause h refl (omega (arith, c.struct_known-2-1.given));
+      holds = λ lines h. f.holds lines c.args.seen.pause h refl (omega arith);
       one = f.one;
     })

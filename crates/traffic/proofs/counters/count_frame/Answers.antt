@@ -2,7 +2,6 @@
 use mathlib.Core.Path.{refl, sym, ◌∙◌}
 use native.Mathlib.Omega.{arith}
 use Rattle.traffic.proofs.Holding.{bounds, known, holds_known}
-use borrow.Author.Rules.{rules}
 use Rattle.traffic.proofs.counters.count_frame.Goals as goal
 
 pub find-found-requires : goal.find-found-requires
@@ -14,10 +13,9 @@ row_at-row-requires c = let k = known c.args.pair c.in-At.i c.requires.0.held c.
 pub next_frame-requires : goal.next_frame-requires
 next_frame-requires c =
     let k = known c.args.pair c.in-At.i c.requires.0.held c.find-found.ensures c.in-At.is in
-    let s = c in
-    let a = s.requires.1.after in
+    let a = c.requires.1.after in
     rw c.row_at-row.ensures
-    (omega (arith, k.last, a), omega (arith, k.frames, s.requires.0.fewer), omega (arith, k.sum, a), s.requires.1.bounded)
+    (omega (arith, k.last, a), omega (arith, k.frames, c.requires.0.fewer), omega (arith, k.sum, a), c.requires.1.bounded)
 
 pub put_row-requires : goal.put_row-requires
 put_row-requires c = let k = known c.args.pair c.in-At.i c.requires.0.held c.find-found.ensures c.in-At.is in (k.below, (bounds c.requires.0.held).room)
@@ -27,11 +25,10 @@ count_new-requires c = (c.requires.0, c.requires.1, sym c.find-found.ensures ∙
 
 pub returns-in-At : goal.returns-in-At
 returns-in-At c =
-    let s = c in
     let i = c.in-At.i in
     let f = sym c.find-found.ensures ∙ c.in-At.is in
     let p = rw (c.next_frame.ensures, c.row_at-row.ensures) at c.put_row.ensures in
     record {
-      holds = λ lines pause h e k. holds_known s.args.pair pause s.args.clock h e k i f p;
+      holds = λ lines pause h e k. holds_known c.args.pair pause c.args.clock h e k i f p;
       one = refl;
     }

@@ -11,10 +11,9 @@ count_other-requires c = (search rules, (bounds c.requires.0.held).other)
 
 pub returns-then-at-ge-MOST_PAIRS : goal.returns-then-at-ge-MOST_PAIRS
 returns-then-at-ge-MOST_PAIRS c =
-    let s = c in
     rw c.count_other.ensures
     (record {
-      holds = λ lines pause h e k. holds_other s.args.pair pause s.args.clock h e k s.requires.2 (omega arith);
+      holds = λ lines pause h e k. holds_other c.args.pair pause c.args.clock h e k c.requires.2 (omega arith);
       one = refl;
     })
 
@@ -29,9 +28,8 @@ shape_of-table c = c.put_row.ensures.room ∙ length-set c.args.table.now c.args
 
 pub returns : goal.returns
 returns c =
-    let s = c in
     let p = rw c.first_frame.ensures at c.put_row.ensures in
     record {
-      holds = λ lines pause h e k. holds_new s.args.pair pause s.args.clock h e k s.requires.2 (omega arith) p;
+      holds = λ lines pause h e k. holds_new c.args.pair pause c.args.clock h e k c.requires.2 (omega arith) p;
       one = refl;
     }

@@ -1,14 +1,12 @@
 -- `traffic::counters::find` meets its contract. Assumes nothing.
 use mathlib.Core.Path.{◌≡◌, refl, sym, ◌∙◌}
 use mathlib.Core.Bool.{true, false}
-use Prim.Native.Nat.{◌≤◌, ◌-◌}
 use native.Mathlib.Omega.{arith}
 use borrow.Author.Tests.{eq-eqb, ne_eqb}
 use borrow.Author.Rules.{rules}
-use lib.ListN.{length, take, drop, get_or}
+use lib.ListN.{length, take, get_or}
 use lib.Seq.{length-take-le, get_or-take}
 use Rattle.words.specs.Words.{◌=?◌}
-use Rattle.words.specs.Lists.{first_from, first}
 use Rattle.words.proofs.Lists.{search_pass, search_stop, search_end}
 use Rattle.traffic.proofs.counters.find.Goals as goal
 

@@ -1,5 +1,4 @@
 -- `traffic::counters::next_frame` meets its contract. Assumes nothing.
-use borrow.Author.Rules.{rules}
 use Rattle.traffic.proofs.counters.next_frame.Goals as goal
 
 pub returns : goal.returns

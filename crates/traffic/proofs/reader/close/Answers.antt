@@ -1,7 +1,6 @@
 -- `traffic::reader::close` meets its contract. Assumes nothing.
 use native.Mathlib.Omega.{arith}
 use Rattle.traffic.proofs.Reading.{held_after_lem, closed_behind}
-use borrow.Author.Rules.{rules}
 use Rattle.traffic.proofs.reader.close.Goals as goal
 
 pub put_figures-requires : goal.put_figures-requires

@@ -37,10 +37,9 @@ close-requires-in-TooLong c =
 pub returns-in-Carried : goal.returns-in-Carried
 returns-in-Carried c =
     let s = c.args.reader.cutter in
-    let g = c.ending-1.given in
     let w = c.close.ensures in
-    let piece = whole (take g.0.0 s.carry) in
-    finished (piece ∷ []) c.last-ending.ensures (ap (last_pieces s) g.1)
+    let piece = whole (take c.in-Carried.count s.carry) in
+    finished (piece ∷ []) c.last-ending.ensures (ap (last_pieces s) c.in-Carried.is)
     (λ before h. w.printed before piece (whole_seen _ c.look_at.ensures) h) w.fits
 
 pub returns-in-TooLong : goal.returns-in-TooLong

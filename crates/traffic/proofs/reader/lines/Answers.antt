@@ -1,12 +1,7 @@
 -- `traffic::reader::lines` meets its contract. Assumes nothing.
-use mathlib.Core.Path.{◌≡◌, refl, ◌∙◌}
-use mathlib.Core.Logic.{◌⊎◌, inl, inr, ⊎_elim}
-use Prim.Native.Nat.{◌≤◌, ◌<◌, ◌-◌}
-use lib.ListN.{length}
-use Rattle.traffic.specs.Reader.{Ready, Done}
-use Rattle.traffic.specs.declared.reader.Going.TheVariants.{On}
+use mathlib.Core.Path.{refl}
+use mathlib.Core.Logic.{inl, inr, ⊎_elim}
 use Rattle.traffic.proofs.Reading.{begins, stopped, used_not_on, over_not_on}
-use borrow.Author.Rules.{rules}
 use native.Mathlib.Omega.{arith}
 use Rattle.traffic.proofs.reader.lines.Goals as goal
 
@@ -29,8 +24,8 @@ loop-written_to-preserved c =
       rw e at (t.ensures.does a.from a.reader a.table.now l.invariant.0),
       t.ensures.ready,
       t.ensures.fits,
-      t.auto.1.1.1.1.0 ∙ l.invariant.3,
-      t.auto.1.1.1.0 ∙ l.invariant.4,
+      omega arith,
+      omega arith,
       omega arith,
       inr (omega arith, h.1),
     )

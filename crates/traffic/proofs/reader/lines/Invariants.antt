@@ -1,13 +1,10 @@
 -- What the loop of `traffic::reader::lines` keeps, and why it ends.
-use mathlib.Core.Path.{◌≡◌, refl, ◌∙◌}
-use mathlib.Core.Logic.{◌⊎◌, inl, inr, ⊎_elim}
+use mathlib.Core.Path.{◌≡◌}
+use mathlib.Core.Logic.{◌⊎◌}
 use Prim.Native.Nat.{◌≤◌, ◌<◌, ◌-◌}
 use lib.ListN.{length}
 use Rattle.traffic.specs.Reader.{Ready, Done}
 use Rattle.traffic.specs.declared.reader.Going.TheVariants.{On}
-use Rattle.traffic.proofs.Reading.{begins, stopped, used_not_on, over_not_on}
-use borrow.Author.Rules.{rules}
-use native.Mathlib.Omega.{arith}
 use Rattle.traffic.proofs.reader.lines.Given as goal
 
 abbrev pub invariant-loop-written_to : goal.invariant-loop-written_to

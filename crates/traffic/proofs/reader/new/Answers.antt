@@ -1,6 +1,5 @@
 -- `traffic::reader::new` meets its contract. Assumes nothing.
 use Rattle.traffic.proofs.Holding.{start_holds}
-use borrow.Author.Rules.{rules}
 use Rattle.traffic.proofs.reader.new.Goals as goal
 
 pub returns : goal.returns

@@ -3,20 +3,15 @@ use Rattle.traffic.specs.Report.{closing_text}
 use Rattle.text.specs.Text.{text}
 use Rattle.text.proofs.Pieces.{wrote_decimal, fits_wrote, behind}
 use native.Mathlib.Omega.{arith}
-use borrow.Author.Rules.{rules}
 use Rattle.traffic.proofs.report.put_closing.Goals as goal
 
 pub returns : goal.returns
 unfolding closing_text
 returns c =
-    let q₄ = c in
-    let q₃ = q₄ in
-    let q₂ = q₃ in
-    let q₁ = q₂ in
-    let w₁ = q₁.put_other-other_end.ensures in
-    let w₂ = wrote_decimal (text "frames=") _ q₂.put_decimal-frames_end.ensures (omega (arith, q₂.struct_known-1.given))
+    let w₁ = c.put_other-other_end.ensures in
+    let w₂ = wrote_decimal (text "frames=") _ c.put_decimal-frames_end.ensures (omega arith)
     (omega (arith, w₁.1, w₁.0.room)) in
-    let w₃ = wrote_decimal (text " refused=") _ q₃.put_decimal-refused_end.ensures (omega (arith, q₃.struct_known-2-1.given))
+    let w₃ = wrote_decimal (text " refused=") _ c.put_decimal-refused_end.ensures (omega arith)
     (omega (arith, w₁.1, w₁.0.room, w₂.1, w₂.0.room)) in
-    let w₄ = fits_wrote {word = text "\n"} q₄.put.ensures (omega (arith, w₁.1, w₁.0.room, w₂.1, w₂.0.room, w₃.1, w₃.0.room)) in
+    let w₄ = fits_wrote {word = text "\n"} c.put.ensures (omega (arith, w₁.1, w₁.0.room, w₂.1, w₂.0.room, w₃.1, w₃.0.room)) in
     behind (behind (behind w₁.0 w₂.0) w₃.0) w₄

@@ -3,7 +3,6 @@ use native.Mathlib.Omega.{arith}
 use Rattle.text.proofs.Pieces.{behind}
 use Rattle.traffic.proofs.Holding.{bounds}
 use Rattle.traffic.proofs.Printing.{figures_said}
-use borrow.Author.Rules.{rules}
 use Rattle.traffic.proofs.report.put_figures.Goals as goal
 
 pub put_pairs-pairs_end-requires : goal.put_pairs-pairs_end-requires

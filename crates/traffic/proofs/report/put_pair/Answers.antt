@@ -2,16 +2,12 @@
 use Rattle.traffic.specs.Counters.{row_text}
 use Rattle.text.proofs.Pieces.{behind}
 use native.Mathlib.Omega.{arith}
-use borrow.Author.Rules.{rules}
 use Rattle.traffic.proofs.report.put_pair.Goals as goal
 
 pub returns : goal.returns
 unfolding row_text
 returns c =
-    let q₃ = c in
-    let q₂ = q₃ in
-    let q₁ = q₂ in
-    let w₁ = q₁.put_head-head_end.ensures in
-    let w₂ = q₂.put_gaps-gaps_end.ensures in
-    let w₃ = q₃.put_sum.ensures in
+    let w₁ = c.put_head-head_end.ensures in
+    let w₂ = c.put_gaps-gaps_end.ensures in
+    let w₃ = c.put_sum.ensures in
     (behind (behind w₁.0 w₂.0) w₃.0, omega (arith, w₁.1, w₂.1, w₃.1))

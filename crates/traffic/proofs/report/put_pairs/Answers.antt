@@ -1,9 +1,7 @@
 -- `traffic::report::put_pairs` meets its contract. Assumes nothing.
 use mathlib.Core.Path.{◌≡◌}
-use Prim.Native.Nat.{suc, ◌+◌, ◌*◌, ◌-◌, ◌≤◌}
+use Prim.Native.Nat.{suc, ◌+◌}
 use native.Mathlib.Omega.{arith}
-use borrow.Author.Rules.{rules}
-use Rattle.text.specs.Pieces.{Wrote}
 use Rattle.text.proofs.Pieces.{nothing, behind}
 use Rattle.traffic.specs.Counters.{rows_text}
 use Rattle.traffic.proofs.report.put_pairs.Goals as goal

@@ -1,10 +1,6 @@
 -- What the loop of `traffic::report::put_pairs` keeps, and why it ends.
-use mathlib.Core.Path.{◌≡◌}
-use Prim.Native.Nat.{suc, ◌+◌, ◌*◌, ◌-◌, ◌≤◌}
-use native.Mathlib.Omega.{arith}
-use borrow.Author.Rules.{rules}
+use Prim.Native.Nat.{◌+◌, ◌*◌, ◌-◌, ◌≤◌}
 use Rattle.text.specs.Pieces.{Wrote}
-use Rattle.text.proofs.Pieces.{nothing, behind}
 use Rattle.traffic.specs.Counters.{rows_text}
 use Rattle.traffic.proofs.report.put_pairs.Given as goal
 

@@ -2,7 +2,6 @@
 use Rattle.traffic.specs.Report.{refusal_text}
 use Rattle.text.proofs.Pieces.{nothing}
 use native.Mathlib.Omega.{arith}
-use borrow.Author.Rules.{rules}
 use Rattle.traffic.proofs.report.put_says.Goals as goal
 
 pub returns-in-Refused : goal.returns-in-Refused

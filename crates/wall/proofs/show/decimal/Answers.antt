@@ -1,15 +1,11 @@
 -- `wall::show::decimal` is safe and ends. Assumes nothing.
-use Rattle.std.proofs.Common.{◌≤◌, length, sym, arith, length-take-le, rules}
+use Rattle.std.proofs.Common.{sym, arith, length-take-le}
 use Rattle.text.proofs.Pieces.{end_within}
 use Rattle.wall.proofs.show.decimal.Goals as goal
 
-fits : (c : goal.After-put_decimal-end) → c.put_decimal-end.result ≤ length c.put_decimal-end.new.0
-fits c = end_within c.put_decimal-end.ensures (omega arith)
-
 pub slice_bounds-digits-end : goal.slice_bounds-digits-end
-slice_bounds-digits-end c = fits c
+slice_bounds-digits-end c = end_within c.put_decimal-end.ensures (omega arith)
 
 pub slice_bounds-say-end : goal.slice_bounds-say-end
 slice_bounds-say-end c =
-    let p = c in
-    sym (length-take-le p.put_decimal-end.result p.put_decimal-end.new.0 (fits p))
+    sym (length-take-le c.put_decimal-end.result c.put_decimal-end.new.out (end_within c.put_decimal-end.ensures (omega arith)))

@@ -1,5 +1,5 @@
 -- What the loop of `wall::show::has_named` keeps, and why it ends.
-use Rattle.std.proofs.Common.{◌≡◌, ◌-◌, rules}
+use Rattle.std.proofs.Common.{◌≡◌, ◌-◌}
 use Rattle.wall.proofs.show.has_named.Given as goal
 
 abbrev pub invariant-loop-tile : goal.invariant-loop-tile

@@ -4,5 +4,4 @@ use Rattle.wall.proofs.show.show_float.Goals as goal
 
 pub slice_bounds-show_centred-end : goal.slice_bounds-show_centred-end
 slice_bounds-show_centred-end c =
-    let p = c in
-    sym (length-take-le p.put_float-end.result p.put_float-end.new.0 (search rules))
+    sym (length-take-le c.put_float-end.result c.put_float-end.new.out (search rules))

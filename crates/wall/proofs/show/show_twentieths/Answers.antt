@@ -4,5 +4,4 @@ use Rattle.wall.proofs.show.show_twentieths.Goals as goal
 
 pub slice_bounds-show_centred-end : goal.slice_bounds-show_centred-end
 slice_bounds-show_centred-end c =
-    let p = c in
-    sym (length-take-le p.put_twentieths-end.result p.put_twentieths-end.new.0 (search rules))
+    sym (length-take-le c.put_twentieths-end.result c.put_twentieths-end.new.out (search rules))

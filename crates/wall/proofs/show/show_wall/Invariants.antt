@@ -1,5 +1,5 @@
 -- What the loop of `wall::show::show_wall` keeps, and why it ends.
-use Rattle.std.proofs.Common.{◌≡◌, ◌-◌, ◌%◌, ◌≤◌, rules}
+use Rattle.std.proofs.Common.{◌≡◌, ◌-◌, ◌%◌, ◌≤◌}
 use Rattle.wall.proofs.show.show_wall.Given as goal
 
 abbrev pub invariant-loop-first : goal.invariant-loop-first

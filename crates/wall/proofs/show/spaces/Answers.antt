@@ -1,5 +1,5 @@
 -- `wall::show::spaces` is safe and ends. Assumes nothing.
-use Rattle.std.proofs.Common.{sym, arith, length-take-le, rules}
+use Rattle.std.proofs.Common.{sym, arith, length-take-le}
 use Rattle.wall.proofs.show.spaces.Goals as goal
 
 pub slice_bounds-say-end : goal.slice_bounds-say-end

@@ -1,5 +1,5 @@
 -- What the loop of `wall::state::pause` keeps, and why it ends.
-use Rattle.std.proofs.Common.{◌-◌, ◌≤◌, rules}
+use Rattle.std.proofs.Common.{◌-◌, ◌≤◌}
 use Rattle.wall.proofs.state.pause.Given as goal
 
 abbrev pub invariant-loop-tile : goal.invariant-loop-tile

@@ -1,5 +1,5 @@
 -- What the loop of `wall::state::row_number` keeps, and why it ends.
-use Rattle.std.proofs.Common.{◌≤◌, rules}
+use Rattle.std.proofs.Common.{◌≤◌}
 use Rattle.wall.proofs.state.row_number.Given as goal
 
 abbrev pub invariant-loop-left : goal.invariant-loop-left

@@ -1,5 +1,5 @@
 -- `wall::tile_line::digits` is safe and ends. Assumes nothing.
-use Rattle.std.proofs.Common.{◌-◌, ◌^◌, ◌<◌, ◌≤◌, arith, rules}
+use Rattle.std.proofs.Common.{arith, rules}
 use Rattle.capture.proofs.Digits.{read_room}
 use Rattle.wall.proofs.tile_line.digits.Goals as goal
 

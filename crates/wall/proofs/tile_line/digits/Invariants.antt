@@ -1,6 +1,5 @@
 -- What the loop of `wall::tile_line::digits` keeps, and why it ends.
-use Rattle.std.proofs.Common.{◌-◌, ◌^◌, ◌<◌, ◌≤◌, arith, rules}
-use Rattle.capture.proofs.Digits.{read_room}
+use Rattle.std.proofs.Common.{◌-◌, ◌^◌, ◌<◌, ◌≤◌}
 use Rattle.wall.proofs.tile_line.digits.Given as goal
 
 abbrev pub invariant-loop-count : goal.invariant-loop-count

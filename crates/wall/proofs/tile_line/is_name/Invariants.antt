@@ -1,5 +1,5 @@
 -- What the loop of `wall::tile_line::is_name` keeps, and why it ends.
-use Rattle.std.proofs.Common.{◌-◌, ◌≤◌, length, rules}
+use Rattle.std.proofs.Common.{◌-◌, ◌≤◌, length}
 use Rattle.wall.proofs.tile_line.is_name.Given as goal
 
 abbrev pub invariant-loop-at : goal.invariant-loop-at

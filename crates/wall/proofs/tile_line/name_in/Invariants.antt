@@ -1,5 +1,5 @@
 -- What the loop of `wall::tile_line::name_in` keeps, and why it ends.
-use Rattle.std.proofs.Common.{◌-◌, ◌≤◌, rules}
+use Rattle.std.proofs.Common.{◌-◌, ◌≤◌}
 use Rattle.wall.proofs.tile_line.name_in.Given as goal
 
 abbrev pub invariant-loop-i : goal.invariant-loop-i

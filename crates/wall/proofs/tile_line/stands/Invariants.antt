@@ -1,5 +1,5 @@
 -- What the loop of `wall::tile_line::stands` keeps, and why it ends.
-use Rattle.std.proofs.Common.{◌-◌, ◌≤◌, length, rules}
+use Rattle.std.proofs.Common.{◌-◌, ◌≤◌, length}
 use Rattle.wall.proofs.tile_line.stands.Given as goal
 
 abbrev pub invariant-loop-i : goal.invariant-loop-i

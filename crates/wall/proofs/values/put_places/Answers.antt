@@ -1,5 +1,5 @@
 -- `wall::values::put_places` is safe and ends. Assumes nothing.
-use Rattle.std.proofs.Common.{◌≡◌, ◌-◌, ◌<◌, ◌≤◌, length, arith, rules}
+use Rattle.std.proofs.Common.{arith, rules}
 use Rattle.text.proofs.Pieces.{end_within}
 use Rattle.wall.proofs.values.put_places.Goals as goal
 
