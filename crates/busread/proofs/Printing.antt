@@ -1,5 +1,6 @@
 -- What a line prints, and what it leaves.
 -- Assumes nothing.
+use Rattle.std.specs.Prelude.{if◌then◌else◌}
 use mathlib.Core.Path.{◌≡◌, refl, sym, ap, ◌∙◌}
 use mathlib.Core.Bool.{Bool, true, false}
 use mathlib.Core.List.{List, []}
@@ -7,7 +8,7 @@ use Prim.Native.Nat.{ℕ, ◌+◌, ◌*◌, ◌≤◌}
 use native.Mathlib.Omega.{arith}
 use borrow.Author.Tests.{ltb-false}
 use lib.ListN.{length, take, drop, length-take}
-use Rattle.words.specs.Words.{if◌then◌else◌, ◌<?◌, ◌≤?◌, ◌or◌, Told, refused, gives}
+use Rattle.words.specs.Words.{◌<?◌, ◌≤?◌, ◌or◌, Told, refused, gives}
 use Rattle.words.proofs.Tests.{tests}
 use Rattle.places.specs.Places.{place_count}
 use Rattle.places.specs.Telling.{Outcome, nothing_to_do, opened, stored, finished}

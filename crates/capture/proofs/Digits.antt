@@ -1,6 +1,7 @@
 -- Digits and the number that they spell, in any base up to sixteen: each gives the other back. Then the turns of the loop
 -- that reads them.
 -- Assumes nothing.
+use Rattle.std.specs.Prelude.{if◌then◌else◌}
 use mathlib.Core.Path.{◌≡◌, refl, sym, ap, ◌∙◌}
 use mathlib.Core.Bool.{true}
 use mathlib.Core.List.{List, [], ◌∷◌, ◌++◌, append_assoc, append-nil}
@@ -15,7 +16,7 @@ use lib.Arith.{lt-one, digits_lt, digits_div, digits_mod}
 use lib.Dec.{lit<}
 use lib.ListN.{length, get_or, drop, drop_of_length-le}
 use lib.Seq.{drop-cons}
-use Rattle.words.specs.Words.{if◌then◌else◌, ◌<?◌, ◌≤?◌, Told, refused, gives}
+use Rattle.words.specs.Words.{◌<?◌, ◌≤?◌, Told, refused, gives}
 use Rattle.words.proofs.Words.{by_test, both_true, before_refusal, gives_same}
 use Rattle.text.specs.Text.{digit0, letter_a, glyph, digits}
 use Rattle.capture.specs.Digits.{digit9, letter_f, value_of, are_digits, number_from, number, number_read}

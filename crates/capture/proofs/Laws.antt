@@ -1,5 +1,6 @@
 -- The statements of specs/Laws.antt, proved; those about a stream in blocks are in Feeding.
 -- Assumes nothing.
+use Rattle.std.specs.Prelude.{if◌then◌else◌}
 use mathlib.Core.Path.{◌≡◌, refl, sym, ap, ◌∙◌}
 use mathlib.Core.Bool.{Bool, true, false, not}
 use mathlib.Core.List.{List, [], ◌∷◌, ◌++◌, map}
@@ -8,7 +9,7 @@ use native.Mathlib.Omega.{arith}
 use borrow.Author.Tests.{ltb-true, lt-leb, le-leb, ne_eqb}
 use lib.ListN.{length, take, length-append, length-take}
 use lib.Seq.{take_at}
-use Rattle.words.specs.Words.{if◌then◌else◌, given◌then◌, ◌<?◌, ◌=?◌, Told, refused, gives}
+use Rattle.words.specs.Words.{given◌then◌, ◌<?◌, ◌=?◌, Told, refused, gives}
 use Rattle.words.proofs.Words.{by_test, gives_same, refused_gives, refused_same}
 use Rattle.text.specs.Text.{decimal_width, byte_digits}
 use Rattle.capture.specs.Digits.{number_read, are_digits, number}

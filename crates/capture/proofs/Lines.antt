@@ -1,5 +1,6 @@
 -- A line and its frame: each gives the other back. Then the turns of the loops that read it.
 -- Assumes nothing.
+use Rattle.std.specs.Prelude.{if◌then◌else◌}
 use mathlib.Core.Path.{◌≡◌, refl, sym, ap, ◌∙◌}
 use mathlib.Core.Bool.{true, false, not}
 use mathlib.Core.List.{List, [], ◌∷◌, ◌++◌, append_assoc, append-nil}
@@ -11,7 +12,7 @@ use borrow.Author.Tests.{eq-eqb, ne_eqb, leb-true, ltb-false, eqb-true}
 use lib.Dec.{lit<, lit≤}
 use lib.ListN.{length, get_or, take, drop, set, length-take, drop_of_length-le}
 use lib.Seq.{drop-cons, drop-drop, take-suc-set, take_all}
-use Rattle.words.specs.Words.{if◌then◌else◌, given◌then◌, ◌≤?◌, ◌<?◌, ◌=?◌, Told, refused, gives}
+use Rattle.words.specs.Words.{given◌then◌, ◌≤?◌, ◌<?◌, ◌=?◌, Told, refused, gives}
 use Rattle.text.specs.Text.{decimal_width}
 use Rattle.capture.specs.Digits.{number_read}
 use Rattle.capture.specs.Line.{has_shape, begins_with, gap_read, bytes_read, gap_in, id_in, data_in, line_read}

@@ -1,7 +1,7 @@
 -- The cutter, which cuts a stream into lines block by block (RULES 11.7): what it keeps of a line whose end has not
 -- come, and what it answers.
-use Rattle.std.specs.Prelude.{Bool, List, ℕ, ◌+◌, ◌-◌, length, replicate}
-use Rattle.words.specs.Words.{if◌then◌else◌, ◌<?◌, ◌≤?◌, ◌=?◌}
+use Rattle.std.specs.Prelude.{Bool, List, ℕ, ◌+◌, ◌-◌, length, replicate, if◌then◌else◌}
+use Rattle.words.specs.Words.{◌<?◌, ◌≤?◌, ◌=?◌}
 use Rattle.text.specs.Pieces.{placed}
 use Rattle.capture.specs.Stream.{longest_line, most_lines, line_in}
 use Rattle.capture.specs.declared.Cutter.{Cutter}

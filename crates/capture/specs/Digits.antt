@@ -1,7 +1,7 @@
 -- Digits read, the most significant first, in bases up to sixteen (RULES 11.1 and 11.2: decimal, and hexadecimal in
 -- capitals). How a number is written is `digits` of the crate text.
-use Rattle.std.specs.Prelude.{Bool, true, List, [], ◌∷◌, ℕ, ◌+◌, ◌*◌, ◌-◌}
-use Rattle.words.specs.Words.{if◌then◌else◌, ◌<?◌, ◌≤?◌, ◌and◌, Told, refused, gives}
+use Rattle.std.specs.Prelude.{Bool, true, List, [], ◌∷◌, ℕ, ◌+◌, ◌*◌, ◌-◌, if◌then◌else◌}
+use Rattle.words.specs.Words.{◌<?◌, ◌≤?◌, ◌and◌, Told, refused, gives}
 use Rattle.text.specs.Text.{digit0, letter_a}
 
 -- the codes of `9` and `F`

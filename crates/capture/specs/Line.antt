@@ -2,8 +2,8 @@
 -- decimal without leading zeros and at most 65,535, the identifier 8 hex digits and the data 16, in capitals. How a
 -- frame is written is the definition; every other line is malformed (19). An identifier of 2^29 or more is well
 -- spelled: it meets refusal 3, not 19.
-use Rattle.std.specs.Prelude.{◌≡◌, Bool, true, false, not, List, [], ◌∷◌, ◌++◌, ℕ, zero, suc, ◌+◌, ◌-◌, ◌^◌, ◌≤◌, ◌<◌, length, take, drop}
-use Rattle.words.specs.Words.{if◌then◌else◌, given◌then◌, ◌<?◌, ◌≤?◌, ◌=?◌, ◌and◌, Told, refused, gives}
+use Rattle.std.specs.Prelude.{◌≡◌, Bool, true, false, not, List, [], ◌∷◌, ◌++◌, ℕ, zero, suc, ◌+◌, ◌-◌, ◌^◌, ◌≤◌, ◌<◌, length, take, drop, if◌then◌else◌}
+use Rattle.words.specs.Words.{given◌then◌, ◌<?◌, ◌≤?◌, ◌=?◌, ◌and◌, Told, refused, gives}
 use Rattle.text.specs.Text.{text, digits, decimal_width, decimal, byte_digits, byte_pairs}
 use Rattle.frame.specs.Bytes.{AreBytes}
 use Rattle.frame.specs.Frame.{frame_bytes}

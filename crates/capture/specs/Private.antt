@@ -1,6 +1,6 @@
 -- What the private functions of this crate promise, where it is no definition of the others (for RULES 11.7).
-use Rattle.std.specs.Prelude.{List, ℕ, replicate}
-use Rattle.words.specs.Words.{if◌then◌else◌, Told, refused, gives}
+use Rattle.std.specs.Prelude.{List, ℕ, replicate, if◌then◌else◌}
+use Rattle.words.specs.Words.{Told, refused, gives}
 use Rattle.frame.specs.Frame.{frame_bytes}
 use Rattle.capture.specs.declared.Reading.TheVariants as Reading
 use Rattle.capture.specs.declared.Line.{Line}

@@ -1,8 +1,8 @@
 -- A stream of bytes as lines (RULES 11.4, 11.6 and 11.8): a newline ends a line, and so does the end of the stream
 -- where a line has begun; a line may have 80 bytes, its newline not counted; lines after the first 1,000,000 are not
 -- read.
-use Rattle.std.specs.Prelude.{List, [], ◌∷◌, ◌++◌, map, ℕ, length, take}
-use Rattle.words.specs.Words.{if◌then◌else◌, ◌<?◌, ◌=?◌, Told, refused}
+use Rattle.std.specs.Prelude.{List, [], ◌∷◌, ◌++◌, map, ℕ, length, take, if◌then◌else◌}
+use Rattle.words.specs.Words.{◌<?◌, ◌=?◌, Told, refused}
 use Rattle.capture.specs.Line.{Frame, line_read}
 
 abbrev pub newline : ℕ

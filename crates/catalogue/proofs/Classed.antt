@@ -1,5 +1,6 @@
 -- The classes of codes, from their definition; of this crate only this file and proofs/classes read its text.
 -- Assumes nothing.
+use Rattle.std.specs.Prelude.{if◌then◌else◌}
 use mathlib.Core.Path.{◌≡◌, refl, sym, ap, ◌∙◌}
 use mathlib.Core.Bool.{Bool, true, false, not}
 use mathlib.Core.Logic.{◌⊎◌, inl, inr, ⊎_elim}
@@ -7,7 +8,7 @@ use Prim.Native.Nat.{ℕ, ◌+◌, ◌*◌, ◌-◌, ◌/◌, ◌^◌, ◌≤◌
 use native.Mathlib.Omega.{arith}
 use borrow.Author.Tests.{eq-eqb, ne_eqb, lt-leb, le-leb, ltb-true, ltb-false, leb-false, eqb-true}
 use lib.Pow.{pow_pos, pow_mono, pow-add, high}
-use Rattle.words.specs.Words.{if◌then◌else◌, ◌<?◌, ◌≤?◌, ◌=?◌, ◌and◌}
+use Rattle.words.specs.Words.{◌<?◌, ◌≤?◌, ◌=?◌, ◌and◌}
 use Rattle.words.proofs.Words.{by_test, both_true, true_false, not_flips}
 use Rattle.catalogue.specs.Classes.{greatest_code, has_no_data, has_three, class_at, class_in, below_greatest}
 use Rattle.catalogue.specs.Classes.{has_two_states, error_code, is_error}

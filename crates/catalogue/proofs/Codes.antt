@@ -1,5 +1,6 @@
 -- A value's code has that value, and a number's scaled value has that code.
 -- Assumes nothing.
+use Rattle.std.specs.Prelude.{if◌then◌else◌}
 use mathlib.Core.Path.{◌≡◌, refl, sym, ap, ◌∙◌}
 use mathlib.Core.Bool.{true, not}
 use Prim.Native.Nat.{ℕ, suc, ◌+◌, ◌*◌, ◌-◌, ◌/◌, ◌%◌, ◌^◌, ◌≤◌, ◌<◌}
@@ -8,7 +9,7 @@ use native.Mathlib.Omega.{arith}
 use borrow.Author.Tests.{eq-eqb, ne_eqb, lt-ltb, le-ltb, lt-leb, leb-true, ltb-true, ltb-false, leb-false, eqb-true}
 use lib.IntN.{ℤ, pos, negsuc, ◌+ℤ◌}
 use lib.Pow.{pow_pos}
-use Rattle.words.specs.Words.{if◌then◌else◌, given◌then◌, ◌<?◌, ◌≤?◌, ◌=?◌, refused, gives}
+use Rattle.words.specs.Words.{given◌then◌, ◌<?◌, ◌≤?◌, ◌=?◌, refused, gives}
 use Rattle.words.proofs.Words.{past_refusal, before_refusal, not_flips, gives_same, by_test}
 use Rattle.catalogue.specs.Classes.{greatest_code, class_in, below_greatest, ◌is◌}
 use Rattle.catalogue.specs.Scale.{scaled_of, steps_of, value_as, value_of}

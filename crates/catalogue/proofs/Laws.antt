@@ -1,5 +1,6 @@
 -- The statements of specs/Laws.antt, proved.
 -- Assumes nothing.
+use Rattle.std.specs.Prelude.{if◌then◌else◌}
 use mathlib.Core.Path.{◌≡◌, refl, sym, ap, ◌∙◌, subst}
 use mathlib.Core.Bool.{true, false, not}
 use mathlib.Core.List.{List}
@@ -8,7 +9,7 @@ use Prim.Native.Nat.{ℕ, ◌+◌, ◌^◌, ◌≤◌, ◌<◌}
 use native.Mathlib.Omega.{arith}
 use borrow.Author.Tests.{eq-eqb, le-ltb, le-leb, ltb-true, ltb-false, leb-true, leb-false}
 use lib.ListN.{length, get_or-eq_default}
-use Rattle.words.specs.Words.{if◌then◌else◌, given◌then◌, ◌<?◌, ◌≤?◌, ◌=?◌, Told, refused, gives, Done}
+use Rattle.words.specs.Words.{given◌then◌, ◌<?◌, ◌≤?◌, ◌=?◌, Told, refused, gives, Done}
 use Rattle.frame.specs.Bytes.{number_of, AreBytes}
 use Rattle.frame.specs.Frame.{frame_bytes}
 use Rattle.frame.specs.Promises.{refusal_of}

@@ -1,5 +1,6 @@
 -- The rule of a table, computed once over all rows, and what it says at each row and pair of rows, in any list of rows that keeps it. Then the rows of
 -- a DGN. Assumes nothing.
+use Rattle.std.specs.Prelude.{if◌then◌else◌}
 use mathlib.Core.Path.{◌≡◌, refl, sym, ◌∙◌}
 use mathlib.Core.Bool.{Bool, true, false}
 use mathlib.Core.List.{List, [], ◌∷◌}
@@ -10,7 +11,7 @@ use native.Mathlib.Omega.{arith}
 use borrow.Author.Tests.{leb-true, leb-false, ltb-true, ltb-false, lt-ltb, le-ltb, eq-eqb, ne_eqb, eqb-true, eqb-false}
 use lib.Arith.{lt_of_le-ne}
 use lib.ListN.{length, get_or}
-use Rattle.words.specs.Words.{if◌then◌else◌, ◌and◌, ◌<?◌, ◌≤?◌, ◌=?◌, gives}
+use Rattle.words.specs.Words.{◌and◌, ◌<?◌, ◌≤?◌, ◌=?◌, gives}
 use Rattle.words.specs.Lists.{count}
 use Rattle.words.proofs.Words.{by_test, both_true, true_false, gives_same, refused_gives}
 use Rattle.catalogue.specs.Rows.{rows, row_count}

@@ -1,5 +1,6 @@
 -- Rows of two states: what the calls answer, that the mark speaks of 10b alone, and the marks of the catalogue.
 -- Assumes nothing.
+use Rattle.std.specs.Prelude.{if◌then◌else◌}
 use mathlib.Core.Path.{◌≡◌, refl, sym, ap, ◌∙◌}
 use mathlib.Core.Bool.{Bool, true, false, not}
 use mathlib.Core.List.{List, [], ◌∷◌}
@@ -10,7 +11,7 @@ use borrow.Author.Tests.{eqb-true, eqb-false, ltb-true, ltb-false}
 use lib.IntN.{pos, ◌+ℤ◌}
 use lib.Arith.{lt_of_le-ne}
 use lib.ListN.{length, get_or-eq_default}
-use Rattle.words.specs.Words.{if◌then◌else◌, given◌then◌, ◌<?◌, ◌≤?◌, ◌=?◌, ◌and◌, Told, refused, gives}
+use Rattle.words.specs.Words.{given◌then◌, ◌<?◌, ◌≤?◌, ◌=?◌, ◌and◌, Told, refused, gives}
 use Rattle.frame.specs.Bytes.{number_of}
 use Rattle.frame.specs.Identifier.{catalogue_form}
 use Rattle.frame.specs.Frame.{checked_of}

@@ -1,7 +1,7 @@
 -- A row's field in a frame, read, read as a scaled value, and written (RULES 7.7 to 7.12): refusals 3 to 6, then 11,
 -- then 12.
-use Rattle.std.specs.Prelude.{not, List, ℕ, length}
-use Rattle.words.specs.Words.{if◌then◌else◌, given◌then◌, ◌=?◌, Told, refused, gives}
+use Rattle.std.specs.Prelude.{not, List, ℕ, length, if◌then◌else◌}
+use Rattle.words.specs.Words.{given◌then◌, ◌=?◌, Told, refused, gives}
 use Rattle.frame.specs.Bytes.{number_of, bytes_of}
 use Rattle.frame.specs.Identifier.{catalogue_form}
 use Rattle.frame.specs.Frame.{checked_of, frame_bytes}

@@ -1,8 +1,8 @@
 -- Classes of codes (RULES 7.1 to 7.4 and 7.13; 000, Table 3.2.3b), counted down: the greatest code is no-data, one less
 -- is out-of-range, two less is reserved, where the width has them; all others are numbers. In a plain row every code is
 -- a number. In a row of two states 10b is an error, out-of-range.
-use Rattle.std.specs.Prelude.{Bool, ℕ, ◌-◌, ◌^◌}
-use Rattle.words.specs.Words.{if◌then◌else◌, ◌≤?◌, ◌=?◌, ◌and◌, ◌or◌}
+use Rattle.std.specs.Prelude.{Bool, ℕ, ◌-◌, ◌^◌, if◌then◌else◌}
+use Rattle.words.specs.Words.{◌≤?◌, ◌=?◌, ◌and◌, ◌or◌}
 use Rattle.catalogue.specs.declared.Row.{Row}
 use Rattle.catalogue.specs.declared.Class.{Class}
 use Rattle.catalogue.specs.declared.Class.TheVariants.{Number, NoData, OutOfRange, Reserved}

@@ -1,7 +1,7 @@
 -- The code that is written for a value (RULES 7.9 and 7.10): for a class its own code, for a scaled value the number
 -- that has this value; 12 where there is none.
-use Rattle.std.specs.Prelude.{not, ℕ, ◌-◌, ◌/◌, ◌%◌, ◌^◌, ℤ, pos, negsuc, ◌+ℤ◌}
-use Rattle.words.specs.Words.{if◌then◌else◌, given◌then◌, ◌<?◌, ◌≤?◌, ◌=?◌, Told, refused, gives}
+use Rattle.std.specs.Prelude.{not, ℕ, ◌-◌, ◌/◌, ◌%◌, ◌^◌, ℤ, pos, negsuc, ◌+ℤ◌, if◌then◌else◌}
+use Rattle.words.specs.Words.{given◌then◌, ◌<?◌, ◌≤?◌, ◌=?◌, Told, refused, gives}
 use Rattle.catalogue.specs.Classes.{greatest_code, class_in, below_greatest, ◌is◌}
 use Rattle.catalogue.specs.Scale.{steps_of}
 use Rattle.catalogue.specs.declared.Row.{Row}

@@ -1,8 +1,8 @@
 -- The laws of this crate (RULES 6 and 7), each a named statement. proofs/Laws.antt has a proof of each, under the same
 -- name written small.
-use Rattle.std.specs.Prelude.{◌≡◌, Bool, true, false, not, List, ◌↔◌, ◌⊎◌, ℕ, ◌+◌, ◌*◌, ◌-◌, ◌^◌, ◌≤◌, ◌<◌, ℤ, pos, negsuc, length, get_or}
+use Rattle.std.specs.Prelude.{◌≡◌, Bool, true, false, not, List, ◌↔◌, ◌⊎◌, ℕ, ◌+◌, ◌*◌, ◌-◌, ◌^◌, ◌≤◌, ◌<◌, ℤ, pos, negsuc, length, get_or, if◌then◌else◌}
 use Rattle.std.specs.Int.Signed.{mag}
-use Rattle.words.specs.Words.{if◌then◌else◌, ◌<?◌, ◌=?◌, ◌and◌, ◌or◌, refused, gives}
+use Rattle.words.specs.Words.{◌<?◌, ◌=?◌, ◌and◌, ◌or◌, refused, gives}
 use Rattle.words.specs.Lists.{count}
 use Rattle.frame.specs.Bytes.{number_of, AreBytes}
 use Rattle.frame.specs.Identifier.{catalogue_form}

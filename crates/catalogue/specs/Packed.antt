@@ -1,7 +1,7 @@
 -- A table of packed rows (RULES 6.5 and 6.14). A row is one number, in hexadecimal digits DGN (5), first bit (2), width
 -- (2), unit (1), mark (1).
-use Rattle.std.specs.Prelude.{not, List, map, ℕ, zero, suc, ◌+◌, ◌*◌, ◌-◌, ◌/◌, ◌%◌, length}
-use Rattle.words.specs.Words.{if◌then◌else◌, given◌then◌, ◌<?◌, ◌=?◌, Told, refused, gives}
+use Rattle.std.specs.Prelude.{not, List, map, ℕ, zero, suc, ◌+◌, ◌*◌, ◌-◌, ◌/◌, ◌%◌, length, if◌then◌else◌}
+use Rattle.words.specs.Words.{given◌then◌, ◌<?◌, ◌=?◌, Told, refused, gives}
 use Rattle.catalogue.specs.Rows.{rows}
 use Rattle.catalogue.specs.Table.{nth, row_in, row_with, lies_in_frame}
 use Rattle.catalogue.specs.declared.Row.{Row}

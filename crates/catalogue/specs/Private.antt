@@ -1,6 +1,6 @@
 -- What the private functions of this crate promise, where it is no definition of the others (for RULES 7.9 and 7.10).
-use Rattle.std.specs.Prelude.{ℕ, ◌+◌, ◌-◌, ℤ, pos, negsuc}
-use Rattle.words.specs.Words.{if◌then◌else◌, ◌≤?◌, Told, refused, gives}
+use Rattle.std.specs.Prelude.{ℕ, ◌+◌, ◌-◌, ℤ, pos, negsuc, if◌then◌else◌}
+use Rattle.words.specs.Words.{◌≤?◌, Told, refused, gives}
 use Rattle.catalogue.specs.Codes.{stepped_code}
 use Rattle.catalogue.specs.declared.Row.{Row}
 use Rattle.catalogue.specs.declared.scale.Sign.{Sign}

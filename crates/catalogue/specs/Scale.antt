@@ -1,7 +1,7 @@
 -- Scaled values (RULES 7.5 and 7.6; 000, 5.3): signed whole numbers of a step. Percent in halves, °C in 1/32, volts and
 -- amperes in 1/20, hertz in 1/128; other rows give the code.
-use Rattle.std.specs.Prelude.{ℕ, ℤ, pos, ◌-ℤ◌, ◌*ℤ◌}
-use Rattle.words.specs.Words.{if◌then◌else◌, ◌=?◌, ◌or◌}
+use Rattle.std.specs.Prelude.{ℕ, ℤ, pos, ◌-ℤ◌, ◌*ℤ◌, if◌then◌else◌}
+use Rattle.words.specs.Words.{◌=?◌, ◌or◌}
 use Rattle.catalogue.specs.declared.Row.{Row}
 use Rattle.catalogue.specs.declared.Unit.{Unit}
 use Rattle.catalogue.specs.declared.Unit.TheVariants.{Other, Percent, Celsius, Volt, Ampere, Hertz}

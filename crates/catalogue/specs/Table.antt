@@ -1,7 +1,7 @@
 -- Rows by their number, by their DGN, and by DGN and first bit, in any list of rows (RULES 6.13), and the rule of a
 -- whole table (RULES 6.4). The catalogue is the list `rows`.
-use Rattle.std.specs.Prelude.{◌≡◌, Bool, true, List, [], ◌∷◌, ℕ, ◌+◌, ◌*◌, length, get_or}
-use Rattle.words.specs.Words.{if◌then◌else◌, ◌and◌, ◌<?◌, ◌≤?◌, ◌=?◌, Told, refused, gives}
+use Rattle.std.specs.Prelude.{◌≡◌, Bool, true, List, [], ◌∷◌, ℕ, ◌+◌, ◌*◌, length, get_or, if◌then◌else◌}
+use Rattle.words.specs.Words.{◌and◌, ◌<?◌, ◌≤?◌, ◌=?◌, Told, refused, gives}
 use Rattle.words.specs.Lists.{count}
 use Rattle.catalogue.specs.Rows.{row, rows, classed}
 use Rattle.catalogue.specs.Field.{widest, frame_bits}

@@ -1,7 +1,7 @@
 // Scaled values: a code's value, and the code of a value or of a class.
-ghost use Rattle.std.specs.Prelude.{◌≡◌, ◌^◌, ◌<◌};
+ghost use Rattle.std.specs.Prelude.{◌≡◌, ◌^◌, ◌<◌, if◌then◌else◌};
 ghost use Rattle.std.proofs.Math.IntN.{sub_ℕ};
-ghost use Rattle.words.specs.Words.{if◌then◌else◌, ◌=?◌};
+ghost use Rattle.words.specs.Words.{◌=?◌};
 ghost use Rattle.catalogue.specs.Field.{InFrame};
 ghost use Rattle.catalogue.specs.Scale.{steps_of, celsius_steps, ampere_steps, by_steps, scaled_of, value_of};
 ghost use Rattle.catalogue.specs.Scale.{steps_in_one};

@@ -1,5 +1,6 @@
 -- The other statements of specs/Laws.antt, proved: what is told of the answers, and what the promises of the calls come to.
 -- Assumes nothing.
+use Rattle.std.specs.Prelude.{if◌then◌else◌}
 use mathlib.Core.Path.{◌≡◌, refl, sym, ap, ◌∙◌}
 use mathlib.Core.Bool.{Bool, true, false, not}
 use mathlib.Core.List.{List, [], ◌∷◌, ◌++◌}
@@ -8,7 +9,7 @@ use native.Mathlib.Omega.{arith}
 use borrow.Author.Tests.{ne_eqb, le-leb}
 use lib.ListN.{length, replicate, get_or-append}
 use lib.Seq.{take-append_seam}
-use Rattle.words.specs.Words.{if◌then◌else◌, ◌=?◌, Told, refused, gives, given◌then◌, Done, done}
+use Rattle.words.specs.Words.{◌=?◌, Told, refused, gives, given◌then◌, Done, done}
 use Rattle.frame.specs.Bytes.{bytes_of}
 use Rattle.frame.specs.Identifier.{identifier_of}
 use Rattle.frame.specs.Frame.{frame_bytes, source_allowed, checked_of}

@@ -1,5 +1,6 @@
 -- How often a node moves (specs/Moves.antt), proved.
 -- Assumes nothing.
+use Rattle.std.specs.Prelude.{if◌then◌else◌}
 use mathlib.Core.Path.{◌≡◌, refl, sym, ap, ◌∙◌}
 use mathlib.Core.Bool.{true, false}
 use mathlib.Core.List.{List, [], ◌∷◌}
@@ -8,7 +9,7 @@ use Prim.Native.Nat.{ℕ, zero, suc, ◌+◌, ◌-◌, ◌≤◌, ◌<◌, ◌^�
 use native.Mathlib.Omega.{arith}
 use borrow.Author.Tests.{ne_eqb, eqb-true, eqb-false, ltb-true, ltb-false}
 use lib.ListN.{length, get_or, replicate, get_or-append}
-use Rattle.words.specs.Words.{if◌then◌else◌, ◌<?◌, ◌=?◌, Told, refused, gives, given◌then◌, done}
+use Rattle.words.specs.Words.{◌<?◌, ◌=?◌, Told, refused, gives, given◌then◌, done}
 use Rattle.frame.specs.Bytes.{bytes_of}
 use Rattle.frame.specs.Identifier.{identifier_of}
 use Rattle.frame.specs.Frame.{frame_bytes, checked_of}

@@ -1,10 +1,11 @@
 -- The pauses of a claim add up (specs/Pauses.antt).
 -- Assumes nothing.
+use Rattle.std.specs.Prelude.{if◌then◌else◌}
 use mathlib.Core.Path.{◌≡◌, refl, sym, ap, ◌∙◌}
 use mathlib.Core.Bool.{true, false}
 use Prim.Native.Nat.{ℕ, ◌+◌, min}
 use native.Mathlib.Omega.{arith}
-use Rattle.words.specs.Words.{if◌then◌else◌, given◌then◌, Told, refused, gives, done}
+use Rattle.words.specs.Words.{given◌then◌, Told, refused, gives, done}
 use Rattle.words.proofs.Words.{by_test, refused_gives, both_true}
 use Rattle.words.proofs.Pauses.{standing, computed_add_up}
 use Rattle.claim.specs.Claim.{held_after, keeps_rules, holds_list, waited, pause}

@@ -1,5 +1,6 @@
 -- What a state that keeps its rules and holds its list is, in plain facts; and what the code's tests show of it.
 -- Assumes nothing.
+use Rattle.std.specs.Prelude.{if◌then◌else◌}
 use mathlib.Core.Path.{◌≡◌, sym, ◌∙◌}
 use mathlib.Core.Bool.{Bool, true, false}
 use Prim.Native.Nat.{ℕ, ◌+◌, ◌-◌, ◌≤◌, ◌<◌, min}
@@ -7,7 +8,7 @@ use native.Mathlib.Omega.{arith}
 use borrow.Author.Tests.{eq-eqb, lt-ltb, le-leb, ltb-true, leb-true, eqb-true}
 use lib.ListN.{take}
 use lib.Seq.{get_or-take}
-use Rattle.words.specs.Words.{if◌then◌else◌, ◌<?◌, ◌≤?◌, ◌=?◌, ◌and◌}
+use Rattle.words.specs.Words.{◌<?◌, ◌≤?◌, ◌=?◌, ◌and◌}
 use Rattle.frame.specs.Standard.{greatest_address}
 use Rattle.words.proofs.Words.{both_true, by_test}
 use Rattle.claim.specs.Candidates.{longest_list, is_well_formed}

@@ -1,7 +1,7 @@
 -- A run of the calls of RULES 8, told by nothing but their promises: each call is handed the state that the one before
 -- it gave back.
-use Rattle.std.specs.Prelude.{List, [], ◌∷◌, ◌++◌, ℕ, ◌+◌, length}
-use Rattle.words.specs.Words.{if◌then◌else◌, ◌=?◌, Told, refused, gives}
+use Rattle.std.specs.Prelude.{List, [], ◌∷◌, ◌++◌, ℕ, ◌+◌, length, if◌then◌else◌}
+use Rattle.words.specs.Words.{◌=?◌, Told, refused, gives}
 use Rattle.frame.specs.Bytes.{number_of}
 use Rattle.frame.specs.Frame.{checked_of}
 use Rattle.frame.specs.Standard.{claim_dgn, no_frame}

@@ -1,7 +1,7 @@
 -- Claiming an address as a machine on what was heard and waited (RULES 8; J1939-81's contest of NAMEs; 000, 3.3). A
 -- state is built in two places only, `begun` and `placed`.
-use Rattle.std.specs.Prelude.{Bool, true, false, not, List, ℕ, ◌+◌, min, length, get_or, take}
-use Rattle.words.specs.Words.{if◌then◌else◌, ◌<?◌, ◌≤?◌, ◌=?◌, ◌and◌}
+use Rattle.std.specs.Prelude.{Bool, true, false, not, List, ℕ, ◌+◌, min, length, get_or, take, if◌then◌else◌}
+use Rattle.words.specs.Words.{◌<?◌, ◌≤?◌, ◌=?◌, ◌and◌}
 use Rattle.frame.specs.Bytes.{bytes_of}
 use Rattle.frame.specs.Identifier.{identifier_of}
 use Rattle.frame.specs.Frame.{frame_bytes}

@@ -1,6 +1,6 @@
 -- What the private functions of this crate promise, where it is no definition of the others (for RULES 8).
-use Rattle.std.specs.Prelude.{not, List, ℕ}
-use Rattle.words.specs.Words.{if◌then◌else◌, Told, refused, gives}
+use Rattle.std.specs.Prelude.{not, List, ℕ, if◌then◌else◌}
+use Rattle.words.specs.Words.{Told, refused, gives}
 use Rattle.frame.specs.declared.Parts.{Parts}
 use Rattle.claim.specs.Claim.{holds_list, Outcome}
 use Rattle.claim.specs.Promises.{meets_frame}

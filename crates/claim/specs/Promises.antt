@@ -1,7 +1,7 @@
 -- What each public call of this crate promises (RULES 8.16 and 13.7): one proposition over all that it answers. The
 -- answers are read as numbers and values (RULES 2.10).
-use Rattle.std.specs.Prelude.{◌≡◌, Bool, false, not, List, ℕ, length, replicate}
-use Rattle.words.specs.Words.{if◌then◌else◌, ◌=?◌, ◌and◌, Told, refused, gives, number_in, given◌then◌, Done, done}
+use Rattle.std.specs.Prelude.{◌≡◌, Bool, false, not, List, ℕ, length, replicate, if◌then◌else◌}
+use Rattle.words.specs.Words.{◌=?◌, ◌and◌, Told, refused, gives, number_in, given◌then◌, Done, done}
 use Rattle.frame.specs.Bytes.{number_of}
 use Rattle.frame.specs.Frame.{checked_of}
 use Rattle.frame.specs.Standard.{claim_dgn, Frame, no_frame}

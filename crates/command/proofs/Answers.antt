@@ -1,5 +1,6 @@
 -- The steps by which each call comes to its answer, and answers with nothing beside them.
 -- Assumes nothing.
+use Rattle.std.specs.Prelude.{if◌then◌else◌}
 use mathlib.Core.Path.{◌≡◌, refl, sym, ap, ◌∙◌}
 use mathlib.Core.Bool.{true, false}
 use mathlib.Core.List.{List, [], ◌∷◌}
@@ -7,7 +8,7 @@ use Prim.Native.Nat.{ℕ, ◌%◌, ◌<◌, ◌≤◌}
 use native.Mathlib.Nat.{div-one}
 use borrow.Author.Tests.{eq-eqb, ne_eqb, lt-ltb, le-ltb}
 use lib.ListN.{take, get_or}
-use Rattle.words.specs.Words.{if◌then◌else◌, Told, refused, gives, given◌then◌}
+use Rattle.words.specs.Words.{Told, refused, gives, given◌then◌}
 use Rattle.words.specs.Lists.{any}
 use Rattle.frame.specs.Bytes.{number_of}
 use Rattle.frame.specs.Identifier.{greatest_dgn, destination_of, catalogue_form}

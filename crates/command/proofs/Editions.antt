@@ -1,5 +1,6 @@
 -- The laws of specs/Editions.antt, proved.
 -- Assumes nothing.
+use Rattle.std.specs.Prelude.{if◌then◌else◌}
 use mathlib.Core.Path.{◌≡◌, refl, sym, ap, ◌∙◌}
 use mathlib.Core.Bool.{Bool, true, false, not}
 use mathlib.Core.List.{List, [], ◌∷◌}
@@ -10,7 +11,7 @@ use native.Mathlib.Omega.{arith}
 use borrow.Author.Tests.{eq-eqb, eqb-true, eqb-false, leb-true}
 use lib.ListN.{length, take, get_or}
 use lib.Seq.{get_or-take, length-take-le}
-use Rattle.words.specs.Words.{if◌then◌else◌, ◌≤?◌, ◌<?◌, ◌=?◌, ◌and◌, Told, refused, gives, given◌then◌, done}
+use Rattle.words.specs.Words.{◌≤?◌, ◌<?◌, ◌=?◌, ◌and◌, Told, refused, gives, given◌then◌, done}
 use Rattle.words.specs.Lists.{any, every, no_two}
 use Rattle.frame.specs.Bytes.{number_of, bytes_of}
 use Rattle.frame.specs.Identifier.{identifier_of, greatest_dgn, priority_of, reserved_of, dgn_of, source_of, parts_of}

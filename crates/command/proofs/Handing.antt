@@ -1,12 +1,13 @@
 -- What is handed in with a frame: the order of its refusals, and what is known where there is none.
 -- Assumes nothing.
+use Rattle.std.specs.Prelude.{if◌then◌else◌}
 use mathlib.Core.Path.{◌≡◌, sym, ap, ◌∙◌}
 use mathlib.Core.Bool.{true, false, not}
 use mathlib.Core.List.{List}
 use Prim.Native.Nat.{ℕ, ◌≤◌}
 use borrow.Author.Tests.{leb-true}
 use lib.ListN.{length, replicate}
-use Rattle.words.specs.Words.{if◌then◌else◌, ◌≤?◌, ◌and◌, Told, refused, gives}
+use Rattle.words.specs.Words.{◌≤?◌, ◌and◌, Told, refused, gives}
 use Rattle.frame.specs.Frame.{frame_bytes, checked_of}
 use Rattle.frame.specs.Promises.{refusal_of, told_verdict, bytes_if}
 use Rattle.frame.specs.declared.Parts.{Parts}

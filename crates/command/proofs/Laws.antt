@@ -1,5 +1,6 @@
 -- The statements of specs/Laws.antt on answers, refusals and what is handed in, proved.
 -- Assumes nothing.
+use Rattle.std.specs.Prelude.{if◌then◌else◌}
 use mathlib.Core.Path.{◌≡◌, refl, sym, ap, ◌∙◌}
 use mathlib.Core.Bool.{Bool, true, false, not}
 use mathlib.Core.List.{List, [], ◌∷◌}
@@ -9,7 +10,7 @@ use native.Mathlib.Omega.{arith}
 use borrow.Author.Tests.{ne_eqb, eqb-true}
 use lib.ListN.{length, take, get_or, replicate}
 use lib.Seq.{take_at, length-take-le, get_or-take}
-use Rattle.words.specs.Words.{if◌then◌else◌, ◌≤?◌, ◌=?◌, ◌and◌, Told, refused, gives, given◌then◌, Done, done}
+use Rattle.words.specs.Words.{◌≤?◌, ◌=?◌, ◌and◌, Told, refused, gives, given◌then◌, Done, done}
 use Rattle.words.specs.Lists.{any, every, no_two}
 use Rattle.frame.specs.Identifier.{greatest_dgn, destination_of, catalogue_form}
 use Rattle.frame.specs.Frame.{checked_of}

@@ -1,5 +1,6 @@
 -- Positions of the entries that pass a test: the loop that collects them.
 -- Assumes nothing.
+use Rattle.std.specs.Prelude.{if◌then◌else◌}
 use mathlib.Core.Path.{◌≡◌, refl, sym, ap, ◌∙◌}
 use mathlib.Core.Bool.{Bool, true, false}
 use mathlib.Core.List.{List, [], ◌∷◌, ◌++◌, append_assoc, append-nil}
@@ -8,7 +9,6 @@ use native.Mathlib.Numerals.{add-one}
 use native.Mathlib.Omega.{arith}
 use lib.ListN.{length, take, get_or, replicate, length-append}
 use lib.Seq.{take-suc, set_at, length-take-le, take-append_seam}
-use Rattle.words.specs.Words.{if◌then◌else◌}
 use Rattle.words.specs.Lists.{any}
 use Rattle.words.proofs.Words.{by_test}
 use Rattle.command.specs.Hosted.{most_entries, blank_entry}

@@ -1,5 +1,6 @@
 -- The laws of the positions and of commands by instance, proved.
 -- Assumes nothing.
+use Rattle.std.specs.Prelude.{if◌then◌else◌}
 use mathlib.Core.Path.{◌≡◌, refl, sym, ap, ◌∙◌}
 use mathlib.Core.Bool.{Bool, true, false, not}
 use mathlib.Core.List.{List, [], ◌∷◌}
@@ -8,7 +9,7 @@ use native.Mathlib.Nat.{le_of_suc-le-suc, not-suc-le-zero}
 use native.Mathlib.Omega.{arith}
 use borrow.Author.Tests.{eq-eqb, ne_eqb, eqb-true}
 use lib.ListN.{length, get_or}
-use Rattle.words.specs.Words.{if◌then◌else◌, ◌≤?◌, ◌=?◌, ◌and◌, ◌or◌, Told, refused, gives, given◌then◌}
+use Rattle.words.specs.Words.{◌≤?◌, ◌=?◌, ◌and◌, ◌or◌, Told, refused, gives, given◌then◌}
 use Rattle.words.specs.Lists.{any, every, no_two}
 use Rattle.frame.specs.Identifier.{dgn_of, catalogue_form}
 use Rattle.frame.specs.Promises.{destined}

@@ -1,7 +1,7 @@
 -- The acknowledgment, and the frames that this crate sends (RULES 10.21 to 10.26; 000 and 001, 3.2.4.4; 000, table
 -- 7.5).
-use Rattle.std.specs.Prelude.{not, List, ◌∷◌, ℕ, ◌+◌}
-use Rattle.words.specs.Words.{if◌then◌else◌, ◌<?◌, Told, refused, gives, given◌then◌}
+use Rattle.std.specs.Prelude.{not, List, ◌∷◌, ℕ, ◌+◌, if◌then◌else◌}
+use Rattle.words.specs.Words.{◌<?◌, Told, refused, gives, given◌then◌}
 use Rattle.frame.specs.Identifier.{identifier_of, greatest_dgn}
 use Rattle.frame.specs.Standard.{Frame, acknowledgment_dgn, dgn_bytes, greatest_address, unused}
 use Rattle.claim.specs.Claim.{keeps_rules, holds_list, stand_of}

@@ -1,6 +1,6 @@
 -- Commands by instance (RULES 10.5 to 10.10; 000, 3.2.4.1 and 3.2.4.5).
-use Rattle.std.specs.Prelude.{Bool, false, not, List, ℕ, get_or}
-use Rattle.words.specs.Words.{if◌then◌else◌, ◌=?◌, ◌and◌, Told, gives, given◌then◌}
+use Rattle.std.specs.Prelude.{Bool, false, not, List, ℕ, get_or, if◌then◌else◌}
+use Rattle.words.specs.Words.{◌=?◌, ◌and◌, Told, gives, given◌then◌}
 use Rattle.words.specs.Lists.{any}
 use Rattle.frame.specs.Identifier.{catalogue_form}
 use Rattle.frame.specs.Promises.{destined}

@@ -1,8 +1,8 @@
 -- The two editions of requests (RULES 10.27 to 10.34; 001, 3.2.4.3 and 3.2.4.4 as it proposes them), over runs of two
 -- calls: a node is started in an edition, and the host that the start gave hears a request. proofs/Editions.antt has a
 -- proof of each law, under the same name written small.
-use Rattle.std.specs.Prelude.{◌≡◌, Bool, true, not, List, [], ◌∷◌, ◌++◌, ◌⊎◌, ◌↔◌, ℕ, ◌+◌, ◌≤◌, ◌<◌, length, take, get_or, replicate}
-use Rattle.words.specs.Words.{if◌then◌else◌, ◌<?◌, ◌=?◌, Told, refused, gives, given◌then◌}
+use Rattle.std.specs.Prelude.{◌≡◌, Bool, true, not, List, [], ◌∷◌, ◌++◌, ◌⊎◌, ◌↔◌, ℕ, ◌+◌, ◌≤◌, ◌<◌, length, take, get_or, replicate, if◌then◌else◌}
+use Rattle.words.specs.Words.{◌<?◌, ◌=?◌, Told, refused, gives, given◌then◌}
 use Rattle.words.specs.Lists.{any}
 use Rattle.frame.specs.Identifier.{greatest_dgn, dgn_of, source_of, parts_of, destination_of, catalogue_form}
 use Rattle.frame.specs.Frame.{checked_of}

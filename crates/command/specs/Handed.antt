@@ -1,7 +1,7 @@
 -- What is handed in: the claim's state, a frame, the two lists (RULES 10.4); and the address that we hold (RULES 10.9
 -- and 10.17).
-use Rattle.std.specs.Prelude.{not, List, ℕ, length}
-use Rattle.words.specs.Words.{if◌then◌else◌, ◌and◌, Told, refused, gives, given◌then◌}
+use Rattle.std.specs.Prelude.{not, List, ℕ, length, if◌then◌else◌}
+use Rattle.words.specs.Words.{◌and◌, Told, refused, gives, given◌then◌}
 use Rattle.frame.specs.Frame.{checked_of}
 use Rattle.frame.specs.declared.Parts.{Parts}
 use Rattle.claim.specs.Claim.{keeps_rules, holds_list, Stand, held, claiming, silent}

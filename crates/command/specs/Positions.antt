@@ -1,7 +1,6 @@
 -- Positions in the hosted list: which entries pass a test, in rising order (RULES 10.6 and 10.18). Commands and
 -- requests both give them, each by a test of its own.
-use Rattle.std.specs.Prelude.{Bool, List, [], ◌∷◌, ℕ, suc, length, take}
-use Rattle.words.specs.Words.{if◌then◌else◌}
+use Rattle.std.specs.Prelude.{Bool, List, [], ◌∷◌, ℕ, suc, length, take, if◌then◌else◌}
 use Rattle.words.specs.Lists.{filled_to}
 use Rattle.command.specs.Hosted.{most_entries}
 use Rattle.command.specs.declared.Entry.{Entry}

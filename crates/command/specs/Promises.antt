@@ -1,7 +1,7 @@
 -- What each public call of this crate promises (RULES 10 and 13.7): one proposition over all that it answers. The
 -- answers are read as numbers and values (RULES 2.10).
-use Rattle.std.specs.Prelude.{◌≡◌, List, [], ℕ}
-use Rattle.words.specs.Words.{if◌then◌else◌, Told, refused, gives, number_in, Done, done}
+use Rattle.std.specs.Prelude.{◌≡◌, List, [], ℕ, if◌then◌else◌}
+use Rattle.words.specs.Words.{Told, refused, gives, number_in, Done, done}
 use Rattle.frame.specs.Standard.{Frame, no_frame}
 use Rattle.frame.specs.Promises.{refusal_of}
 use Rattle.claim.specs.declared.Claim.{Claim}

@@ -1,7 +1,7 @@
 -- Requests for a DGN (RULES 10.11 to 10.20, 10.27 and 10.28; 000 and 001, 3.2.4.3 and 3.2.4.4), in two editions. They
 -- differ in one definition, `instance_asked`: byte 3 of a request is looked at in edition two alone, byte 4 in neither.
-use Rattle.std.specs.Prelude.{Bool, false, not, List, ℕ, get_or}
-use Rattle.words.specs.Words.{if◌then◌else◌, ◌<?◌, ◌=?◌, ◌and◌, ◌or◌, Told, refused, gives, given◌then◌}
+use Rattle.std.specs.Prelude.{Bool, false, not, List, ℕ, get_or, if◌then◌else◌}
+use Rattle.words.specs.Words.{◌<?◌, ◌=?◌, ◌and◌, ◌or◌, Told, refused, gives, given◌then◌}
 use Rattle.words.specs.Lists.{any}
 use Rattle.frame.specs.Identifier.{greatest_dgn, destination_of, catalogue_form}
 use Rattle.frame.specs.Standard.{Frame, address_claimed, dgn_at, everyone, no_address, request_dgn}

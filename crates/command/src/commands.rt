@@ -1,6 +1,6 @@
 // A command: the entries that it is for.
-ghost use Rattle.std.specs.Prelude.{◌≡◌, ◌≤◌};
-ghost use Rattle.words.specs.Words.{if◌then◌else◌, gives};
+ghost use Rattle.std.specs.Prelude.{◌≡◌, ◌≤◌, if◌then◌else◌};
+ghost use Rattle.words.specs.Words.{gives};
 ghost use Rattle.frame.specs.Identifier.{catalogue_form};
 ghost use Rattle.frame.specs.Promises.{destined};
 ghost use Rattle.command.specs.Hosted.{hosted};

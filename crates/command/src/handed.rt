@@ -1,6 +1,6 @@
 // What is handed in with a frame: 2, then 3 to 6, then 16.
-ghost use Rattle.std.specs.Prelude.{◌≡◌, not, replicate};
-ghost use Rattle.words.specs.Words.{if◌then◌else◌, ◌and◌, refused, gives};
+ghost use Rattle.std.specs.Prelude.{◌≡◌, not, replicate, if◌then◌else◌};
+ghost use Rattle.words.specs.Words.{◌and◌, refused, gives};
 ghost use Rattle.claim.specs.Claim.{holds_list};
 ghost use Rattle.command.specs.Hosted.{is_well_formed};
 ghost use Rattle.command.specs.Handed.{handed_in};

@@ -1,6 +1,5 @@
 // The positions of the entries that a frame asks for, in one loop for commands and requests.
-ghost use Rattle.std.specs.Prelude.{◌≡◌, [], ◌<◌, ◌≤◌};
-ghost use Rattle.words.specs.Words.{if◌then◌else◌};
+ghost use Rattle.std.specs.Prelude.{◌≡◌, [], ◌<◌, ◌≤◌, if◌then◌else◌};
 ghost use Rattle.command.specs.Hosted.{hosted};
 ghost use Rattle.command.specs.Positions.{positions_where, filled};
 ghost use Rattle.command.specs.Commands.{is_meant};

@@ -1,8 +1,8 @@
 -- The worked examples of RULES 13.11: one table, one statement. A line has the example's number, what the promise's own
 -- definition gives, and what the example's result is, both as numbers: a refusal is its number alone, what is given
 -- begins with 0.
-use Rattle.std.specs.Prelude.{◌≡◌, List, [], ◌∷◌, ◌++◌, ℕ, ◌+◌, ℤ, pos, negsuc, replicate}
-use Rattle.words.specs.Words.{if◌then◌else◌, ◌=?◌, Told, refused, gives}
+use Rattle.std.specs.Prelude.{◌≡◌, List, [], ◌∷◌, ◌++◌, ℕ, ◌+◌, ℤ, pos, negsuc, replicate, if◌then◌else◌}
+use Rattle.words.specs.Words.{◌=?◌, Told, refused, gives}
 use Rattle.frame.specs.Identifier.{source_of, identifier_of}
 use Rattle.frame.specs.Frame.{formed_of}
 use Rattle.frame.specs.Standard.{Frame}

@@ -1,5 +1,6 @@
 -- The statements of specs/Laws.antt, proved.
 -- Assumes nothing.
+use Rattle.std.specs.Prelude.{if◌then◌else◌}
 use mathlib.Core.Path.{◌≡◌, refl, sym, ap, ◌∙◌, subst, subst⁻¹}
 use mathlib.Core.Bool.{Bool, true, false, not}
 use mathlib.Core.List.{List, [], ◌∷◌}
@@ -11,7 +12,7 @@ use borrow.Author.Tests.{eqb-true, eqb-false, leb-true, leb-false, ltb-true, ltb
 use borrow.Author.Tests.{le-leb, lt-leb}
 use lib.ListN.{length, drop, get_or, length-drop}
 use lib.Seq.{get_or-drop, take-append_seam}
-use Rattle.words.specs.Words.{if◌then◌else◌, ◌=?◌, ◌<?◌, ◌≤?◌, ◌and◌, bits, Told, refused, gives, number_in}
+use Rattle.words.specs.Words.{◌=?◌, ◌<?◌, ◌≤?◌, ◌and◌, bits, Told, refused, gives, number_in}
 use Rattle.words.specs.Lists.{every, count, first, Distinct}
 use Rattle.frame.specs.Identifier.{greatest_dgn}
 use Rattle.frame.specs.Standard.{announcement_dgn, packet_dgn, bytes_in}

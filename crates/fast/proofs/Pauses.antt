@@ -1,12 +1,13 @@
 -- The pauses of fast packets add up (specs/Pauses.antt): at one place, and at all eight.
 -- Assumes nothing.
+use Rattle.std.specs.Prelude.{if◌then◌else◌}
 use mathlib.Core.Path.{◌≡◌, refl, ◌∙◌}
 use mathlib.Core.Bool.{true, false}
 use mathlib.Core.List.{List, map}
 use Prim.Native.Nat.{ℕ, ◌+◌, ◌<◌, ◌≤◌}
 use native.Mathlib.Omega.{arith}
 use borrow.Author.Tests.{ltb-true, lt-ltb, le-ltb}
-use Rattle.words.specs.Words.{if◌then◌else◌, given◌then◌, ◌<?◌, Told, refused, gives, Done, done}
+use Rattle.words.specs.Words.{given◌then◌, ◌<?◌, Told, refused, gives, Done, done}
 use Rattle.words.specs.Lists.{every, count}
 use Rattle.words.proofs.Words.{by_test, before_refusal}
 use Rattle.words.proofs.Pauses.{standing, computed_add_up, map_sum, map_none, count_sum, count_none}

@@ -1,5 +1,6 @@
 -- The bytes of a frame, copied over a filling of FFh, and the splitter's refusals.
 -- Assumes nothing.
+use Rattle.std.specs.Prelude.{if◌then◌else◌}
 use mathlib.Core.Path.{◌≡◌, refl, sym, ap, ◌∙◌}
 use mathlib.Core.Bool.{Bool, true, false}
 use mathlib.Core.List.{List, ◌∷◌, ◌++◌}
@@ -8,7 +9,7 @@ use native.Mathlib.Omega.{arith}
 use borrow.Author.Tests.{ltb-false}
 use lib.ListN.{length, take, drop, replicate, length-drop}
 use lib.Seq.{paste}
-use Rattle.words.specs.Words.{if◌then◌else◌, ◌<?◌, gives}
+use Rattle.words.specs.Words.{◌<?◌, gives}
 use Rattle.frame.specs.Frame.{frame_bytes}
 use Rattle.frame.specs.Standard.{unused}
 use Rattle.words.proofs.Lists.{filled}

@@ -1,7 +1,7 @@
 -- Fast packets on the bus (RULES 12.1 and 12.5 to 12.7; NMEA 2000's format, as 003 has it in 3.3): what a frame is, the
 -- limits, and the pair of sender and DGN that a message belongs to.
-use Rattle.std.specs.Prelude.{List, ℕ, ◌+◌, ◌-◌, ◌*◌, ◌/◌, min, length}
-use Rattle.words.specs.Words.{if◌then◌else◌, ◌≤?◌, ◌=?◌, ◌and◌, bits, Told, refused, gives, given◌then◌}
+use Rattle.std.specs.Prelude.{List, ℕ, ◌+◌, ◌-◌, ◌*◌, ◌/◌, min, length, if◌then◌else◌}
+use Rattle.words.specs.Words.{◌≤?◌, ◌=?◌, ◌and◌, bits, Told, refused, gives, given◌then◌}
 use Rattle.frame.specs.Frame.{checked_of}
 use Rattle.frame.specs.Bytes.{byte_at}
 use Rattle.fast.specs.Names.{is_named}

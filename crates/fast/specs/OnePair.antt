@@ -1,8 +1,8 @@
 -- The single-pair rules (RULES 12.22): what frame 0, a later frame and a pause do to the one message that a pair of
 -- sender and DGN may have open. No places and no storage: an open message is what has been collected of it.
-use Rattle.std.specs.Prelude.{List, ◌++◌, ℕ, ◌+◌, take, drop}
+use Rattle.std.specs.Prelude.{List, ◌++◌, ℕ, ◌+◌, take, drop, if◌then◌else◌}
 use Rattle.std.proofs.Math.Option.{Option, some, none}
-use Rattle.words.specs.Words.{if◌then◌else◌, ◌<?◌, ◌≤?◌, ◌=?◌, ◌and◌, Told, refused, gives}
+use Rattle.words.specs.Words.{◌<?◌, ◌≤?◌, ◌=?◌, ◌and◌, Told, refused, gives}
 use Rattle.frame.specs.Identifier.{source_of, dgn_of}
 use Rattle.frame.specs.Standard.{Frame}
 use Rattle.places.specs.Format.{Asks, fixed, opens, finishes, feeds, Fed, goes, ends, Format}

@@ -1,6 +1,6 @@
 -- The splitter: a message as numbered frames of one sequence (RULES 12.20 and 12.21).
-use Rattle.std.specs.Prelude.{List, ◌∷◌, ◌++◌, ℕ, length, take, drop, replicate}
-use Rattle.words.specs.Words.{if◌then◌else◌, ◌<?◌, ◌=?◌, Told, refused, gives}
+use Rattle.std.specs.Prelude.{List, ◌∷◌, ◌++◌, ℕ, length, take, drop, replicate, if◌then◌else◌}
+use Rattle.words.specs.Words.{◌<?◌, ◌=?◌, Told, refused, gives}
 use Rattle.frame.specs.Standard.{unused}
 use Rattle.fast.specs.FastPacket.{first_byte_of, greatest_sequence, first_bytes, later_bytes, longest, offset_of}
 use Rattle.fast.specs.FastPacket.{last_frame}

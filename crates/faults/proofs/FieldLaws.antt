@@ -1,5 +1,6 @@
 -- The statements of specs/FieldLaws.antt, proved.
 -- Assumes nothing.
+use Rattle.std.specs.Prelude.{if◌then◌else◌}
 use mathlib.Core.Path.{◌≡◌, refl, sym, ap, ◌∙◌}
 use mathlib.Core.Bool.{false}
 use mathlib.Core.List.{List}
@@ -8,7 +9,7 @@ use Prim.Native.Nat.{ℕ, ◌<◌}
 use native.Mathlib.Omega.{arith}
 use borrow.Author.Tests.{ltb-true, ltb-false}
 use lib.ListN.{length}
-use Rattle.words.specs.Words.{if◌then◌else◌, ◌<?◌, ◌=?◌, Told, refused, gives}
+use Rattle.words.specs.Words.{◌<?◌, ◌=?◌, Told, refused, gives}
 use Rattle.frame.specs.Bytes.{number_of, bytes_of, AreBytes}
 use Rattle.frame.specs.Identifier.{priority_of, reserved_of, dgn_of, source_of, is_addressed, catalogue_form}
 use Rattle.frame.specs.Frame.{source_allowed, checked_of}

@@ -1,5 +1,6 @@
 -- The statements of specs/Laws.antt on answers, refusals, states and steps, proved.
 -- Assumes nothing.
+use Rattle.std.specs.Prelude.{if◌then◌else◌}
 use mathlib.Core.Path.{◌≡◌, refl, sym, ap, ◌∙◌}
 use mathlib.Core.Bool.{Bool, true, false}
 use mathlib.Core.List.{List, map}
@@ -8,7 +9,7 @@ use native.Mathlib.Omega.{arith}
 use borrow.Author.Tests.{ne_eqb, le-leb, leb-true}
 use lib.ListN.{get_or, replicate}
 use lib.Seq.{get_or-set_other}
-use Rattle.words.specs.Words.{if◌then◌else◌, ◌=?◌, ◌≤?◌, ◌or◌, Told, refused, gives}
+use Rattle.words.specs.Words.{◌=?◌, ◌≤?◌, ◌or◌, Told, refused, gives}
 use Rattle.words.specs.Lists.{every, first}
 use Rattle.frame.specs.Bytes.{number_of}
 use Rattle.frame.specs.Standard.{Frame}

@@ -1,5 +1,6 @@
 -- The fault that a step sends is the one that has been due longest by the calls alone: the state's ages are the steps
 -- since it fell due, and never reach the 31 at which they stop. Assumes nothing.
+use Rattle.std.specs.Prelude.{if◌then◌else◌}
 use mathlib.Core.Path.{◌≡◌, refl, sym, ap, ◌∙◌, subst, subst⁻¹}
 use mathlib.Core.Bool.{true, false}
 use mathlib.Core.List.{List, map}
@@ -8,7 +9,7 @@ use native.Mathlib.Omega.{arith}
 use borrow.Author.Tests.{eqb-true, eqb-false, leb-true, leb-false, ltb-true, ltb-false, eq-eqb, ne_eqb}
 use lib.ListN.{length, get_or, set, replicate, length-set}
 use lib.Seq.{get_or-set_other, get_or-set_same}
-use Rattle.words.specs.Words.{if◌then◌else◌, ◌=?◌, ◌≤?◌, ◌<?◌, gives}
+use Rattle.words.specs.Words.{◌=?◌, ◌≤?◌, ◌<?◌, gives}
 use Rattle.words.proofs.Words.{by_test, true_false}
 use Rattle.words.specs.declared.Found.TheVariants.{At, Nowhere}
 use Rattle.words.proofs.Lists.{found_at}

@@ -1,5 +1,6 @@
 -- What a call of a run makes of the state, in the eight ways that the definitions have; and what the places of a state
 -- are afterwards. Assumes nothing.
+use Rattle.std.specs.Prelude.{if◌then◌else◌}
 use mathlib.Core.Path.{◌≡◌, refl, sym, ap, ◌∙◌, subst}
 use mathlib.Core.Bool.{Bool, true, false, not}
 use mathlib.Core.List.{List, [], ◌∷◌, map}
@@ -7,7 +8,7 @@ use Prim.Native.Nat.{ℕ, zero, suc, ◌≤◌, ◌<◌}
 use native.Mathlib.Nat.{le_of_suc-le-suc, not-suc-le-zero}
 use native.Mathlib.Omega.{arith}
 use lib.ListN.{length, get_or}
-use Rattle.words.specs.Words.{if◌then◌else◌, given◌then◌, ◌or◌, ◌<?◌, Told, refused, gives}
+use Rattle.words.specs.Words.{given◌then◌, ◌or◌, ◌<?◌, Told, refused, gives}
 use Rattle.words.specs.Lists.{first}
 use Rattle.words.proofs.Words.{both_true, true_false, refused_gives, gives_same, past_refusal, before_refusal}
 use Rattle.words.specs.declared.Found.{Found}

@@ -1,5 +1,6 @@
 -- The statements of specs/Laws.antt on requests, and on a host and a sender together, proved.
 -- Assumes nothing.
+use Rattle.std.specs.Prelude.{if◌then◌else◌}
 use mathlib.Core.Path.{◌≡◌, refl, sym, ap, ◌∙◌}
 use mathlib.Core.Bool.{Bool, true, false, not}
 use mathlib.Core.List.{List}
@@ -7,7 +8,7 @@ use Prim.Native.Nat.{ℕ, ◌<◌}
 use native.Mathlib.Omega.{arith}
 use borrow.Author.Tests.{ltb-true, ltb-false, eq-eqb, lt-ltb, not-false}
 use lib.ListN.{length}
-use Rattle.words.specs.Words.{if◌then◌else◌, given◌then◌, ◌=?◌, ◌<?◌, ◌and◌, ◌or◌, Told, refused, gives}
+use Rattle.words.specs.Words.{given◌then◌, ◌=?◌, ◌<?◌, ◌and◌, ◌or◌, Told, refused, gives}
 use Rattle.words.specs.Lists.{first}
 use Rattle.frame.specs.Bytes.{number_of}
 use Rattle.frame.specs.Identifier.{priority_of, reserved_of, dgn_of, source_of, identifier_of, is_addressed}

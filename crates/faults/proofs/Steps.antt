@@ -1,6 +1,7 @@
 -- The steps by which each call of a sender comes to its answer, answers with no frame beside them, a place that is
 -- read, and the pass that looks for the greatest age.
 -- Assumes nothing.
+use Rattle.std.specs.Prelude.{if◌then◌else◌}
 use mathlib.Core.Path.{◌≡◌, refl, sym, ap, ◌∙◌}
 use mathlib.Core.Bool.{Bool, true, false}
 use mathlib.Core.List.{List, [], ◌∷◌}
@@ -11,7 +12,7 @@ use native.Mathlib.Omega.{arith}
 use borrow.Author.Tests.{ltb-true, ltb-false, lt-ltb}
 use lib.ListN.{length, drop, get_or, drop_of_length-le}
 use lib.Seq.{drop-cons}
-use Rattle.words.specs.Words.{if◌then◌else◌, given◌then◌, ◌<?◌, Told, refused, gives}
+use Rattle.words.specs.Words.{given◌then◌, ◌<?◌, Told, refused, gives}
 use Rattle.words.specs.Lists.{first_from, first}
 use Rattle.frame.specs.Frame.{checked_of}
 use Rattle.frame.specs.Standard.{no_frame}

@@ -1,5 +1,6 @@
 -- One place over a run of calls: what stays of an active fault, how its time passes, and an empty place. With these the
 -- laws over calls alone. Assumes nothing.
+use Rattle.std.specs.Prelude.{if◌then◌else◌}
 use mathlib.Core.Path.{◌≡◌, refl, sym, ap, ◌∙◌}
 use mathlib.Core.Bool.{Bool, true, false}
 use mathlib.Core.List.{List, map}
@@ -8,7 +9,7 @@ use native.Mathlib.Omega.{arith}
 use borrow.Author.Tests.{eqb-true, eqb-false, leb-true, ltb-true, ltb-false, ne_eqb}
 use lib.ListN.{length, get_or, set, length-set}
 use lib.Seq.{get_or-set_other, get_or-set_same}
-use Rattle.words.specs.Words.{if◌then◌else◌, given◌then◌, ◌<?◌, ◌=?◌, ◌≤?◌, ◌or◌, gives}
+use Rattle.words.specs.Words.{given◌then◌, ◌<?◌, ◌=?◌, ◌≤?◌, ◌or◌, gives}
 use Rattle.words.specs.Lists.{any, first}
 use Rattle.frame.specs.Standard.{Frame}
 use Rattle.words.proofs.Words.{by_test, both_true}

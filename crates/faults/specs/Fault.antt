@@ -1,6 +1,6 @@
 -- One place of a sender, and what time makes of the fault in it (RULES 14.5 to 14.14; 000 and 001, 3.2.5.1).
-use Rattle.std.specs.Prelude.{Bool, not, List, ℕ, ◌+◌, ◌-◌, ◌%◌, min, replicate}
-use Rattle.words.specs.Words.{if◌then◌else◌, ◌≤?◌, ◌=?◌, ◌and◌, ◌or◌}
+use Rattle.std.specs.Prelude.{Bool, not, List, ℕ, ◌+◌, ◌-◌, ◌%◌, min, replicate, if◌then◌else◌}
+use Rattle.words.specs.Words.{◌≤?◌, ◌=?◌, ◌and◌, ◌or◌}
 use Rattle.frame.specs.Bytes.{number_of}
 use Rattle.frame.specs.Frame.{frame_bytes}
 use Rattle.faults.specs.declared.Fault.{Fault}

@@ -1,6 +1,6 @@
 -- What the private functions of this crate promise, where it is no definition of the others (for RULES 14).
-use Rattle.std.specs.Prelude.{List, [], ℕ, Bool, not}
-use Rattle.words.specs.Words.{if◌then◌else◌, ◌<?◌, Told, refused, gives}
+use Rattle.std.specs.Prelude.{List, [], ℕ, Bool, not, if◌then◌else◌}
+use Rattle.words.specs.Words.{◌<?◌, Told, refused, gives}
 use Rattle.frame.specs.Standard.{no_frame}
 use Rattle.words.specs.declared.Found.{Found}
 use Rattle.words.specs.declared.Found.TheVariants.{At, Nowhere}

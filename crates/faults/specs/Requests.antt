@@ -1,6 +1,6 @@
 -- A request for DM_RV (RULES 14.15 to 14.19).
-use Rattle.std.specs.Prelude.{Bool, not, List, [], ◌∷◌, ℕ, length, get_or}
-use Rattle.words.specs.Words.{if◌then◌else◌, given◌then◌, ◌<?◌, ◌=?◌, ◌and◌, ◌or◌, Told, refused, gives}
+use Rattle.std.specs.Prelude.{Bool, not, List, [], ◌∷◌, ℕ, length, get_or, if◌then◌else◌}
+use Rattle.words.specs.Words.{given◌then◌, ◌<?◌, ◌=?◌, ◌and◌, ◌or◌, Told, refused, gives}
 use Rattle.words.specs.Lists.{first}
 use Rattle.frame.specs.Identifier.{catalogue_form, destination_of, greatest_dgn}
 use Rattle.frame.specs.Frame.{checked_of}

@@ -1,7 +1,7 @@
 -- Runs of calls on one sender (RULES 14.20 to 14.25 and 13.6): each call is told by its promise, and gets the state
 -- that the one before it left. What is said of a run goes by the calls and what they were told, not by the state.
-use Rattle.std.specs.Prelude.{◌≡◌, Bool, true, false, List, [], ◌∷◌, ℕ, ◌+◌, ◌*◌, ◌/◌, ◌≤◌, ◌<◌, length}
-use Rattle.words.specs.Words.{if◌then◌else◌, given◌then◌, ◌=?◌, ◌or◌, Told, refused, gives}
+use Rattle.std.specs.Prelude.{◌≡◌, Bool, true, false, List, [], ◌∷◌, ℕ, ◌+◌, ◌*◌, ◌/◌, ◌≤◌, ◌<◌, length, if◌then◌else◌}
+use Rattle.words.specs.Words.{given◌then◌, ◌=?◌, ◌or◌, Told, refused, gives}
 use Rattle.words.specs.Lists.{any, count}
 use Rattle.frame.specs.Standard.{Frame}
 use Rattle.claim.specs.declared.Claim.{Claim}

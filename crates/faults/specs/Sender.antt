@@ -1,6 +1,6 @@
 -- The places of a sender, the fault that is sent at a step, and the frame of a DM_RV (RULES 14.5 to 14.14).
-use Rattle.std.specs.Prelude.{Bool, not, List, [], ◌∷◌, map, ℕ, get_or, set, replicate}
-use Rattle.words.specs.Words.{if◌then◌else◌, given◌then◌, ◌<?◌, ◌=?◌, ◌and◌, Told, refused, gives}
+use Rattle.std.specs.Prelude.{Bool, not, List, [], ◌∷◌, map, ℕ, get_or, set, replicate, if◌then◌else◌}
+use Rattle.words.specs.Words.{given◌then◌, ◌<?◌, ◌=?◌, ◌and◌, Told, refused, gives}
 use Rattle.words.specs.Lists.{every, first}
 use Rattle.frame.specs.Identifier.{identifier_of}
 use Rattle.frame.specs.Standard.{Frame}

@@ -1,7 +1,7 @@
 -- The service point number of a DM_RV (RULES 14.4; 000, Table 3.2.5.5): 19 bits over three rows, the most significant
 -- in byte 2, the least significant in bits 5 to 7 of byte 4.
-use Rattle.std.specs.Prelude.{ℕ, ◌+◌, ◌*◌, ◌/◌, ◌%◌, ◌≡◌, List, pos}
-use Rattle.words.specs.Words.{if◌then◌else◌, given◌then◌, ◌≤?◌, Told, refused, gives}
+use Rattle.std.specs.Prelude.{ℕ, ◌+◌, ◌*◌, ◌/◌, ◌%◌, ◌≡◌, List, pos, if◌then◌else◌}
+use Rattle.words.specs.Words.{given◌then◌, ◌≤?◌, Told, refused, gives}
 use Rattle.catalogue.specs.Catalogue.{read_row_of, written_row_of}
 use Rattle.catalogue.specs.declared.Field.{Field}
 use Rattle.catalogue.specs.declared.Value.TheVariants.{Scaled}

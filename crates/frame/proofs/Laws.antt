@@ -1,5 +1,6 @@
 -- The statements of specs/Laws.antt, proved.
 -- Assumes nothing.
+use Rattle.std.specs.Prelude.{if◌then◌else◌}
 use mathlib.Core.Path.{◌≡◌, refl, sym, ap, ◌∙◌}
 use mathlib.Core.Bool.{Bool, true, false, not}
 use Prim.Native.Nat.{ℕ, ◌+◌, ◌*◌, ◌/◌, ◌^◌, ◌≤◌, ◌<◌}
@@ -7,7 +8,7 @@ use native.Mathlib.Omega.{arith}
 use borrow.Author.Tests.{eq-eqb, ne_eqb, le-ltb, le-leb, lt-leb, ltb-false, leb-false, eqb-false}
 use lib.ListN.{length}
 use lib.Pow.{shr-shr}
-use Rattle.words.specs.Words.{if◌then◌else◌, ◌≤?◌, ◌<?◌, ◌=?◌, Told, refused, gives}
+use Rattle.words.specs.Words.{◌≤?◌, ◌<?◌, ◌=?◌, Told, refused, gives}
 use Rattle.frame.specs.Identifier.{priority_of, reserved_of, dgn_of, source_of, parts_of, identifier_of, identifiers}
 use Rattle.frame.specs.Identifier.{greatest_dgn, lowest_priority}
 use Rattle.frame.specs.Frame.{frame_bytes, source_allowed, apart_of, formed_of, checked_of}

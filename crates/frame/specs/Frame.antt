@@ -1,7 +1,7 @@
 -- A frame looked at by itself (RULES 3.8 to 3.10): what refusals 3, 4, 5, 6 and 12 say of identifier and data, the
 -- lowest number first.
-use Rattle.std.specs.Prelude.{Bool, true, false, not, ℕ}
-use Rattle.words.specs.Words.{if◌then◌else◌, ◌<?◌, ◌≤?◌, ◌=?◌, ◌or◌, bits, Told, refused, gives}
+use Rattle.std.specs.Prelude.{Bool, true, false, not, ℕ, if◌then◌else◌}
+use Rattle.words.specs.Words.{◌<?◌, ◌≤?◌, ◌=?◌, ◌or◌, bits, Told, refused, gives}
 use Rattle.frame.specs.Identifier.{reserved_of, source_of, dgn_of, parts_of, identifier_of, identifiers, greatest_dgn}
 use Rattle.frame.specs.Identifier.{lowest_priority}
 use Rattle.frame.specs.declared.Parts.{Parts}

@@ -1,7 +1,7 @@
 -- The 29-bit identifier of a CAN frame, at J1939-21's bit positions (RULES 3.1, 3.4 and 3.5). 000's table 3.2b prints
 -- the address rows eight bits too high; J1939-21 decides (RULES 1.6).
-use Rattle.std.specs.Prelude.{Bool, ℕ, ◌+◌, ◌*◌, ◌-◌, ◌^◌}
-use Rattle.words.specs.Words.{if◌then◌else◌, ◌<?◌, bits}
+use Rattle.std.specs.Prelude.{Bool, ℕ, ◌+◌, ◌*◌, ◌-◌, ◌^◌, if◌then◌else◌}
+use Rattle.words.specs.Words.{◌<?◌, bits}
 use Rattle.frame.specs.declared.Parts.{Parts}
 
 unfoldable pub priority_of : ℕ → ℕ

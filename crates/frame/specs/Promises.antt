@@ -1,7 +1,7 @@
 -- What each public call of this crate promises (RULES 3.9 to 3.12 and 13.7): one proposition over all that it answers.
 -- The answers are read as numbers and values (RULES 2.10).
-use Rattle.std.specs.Prelude.{◌≡◌, List, [], ◌∷◌, ℕ, length, replicate}
-use Rattle.words.specs.Words.{if◌then◌else◌, ◌=?◌, Told, refused, gives, number_in}
+use Rattle.std.specs.Prelude.{◌≡◌, List, [], ◌∷◌, ℕ, length, replicate, if◌then◌else◌}
+use Rattle.words.specs.Words.{◌=?◌, Told, refused, gives, number_in}
 use Rattle.frame.specs.Bytes.{number_of, bytes_of}
 use Rattle.frame.specs.Identifier.{is_addressed, destination_of, catalogue_form}
 use Rattle.frame.specs.Frame.{apart_of, formed_of, checked_of, frame_bytes}

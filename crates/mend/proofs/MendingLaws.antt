@@ -1,5 +1,6 @@
 -- The statements of specs/Laws.antt about one line, proved.
 -- Assumes nothing.
+use Rattle.std.specs.Prelude.{if◌then◌else◌}
 use mathlib.Core.Path.{◌≡◌, refl, sym, ap, subst, ◌∙◌}
 use mathlib.Core.Bool.{Bool, true, false}
 use mathlib.Core.List.{List, [], ◌∷◌, ◌++◌, append-nil}
@@ -9,7 +10,7 @@ use native.Mathlib.Omega.{arith}
 use borrow.Author.Tests.{ltb-false, eqb-false, ne_eqb}
 use lib.Dec.{lit<, lit≤}
 use lib.ListN.{length, length-map}
-use Rattle.words.specs.Words.{if◌then◌else◌, given◌then◌, ◌<?◌, ◌=?◌, ◌or◌, Told, refused, gives}
+use Rattle.words.specs.Words.{given◌then◌, ◌<?◌, ◌=?◌, ◌or◌, Told, refused, gives}
 use Rattle.words.specs.Lists.{any}
 use Rattle.words.proofs.Words.{past_refusal, gives_same, refused_gives, refused_same}
 use Rattle.text.specs.Text.{digits, decimal_width, decimal, byte_pairs}

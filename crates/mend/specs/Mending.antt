@@ -1,7 +1,7 @@
 -- A line mended (RULES 17.3 to 17.8 and 17.10; 17.15 and 17.16 for the second half): its fields as they stand, the four
 -- mendings, and what becomes of the line.
-use Rattle.std.specs.Prelude.{◌≡◌, Bool, true, false, List, [], ◌∷◌, ◌++◌, map, ℕ, ◌-◌, ◌≤◌, length, drop, replicate}
-use Rattle.words.specs.Words.{if◌then◌else◌, given◌then◌, ◌<?◌, ◌≤?◌, ◌=?◌, ◌and◌, ◌or◌, Told, refused, gives}
+use Rattle.std.specs.Prelude.{◌≡◌, Bool, true, false, List, [], ◌∷◌, ◌++◌, map, ℕ, ◌-◌, ◌≤◌, length, drop, replicate, if◌then◌else◌}
+use Rattle.words.specs.Words.{given◌then◌, ◌<?◌, ◌≤?◌, ◌=?◌, ◌and◌, ◌or◌, Told, refused, gives}
 use Rattle.words.specs.Lists.{any}
 use Rattle.text.specs.Text.{digit0}
 use Rattle.capture.specs.Digits.{value_of, number_read}

@@ -1,6 +1,6 @@
 -- What the private functions promise of a line, by places in it and in the lent bytes (for RULES 17.3 to 17.12).
-use Rattle.std.specs.Prelude.{◌≡◌, Bool, true, false, List, [], ◌++◌, ℕ, ◌+◌, ◌-◌, ◌≤◌, length, take, drop}
-use Rattle.words.specs.Words.{if◌then◌else◌, Told, refused, gives}
+use Rattle.std.specs.Prelude.{◌≡◌, Bool, true, false, List, [], ◌++◌, ℕ, ◌+◌, ◌-◌, ◌≤◌, length, take, drop, if◌then◌else◌}
+use Rattle.words.specs.Words.{Told, refused, gives}
 use Rattle.words.specs.declared.Found.{Found}
 use Rattle.words.specs.declared.Found.TheVariants.{At, Nowhere}
 use Rattle.text.specs.Text.{text}

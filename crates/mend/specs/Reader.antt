@@ -1,7 +1,6 @@
 -- The lines of a block taken one after the other, and the end of the capture, in either pass: what the reader promises
 -- (RULES 17.14).
-use Rattle.std.specs.Prelude.{◌≡◌, List, [], ℕ, ◌+◌, ◌≤◌, ◌<◌, length, take}
-use Rattle.words.specs.Words.{if◌then◌else◌}
+use Rattle.std.specs.Prelude.{◌≡◌, List, [], ℕ, ◌+◌, ◌≤◌, ◌<◌, length, take, if◌then◌else◌}
 use Rattle.capture.specs.Stream.{Piece}
 use Rattle.capture.specs.Runs.{Stop, goes_on, block_used, all_read, Ran, end_text}
 use Rattle.capture.specs.declared.Cutter.{Cutter}

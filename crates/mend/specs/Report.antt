@@ -1,8 +1,8 @@
 -- What the program writes of a capture (RULES 17.1, 17.2, 17.9 and 17.11 to 17.13): the mended lines, and behind them
 -- a line for each that was changed or dropped. Everything is text, as the list of its bytes.
-use Rattle.std.specs.Prelude.{Bool, false, List, [], ◌∷◌, ◌++◌, ℕ, ◌+◌}
+use Rattle.std.specs.Prelude.{Bool, false, List, [], ◌∷◌, ◌++◌, ℕ, ◌+◌, if◌then◌else◌}
 use Prim.Native.String.{String}
-use Rattle.words.specs.Words.{if◌then◌else◌, ◌or◌, Told, refused, gives}
+use Rattle.words.specs.Words.{◌or◌, Told, refused, gives}
 use Rattle.text.specs.Text.{text, decimal}
 use Rattle.capture.specs.Stream.{Piece, whole, too_long, lines_of}
 use Rattle.mend.specs.Mending.{Mended, mended}

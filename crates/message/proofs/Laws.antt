@@ -1,5 +1,6 @@
 -- The statements of specs/Laws.antt, proved.
 -- Assumes nothing.
+use Rattle.std.specs.Prelude.{if◌then◌else◌}
 use mathlib.Core.Path.{◌≡◌, refl, sym, ap, ◌∙◌, subst, subst⁻¹}
 use mathlib.Core.Bool.{true, false}
 use mathlib.Core.List.{List}
@@ -9,7 +10,7 @@ use native.Mathlib.Omega.{arith}
 use borrow.Author.Tests.{eqb-true, eqb-false, ltb-true, ltb-false}
 use lib.ListN.{length, drop, get_or, set, length-drop}
 use lib.Seq.{get_or-drop}
-use Rattle.words.specs.Words.{if◌then◌else◌, ◌=?◌, ◌<?◌, Told, refused, gives, number_in}
+use Rattle.words.specs.Words.{◌=?◌, ◌<?◌, Told, refused, gives, number_in}
 use Rattle.words.specs.Lists.{count, first}
 use Rattle.frame.specs.Frame.{frame_bytes}
 use Rattle.frame.specs.Promises.{refusal_of}

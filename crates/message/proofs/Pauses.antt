@@ -1,12 +1,13 @@
 -- What a pause makes of places that keep their rules: it leaves places that keep them. And pauses add up.
 -- Assumes nothing.
+use Rattle.std.specs.Prelude.{if◌then◌else◌}
 use mathlib.Core.Path.{◌≡◌, refl, ◌∙◌}
 use mathlib.Core.Bool.{true, false}
 use mathlib.Core.List.{List, map}
 use Prim.Native.Nat.{ℕ, ◌+◌, ◌<◌, ◌≤◌}
 use native.Mathlib.Omega.{arith}
 use borrow.Author.Tests.{le-leb, ltb-true, ltb-false, lt-ltb, le-ltb}
-use Rattle.words.specs.Words.{if◌then◌else◌, given◌then◌, ◌<?◌, Told, refused, gives, Done, done}
+use Rattle.words.specs.Words.{given◌then◌, ◌<?◌, Told, refused, gives, Done, done}
 use Rattle.words.specs.Lists.{every, count}
 use Rattle.words.proofs.Words.{by_test, both_true, before_refusal}
 use Rattle.words.proofs.Lists.{every_map}

@@ -1,7 +1,7 @@
 -- Long messages on the bus (RULES 4.1 to 4.7 and 4.11; J1939-21's broadcast transfer): what an announcement and a data
 -- packet are, and the limits.
-use Rattle.std.specs.Prelude.{List, ℕ, ◌+◌, ◌-◌, ◌*◌, ◌/◌, min, length, take, drop}
-use Rattle.words.specs.Words.{if◌then◌else◌, ◌≤?◌, ◌=?◌, ◌and◌, Told, refused, gives, given◌then◌}
+use Rattle.std.specs.Prelude.{List, ℕ, ◌+◌, ◌-◌, ◌*◌, ◌/◌, min, length, take, drop, if◌then◌else◌}
+use Rattle.words.specs.Words.{◌≤?◌, ◌=?◌, ◌and◌, Told, refused, gives, given◌then◌}
 use Rattle.frame.specs.Bytes.{number_of, byte_at}
 use Rattle.frame.specs.Identifier.{greatest_dgn}
 use Rattle.frame.specs.Frame.{checked_of}

@@ -1,8 +1,8 @@
 -- The single-sender rules (RULES 4.14): what an announcement, a data packet and a pause do to the one message that a
 -- sender may have open. No places and no storage: an open message is what has been collected of it.
-use Rattle.std.specs.Prelude.{List, [], ◌++◌, ℕ, ◌+◌, take, drop}
+use Rattle.std.specs.Prelude.{List, [], ◌++◌, ℕ, ◌+◌, take, drop, if◌then◌else◌}
 use Rattle.std.proofs.Math.Option.{Option, some, none}
-use Rattle.words.specs.Words.{if◌then◌else◌, ◌<?◌, ◌=?◌, Told, refused, gives}
+use Rattle.words.specs.Words.{◌<?◌, ◌=?◌, Told, refused, gives}
 use Rattle.frame.specs.Identifier.{source_of}
 use Rattle.frame.specs.Standard.{Frame}
 use Rattle.places.specs.Format.{Asks, fixed, opens, feeds, Fed, goes, ends, Format}

@@ -1,8 +1,8 @@
 -- How many packets a message has (RULES 5.16 and 5.17, request #110). One that is split has no more than a byte can
 -- number; so no refusal is needed for that. The splitter, which had one, answers what it answered then.
 -- proofs/PacketCount.antt has a proof of each statement, under the same name written small.
-use Rattle.std.specs.Prelude.{◌≡◌, List, ◌≢◌, ◌⊎◌, ℕ, ◌≤◌, ◌<◌, length}
-use Rattle.words.specs.Words.{if◌then◌else◌, ◌<?◌, Told, refused, gives, given◌then◌, number_in}
+use Rattle.std.specs.Prelude.{◌≡◌, List, ◌≢◌, ◌⊎◌, ℕ, ◌≤◌, ◌<◌, length, if◌then◌else◌}
+use Rattle.words.specs.Words.{◌<?◌, Told, refused, gives, given◌then◌, number_in}
 use Rattle.frame.specs.Bytes.{byte_at}
 use Rattle.frame.specs.Identifier.{greatest_dgn}
 use Rattle.message.specs.LongMessage.{shortest, longest, packets_of}

@@ -1,7 +1,7 @@
 -- What each public call of this crate promises (RULES 5 and 13.7): one proposition over answer, state and every lent
 -- byte. The answers are read as numbers and values (RULES 2.10).
-use Rattle.std.specs.Prelude.{◌≡◌, List, [], ℕ, length, replicate}
-use Rattle.words.specs.Words.{if◌then◌else◌, ◌<?◌, Told, refused, gives, number_in}
+use Rattle.std.specs.Prelude.{◌≡◌, List, [], ℕ, length, replicate, if◌then◌else◌}
+use Rattle.words.specs.Words.{◌<?◌, Told, refused, gives, number_in}
 use Rattle.frame.specs.Promises.{refusal_of}
 use Rattle.frame.specs.Standard.{bytes_in}
 use Rattle.places.specs.Places.{place_count}

@@ -1,7 +1,7 @@
 -- The receiver: eight places over lent storage (RULES 5.1 to 5.13).
-use Rattle.std.specs.Prelude.{refl, Bool, not, List, map, ℕ, ◌+◌, ◌-◌, ◌*◌, length, take, drop, get_or, set}
+use Rattle.std.specs.Prelude.{refl, Bool, not, List, map, ℕ, ◌+◌, ◌-◌, ◌*◌, length, take, drop, get_or, set, if◌then◌else◌}
 use Rattle.std.proofs.Math.Seq.{paste}
-use Rattle.words.specs.Words.{if◌then◌else◌, ◌<?◌, ◌≤?◌, ◌=?◌, ◌and◌, Told, refused, gives}
+use Rattle.words.specs.Words.{◌<?◌, ◌≤?◌, ◌=?◌, ◌and◌, Told, refused, gives}
 use Rattle.words.specs.Lists.{every, count, first, or_else}
 use Rattle.frame.specs.Identifier.{greatest_dgn}
 use Rattle.words.specs.declared.Found.{Found}

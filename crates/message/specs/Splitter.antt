@@ -1,6 +1,6 @@
 -- The splitter: a message as an announcement and numbered data packets (RULES 5.14 and 5.15).
-use Rattle.std.specs.Prelude.{List, ◌∷◌, ◌++◌, ℕ, ◌-◌, ◌*◌, length, take, drop, replicate}
-use Rattle.words.specs.Words.{if◌then◌else◌, ◌<?◌, ◌=?◌, ◌or◌, Told, refused, gives, given◌then◌}
+use Rattle.std.specs.Prelude.{List, ◌∷◌, ◌++◌, ℕ, ◌-◌, ◌*◌, length, take, drop, replicate, if◌then◌else◌}
+use Rattle.words.specs.Words.{◌<?◌, ◌=?◌, ◌or◌, Told, refused, gives, given◌then◌}
 use Rattle.frame.specs.Bytes.{bytes_of}
 use Rattle.frame.specs.Identifier.{greatest_dgn}
 use Rattle.frame.specs.Standard.{unused}

@@ -1,5 +1,6 @@
 -- A listener's table agrees with the network.
 -- Assumes nothing.
+use Rattle.std.specs.Prelude.{if◌then◌else◌}
 use mathlib.Core.Path.{◌≡◌, refl, sym, ap, ◌∙◌}
 use mathlib.Core.Bool.{Bool, true, false}
 use mathlib.Core.List.{List, [], ◌∷◌, ◌++◌, map, append-nil}
@@ -9,7 +10,7 @@ use Prim.Native.Nat.{ℕ, ◌≤◌, ◌<◌, ◌^◌}
 use native.Mathlib.Omega.{arith}
 use borrow.Author.Tests.{eq-eqb, ne_eqb, ltb-true, ltb-false}
 use lib.ListN.{length, get_or, take, drop, take-append-drop}
-use Rattle.words.specs.Words.{if◌then◌else◌, ◌=?◌, ◌<?◌, gives}
+use Rattle.words.specs.Words.{◌=?◌, ◌<?◌, gives}
 use Rattle.words.proofs.Words.{by_test, true_false}
 use Rattle.frame.specs.Bytes.{bytes_of}
 use Rattle.frame.specs.Frame.{frame_bytes, checked_of, source_allowed}

@@ -1,6 +1,7 @@
 -- How many claims can come of one: it is answered at most by every lower NAME, each of whose claims is answered by the
 -- ones below it in turn. So a claim costs twice what a claim of the next lower NAME costs.
 -- Assumes nothing.
+use Rattle.std.specs.Prelude.{if◌then◌else◌}
 use mathlib.Core.Path.{◌≡◌, refl, sym, ap, ◌∙◌}
 use mathlib.Core.Bool.{true, false}
 use mathlib.Core.List.{List, [], ◌∷◌}
@@ -11,7 +12,7 @@ use native.Mathlib.Omega.{arith}
 use borrow.Author.Tests.{ne_eqb, lt-ltb, le-ltb, eqb-true, eqb-false, ltb-true, ltb-false}
 use lib.ListN.{length, get_or}
 use lib.Pow.{pow_pos, pow_mono}
-use Rattle.words.specs.Words.{if◌then◌else◌, ◌<?◌, ◌=?◌}
+use Rattle.words.specs.Words.{◌<?◌, ◌=?◌}
 use Rattle.words.proofs.Words.{by_test}
 use Rattle.network.specs.Network.{Differ}
 

@@ -1,6 +1,7 @@
 -- The network comes to rest: what all claims on their way, and all addresses that nodes can still go on to, may cost
 -- falls with every claim that is sent.
 -- Assumes nothing.
+use Rattle.std.specs.Prelude.{if◌then◌else◌}
 use mathlib.Core.Path.{◌≡◌, refl, sym, ap, ◌∙◌}
 use mathlib.Core.Bool.{Bool, true, false}
 use mathlib.Core.List.{List, [], ◌∷◌, ◌++◌, map}
@@ -10,7 +11,7 @@ use native.Mathlib.Omega.{arith}
 use borrow.Author.Tests.{lt-ltb}
 use lib.ListN.{length, get_or, set, take, drop, length-append}
 use lib.Seq.{drop-append-le}
-use Rattle.words.specs.Words.{if◌then◌else◌, ◌<?◌}
+use Rattle.words.specs.Words.{◌<?◌}
 use Rattle.words.proofs.Words.{by_test, both_true}
 use Rattle.frame.specs.Frame.{frame_bytes}
 use Rattle.claim.specs.Claim.{begun, Outcome, outcome_of, after, is_sent, pause}

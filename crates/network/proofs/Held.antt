@@ -1,5 +1,6 @@
 -- At rest nothing but time passes: every node holds its address after 250 ms, or is silent.
 -- Assumes nothing.
+use Rattle.std.specs.Prelude.{if◌then◌else◌}
 use mathlib.Core.Path.{◌≡◌, refl, sym, ap, ◌∙◌}
 use mathlib.Core.Bool.{true, false}
 use mathlib.Core.List.{List, [], ◌∷◌, ◌++◌}
@@ -9,7 +10,7 @@ use native.Mathlib.Omega.{arith}
 use borrow.Author.Tests.{eq-eqb, ne_eqb}
 use lib.ListN.{length, get_or, set, take, drop}
 use lib.Seq.{get_or-set_same, get_or-set_other, drop-append-le}
-use Rattle.words.specs.Words.{if◌then◌else◌, ◌=?◌, gives}
+use Rattle.words.specs.Words.{◌=?◌, gives}
 use Rattle.words.proofs.Words.{by_test, both_true, true_false}
 use Rattle.claim.specs.Claim.{held_after, keeps_rules, holds_list, address, pause}
 use Rattle.claim.specs.Claim as Machine

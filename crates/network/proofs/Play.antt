@@ -1,5 +1,6 @@
 -- A run that is worked out: where acts can be done one after another, there is a run of them, and this is its end.
 -- Assumes nothing.
+use Rattle.std.specs.Prelude.{if◌then◌else◌}
 use mathlib.Core.Path.{◌≡◌, refl, sym}
 use mathlib.Core.Bool.{Bool, true, false}
 use mathlib.Core.List.{List, [], ◌∷◌, ◌++◌}
@@ -7,7 +8,7 @@ use Prim.Native.Nat.{ℕ, zero, suc, ◌+◌}
 use native.Mathlib.Omega.{arith}
 use borrow.Author.Tests.{eqb-true, eqb-false, ltb-true}
 use lib.ListN.{length, get_or, take, drop}
-use Rattle.words.specs.Words.{if◌then◌else◌, ◌and◌, ◌=?◌, ◌<?◌, Told, refused, gives}
+use Rattle.words.specs.Words.{◌and◌, ◌=?◌, ◌<?◌, Told, refused, gives}
 use Rattle.words.proofs.Words.{by_test, both_true, true_false}
 use Rattle.claim.specs.Candidates.{is_well_formed}
 use Rattle.claim.specs.Claim.{begun, Outcome, nothing_to_do, own_name, repeated, moved, fell_silent}

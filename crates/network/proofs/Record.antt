@@ -1,6 +1,7 @@
 -- One record of a listener's table: whom it shows after all that was said, by the last claim from its address and by the
 -- last claim of each NAME.
 -- Assumes nothing.
+use Rattle.std.specs.Prelude.{if◌then◌else◌}
 use mathlib.Core.Path.{◌≡◌, refl, sym, ap, ◌∙◌}
 use mathlib.Core.Bool.{true}
 use mathlib.Core.List.{List, [], ◌∷◌}
@@ -9,7 +10,7 @@ use mathlib.Core.Option.{Option, some, none}
 use Prim.Native.Nat.{ℕ, ◌≤◌}
 use native.Mathlib.Omega.{arith}
 use borrow.Author.Tests.{eq-eqb, ne_eqb}
-use Rattle.words.specs.Words.{if◌then◌else◌, ◌=?◌}
+use Rattle.words.specs.Words.{◌=?◌}
 use Rattle.words.proofs.Words.{by_test, true_false}
 use Rattle.nodes.specs.Table.{absent, held, has_name, is_challenged, has_challenger, stands, claimed_at, paused_at}
 use Rattle.nodes.specs.Runs.{Said, nothing, claims, pauses, record_after_all}

@@ -1,5 +1,6 @@
 -- Where the claims of each node come on the bus in the order in which it sent them, its last one tells where it is.
 -- Assumes nothing.
+use Rattle.std.specs.Prelude.{if◌then◌else◌}
 use mathlib.Core.Path.{◌≡◌, refl, sym, ap, ◌∙◌}
 use mathlib.Core.Bool.{Bool, true, false}
 use mathlib.Core.List.{List, [], ◌∷◌, ◌++◌}
@@ -10,7 +11,7 @@ use native.Mathlib.Omega.{arith}
 use borrow.Author.Tests.{eq-eqb, ne_eqb}
 use lib.ListN.{length, take, drop, take-append-drop}
 use lib.Seq.{get_or-set_same, get_or-set_other}
-use Rattle.words.specs.Words.{if◌then◌else◌, ◌=?◌}
+use Rattle.words.specs.Words.{◌=?◌}
 use Rattle.words.proofs.Words.{by_test}
 use Rattle.frame.specs.Identifier.{source_of}
 use Rattle.claim.specs.Claim.{address, claim_source, begun, Outcome, outcome_of, after, is_sent, pause}

@@ -1,8 +1,8 @@
 -- A network in which every node has an order of its own (RULES 16.13): a claim that is sent is at once on its way to
 -- each other node that has started by then, and a node reads what is on its way to it in any order. Here too no two
 -- nodes have one address at rest. So for that the one order for all is not needed; a listener's table needs it.
-use Rattle.std.specs.Prelude.{◌≡◌, true, List, [], ◌∷◌, ◌++◌, ◌⊎◌, ℕ, ◌<◌, length, take, drop}
-use Rattle.words.specs.Words.{if◌then◌else◌, ◌=?◌, Told, refused, gives, Done}
+use Rattle.std.specs.Prelude.{◌≡◌, true, List, [], ◌∷◌, ◌++◌, ◌⊎◌, ℕ, ◌<◌, length, take, drop, if◌then◌else◌}
+use Rattle.words.specs.Words.{◌=?◌, Told, refused, gives, Done}
 use Rattle.claim.specs.Promises.{Start, Hear, Pause, Stands, OurClaim, told_starting, told_hearing, told_sending}
 use Rattle.claim.specs.Promises.{is_sent_told}
 use Rattle.claim.specs.declared.Claim.{Claim}

@@ -1,8 +1,8 @@
 -- The laws of a network (RULES 16.10 to 16.17), each a named statement. proofs/Laws.antt has a proof of each, under the
 -- same name written small.
-use Rattle.std.specs.Prelude.{◌≡◌, List, [], ◌∷◌, ◌⊎◌, ℕ, ◌+◌, ◌-◌, ◌*◌, ◌^◌, ◌≤◌, ◌<◌, length, drop}
+use Rattle.std.specs.Prelude.{◌≡◌, List, [], ◌∷◌, ◌⊎◌, ℕ, ◌+◌, ◌-◌, ◌*◌, ◌^◌, ◌≤◌, ◌<◌, length, drop, if◌then◌else◌}
 use Rattle.std.proofs.Math.Option.{Option, some, none}
-use Rattle.words.specs.Words.{if◌then◌else◌, ◌=?◌, refused}
+use Rattle.words.specs.Words.{◌=?◌, refused}
 use Rattle.frame.specs.Identifier.{source_of}
 use Rattle.claim.specs.Candidates.{longest_list}
 use Rattle.claim.specs.Claim.{held_after}

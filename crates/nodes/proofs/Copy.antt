@@ -1,5 +1,6 @@
 -- The records of the addresses, read out of a table one by one into an empty one.
 -- Assumes nothing.
+use Rattle.std.specs.Prelude.{if◌then◌else◌}
 use mathlib.Core.Path.{◌≡◌, refl, ap, ◌∙◌}
 use mathlib.Core.Bool.{Bool, true, false}
 use mathlib.Core.List.{List, [], ◌∷◌, ◌++◌, append-nil}
@@ -9,7 +10,6 @@ use native.Mathlib.Omega.{arith}
 use lib.ListN.{length, get_or, set, take, drop, length-append, length-take, length-drop, drop_of_length-le}
 use lib.Dec.{ltb}
 use borrow.Author.Tests.{ltb-false}
-use Rattle.words.specs.Words.{if◌then◌else◌}
 use Rattle.nodes.specs.Table.{addresses, absent, empty_table}
 use Rattle.nodes.specs.Private.{readable_of, records_of}
 use Rattle.nodes.specs.declared.Node.{Node}

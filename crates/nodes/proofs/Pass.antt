@@ -1,6 +1,7 @@
 -- The one pass over the table is the two steps of RULES 9.3 and 9.4: the NAME is cleared everywhere, and then entered
 -- in the record of the source.
 -- Assumes nothing.
+use Rattle.std.specs.Prelude.{if◌then◌else◌}
 use mathlib.Core.Path.{◌≡◌, refl, sym, ap, ◌∙◌, subst}
 use mathlib.Core.Bool.{Bool, true, false}
 use mathlib.Core.List.{List, [], ◌∷◌, ◌++◌, map}
@@ -9,7 +10,6 @@ use native.Mathlib.Omega.{arith}
 use lib.ListN.{length, get_or, set, take, drop, length-take}
 use lib.Dec.{leb, eqb}
 use borrow.Author.Tests.{leb-true, leb-false, eqb-true, eqb-false, eq-eqb, ne_eqb}
-use Rattle.words.specs.Words.{if◌then◌else◌}
 use Rattle.frame.specs.Standard.{greatest_address}
 use Rattle.words.proofs.Words.{by_test}
 use Rattle.nodes.specs.Table.{addresses, absent, cleared_of, entered_of, claimed_at, each_from, claimed_of, keeps_rules}

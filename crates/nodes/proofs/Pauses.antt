@@ -1,5 +1,6 @@
 -- The pauses of a node table add up (specs/Pauses.antt): at one record, and at all.
 -- Assumes nothing.
+use Rattle.std.specs.Prelude.{if◌then◌else◌}
 use mathlib.Core.Path.{◌≡◌, refl, sym, ap, ◌∙◌}
 use mathlib.Core.Bool.{true, false, not}
 use mathlib.Core.List.{List, [], ◌∷◌, map}
@@ -7,7 +8,7 @@ use Prim.Native.Nat.{ℕ, zero, suc, ◌+◌}
 use native.Mathlib.Omega.{arith}
 use borrow.Author.Tests.{ltb-true, ltb-false, le-ltb}
 use lib.ListN.{length, take}
-use Rattle.words.specs.Words.{if◌then◌else◌, given◌then◌, ◌<?◌, Told, gives, Done, done}
+use Rattle.words.specs.Words.{given◌then◌, ◌<?◌, Told, gives, Done, done}
 use Rattle.words.specs.Lists.{every}
 use Rattle.words.proofs.Words.{by_test, both_true, past_refusal, not_flips}
 use Rattle.words.proofs.Pauses.{standing, computed_add_up, map_none, count_sum, count_none}

@@ -1,5 +1,6 @@
 -- The loops that judge a table: what a turn shows of the rules.
 -- Assumes nothing.
+use Rattle.std.specs.Prelude.{if◌then◌else◌}
 use mathlib.Core.Path.{◌≡◌, refl, ◌∙◌}
 use mathlib.Core.Bool.{Bool, true, false}
 use mathlib.Core.List.{List, [], ◌∷◌}
@@ -10,7 +11,7 @@ use lib.ListN.{length, get_or, drop, drop_of_length-le}
 use lib.Seq.{drop-cons}
 use lib.Dec.{eqb}
 use borrow.Author.Tests.{eqb-true}
-use Rattle.words.specs.Words.{if◌then◌else◌, ◌and◌, ◌or◌}
+use Rattle.words.specs.Words.{◌and◌, ◌or◌}
 use Rattle.words.specs.Lists.{any, every}
 use Rattle.words.proofs.Words.{both_true}
 use Rattle.words.proofs.Lists.{every_pass, every_stop, every_end, no_two_pass, no_two_stop, no_two_end}

@@ -1,7 +1,7 @@
 -- The laws of this crate (RULES 9), each a named statement. proofs/Laws.antt has a proof of each, under the same name
 -- written small.
-use Rattle.std.specs.Prelude.{◌≡◌, true, false, List, ◌++◌, map, ◌⊎◌, ℕ, ◌≤◌, ◌<◌, ◌%◌, ◌^◌, length, get_or, set, take, drop}
-use Rattle.words.specs.Words.{if◌then◌else◌, ◌≤?◌, Told, refused, gives}
+use Rattle.std.specs.Prelude.{◌≡◌, true, false, List, ◌++◌, map, ◌⊎◌, ℕ, ◌≤◌, ◌<◌, ◌%◌, ◌^◌, length, get_or, set, take, drop, if◌then◌else◌}
+use Rattle.words.specs.Words.{◌≤?◌, Told, refused, gives}
 use Rattle.words.specs.declared.Found.TheVariants.{At, Nowhere}
 use Rattle.frame.specs.Bytes.{number_of}
 use Rattle.frame.specs.Identifier.{identifiers}

@@ -1,6 +1,6 @@
 -- What the private functions of this crate promise, where it is no definition of the others (for RULES 9).
-use Rattle.std.specs.Prelude.{◌≡◌, not, List, ℕ, length, take}
-use Rattle.words.specs.Words.{if◌then◌else◌, given◌then◌, ◌<?◌, ◌=?◌, Told, refused, gives}
+use Rattle.std.specs.Prelude.{◌≡◌, not, List, ℕ, length, take, if◌then◌else◌}
+use Rattle.words.specs.Words.{given◌then◌, ◌<?◌, ◌=?◌, Told, refused, gives}
 use Rattle.frame.specs.Frame.{checked_of}
 use Rattle.frame.specs.Standard.{claim_dgn}
 use Rattle.frame.specs.declared.Parts.{Parts}

@@ -1,7 +1,7 @@
 -- Runs of calls on one table (RULES 9.16, 9.21 and 13.6): each call is told by its promise, and is lent the table that
 -- the one before it left. What a run makes of a record goes by the claims and pauses, by that record and its address.
-use Rattle.std.specs.Prelude.{◌≡◌, List, [], ◌∷◌, ◌++◌, map, true, ◌⊎◌, ℕ, ◌+◌, ◌≤◌, ◌<◌, length, get_or, take, drop}
-use Rattle.words.specs.Words.{if◌then◌else◌, ◌=?◌, Told, refused, gives}
+use Rattle.std.specs.Prelude.{◌≡◌, List, [], ◌∷◌, ◌++◌, map, true, ◌⊎◌, ℕ, ◌+◌, ◌≤◌, ◌<◌, length, get_or, take, drop, if◌then◌else◌}
+use Rattle.words.specs.Words.{◌=?◌, Told, refused, gives}
 use Rattle.frame.specs.Bytes.{number_of}
 use Rattle.frame.specs.Frame.{checked_of}
 use Rattle.frame.specs.Standard.{claim_dgn}

@@ -1,8 +1,8 @@
 -- The node table (RULES 9.1, 9.3 to 9.6, 9.9 and 9.13 to 9.17): record a stands for address a, and says whether a node
 -- holds it and with which NAME, which NAME challenges the holder, and for how long it has. What a claim and what a
 -- pause make of a record goes by that record, its address and the event alone.
-use Rattle.std.specs.Prelude.{Bool, true, false, not, List, [], ◌∷◌, ℕ, zero, suc, ◌+◌, replicate}
-use Rattle.words.specs.Words.{if◌then◌else◌, ◌<?◌, ◌≤?◌, ◌=?◌, ◌and◌, ◌or◌}
+use Rattle.std.specs.Prelude.{Bool, true, false, not, List, [], ◌∷◌, ℕ, zero, suc, ◌+◌, replicate, if◌then◌else◌}
+use Rattle.words.specs.Words.{◌<?◌, ◌≤?◌, ◌=?◌, ◌and◌, ◌or◌}
 use Rattle.words.specs.Lists.{every, count, no_two}
 use Rattle.nodes.specs.declared.Node.{Node}
 use Rattle.nodes.specs.declared.Claim.{Claim}

@@ -1,6 +1,6 @@
 // The work on values: a table's records judged, and one record changed. The lent table is walked in lib.rt alone.
-ghost use Rattle.std.specs.Prelude.{◌≡◌, ◌≤◌, drop};
-ghost use Rattle.words.specs.Words.{if◌then◌else◌, ◌and◌, gives};
+ghost use Rattle.std.specs.Prelude.{◌≡◌, ◌≤◌, drop, if◌then◌else◌};
+ghost use Rattle.words.specs.Words.{◌and◌, gives};
 ghost use Rattle.words.specs.Lists.{any, first};
 ghost use Rattle.nodes.specs.Table.{addresses, absent as absentNode, held as heldBy, challenged as challengedBy};
 ghost use Rattle.nodes.specs.Table.{unchallenged_of, has_name, is_challenged, has_challenger, stands as stands_for};

@@ -1,5 +1,6 @@
 -- The statements of specs/Statements.antt, proved for every format (OneStep is in Steps.antt).
 -- Assumes nothing.
+use Rattle.std.specs.Prelude.{if◌then◌else◌}
 use mathlib.Core.Path.{◌≡◌, refl, sym, ap, ap₂, ◌∙◌}
 use mathlib.Core.Bool.{Bool, true, false}
 use mathlib.Core.List.{List, [], ◌∷◌, map}
@@ -10,7 +11,7 @@ use native.Mathlib.Nat.{zero-add}
 use native.Mathlib.Omega.{arith}
 use borrow.Author.Tests.{eq-eqb, ne_eqb}
 use lib.ListN.{length, length-map}
-use Rattle.words.specs.Words.{if◌then◌else◌, ◌=?◌}
+use Rattle.words.specs.Words.{◌=?◌}
 use Rattle.words.specs.Lists.{count, Absent, Distinct}
 use Rattle.words.proofs.Words.{by_test}
 use Rattle.words.proofs.Lists.{absent_cons, absent_head, absent_tail, distinct_cons, distinct_head, distinct_tail}

@@ -1,5 +1,6 @@
 -- One frame and one pause: the places against the machine of one key.
 -- Assumes nothing.
+use Rattle.std.specs.Prelude.{if◌then◌else◌}
 use mathlib.Core.Path.{◌≡◌, refl, sym, ap, ◌∙◌}
 use mathlib.Core.Bool.{true, false}
 use mathlib.Core.List.{List, [], ◌∷◌}
@@ -8,7 +9,6 @@ use Prim.Native.Nat.{ℕ, ◌+◌}
 use native.Mathlib.Nat.{zero-add}
 use native.Mathlib.Omega.{arith}
 use borrow.Author.Tests.{eq-eqb, ne_eqb}
-use Rattle.words.specs.Words.{if◌then◌else◌}
 use Rattle.words.specs.Lists.{count, Absent}
 use Rattle.words.proofs.Words.{by_test, true_false}
 use Rattle.words.proofs.Lists.{absent_head, absent_tail, distinct_head, distinct_tail}

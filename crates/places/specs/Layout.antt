@@ -1,7 +1,7 @@
 -- Places as code keeps them: an array of place structs of any type P, and a storage of which each place owns a stretch
 -- (RULES 5.2; RULES 12.14 has another stride). A layout says how to read them as places.
-use Rattle.std.specs.Prelude.{◌≡◌, Bool, true, not, List, [], ◌∷◌, ◌≢◌, ℕ, suc, ◌*◌, take, drop}
-use Rattle.words.specs.Words.{if◌then◌else◌, ◌=?◌, ◌and◌}
+use Rattle.std.specs.Prelude.{◌≡◌, Bool, true, not, List, [], ◌∷◌, ◌≢◌, ℕ, suc, ◌*◌, take, drop, if◌then◌else◌}
+use Rattle.words.specs.Words.{◌=?◌, ◌and◌}
 use Rattle.words.specs.Lists.{no_two}
 use Rattle.places.specs.Places.{Place, free, held}
 

@@ -1,7 +1,7 @@
 -- Places: each is free, or held by one key with its session (RULES 5.1 to 5.8 and 12.11).
-use Rattle.std.specs.Prelude.{Bool, true, false, List, [], ◌∷◌, map, ℕ, replicate}
+use Rattle.std.specs.Prelude.{Bool, true, false, List, [], ◌∷◌, map, ℕ, replicate, if◌then◌else◌}
 use Rattle.std.proofs.Math.Option.{Option, some, none}
-use Rattle.words.specs.Words.{if◌then◌else◌, ◌=?◌, Told, gives}
+use Rattle.words.specs.Words.{◌=?◌, Told, gives}
 use Rattle.words.specs.Lists.{count, Distinct}
 use Rattle.places.specs.Format.{Asks, fixed, opens, finishes, feeds, Fed, goes, ends, Format, is_none}
 use Rattle.places.specs.Format.{Event, frame, pause, Step, step}

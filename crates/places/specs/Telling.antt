@@ -1,7 +1,7 @@
 -- What a receiver tells of a frame that is not refused, in every format whose messages have a sender and a DGN (RULES
 -- 4.13, 5.9, 5.10 and 12.16): there is nothing to do, a message was opened, a part of it was stored, or it is finished.
-use Rattle.std.specs.Prelude.{List, [], ℕ, ◌*◌, take, drop}
-use Rattle.words.specs.Words.{if◌then◌else◌, ◌<?◌, ◌≤?◌, ◌=?◌, ◌or◌, Told, refused, gives}
+use Rattle.std.specs.Prelude.{List, [], ℕ, ◌*◌, take, drop, if◌then◌else◌}
+use Rattle.words.specs.Words.{◌<?◌, ◌≤?◌, ◌=?◌, ◌or◌, Told, refused, gives}
 use Rattle.places.specs.Places.{Out, full, said, place_count}
 
 -- M is what is said of a finished message

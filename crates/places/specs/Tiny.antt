@@ -1,9 +1,9 @@
 -- A made-up format, small enough to run by hand: the statements hold for more than one format (RULES 13.5), and an
 -- opening that finishes at once is seen at work. A frame has a key, a number and a byte. Number 0 is a message by
 -- itself, that byte; 1 to 9 opens one that needs so many packets; any other is a packet, and brings its byte.
-use Rattle.std.specs.Prelude.{◌≡◌, List, [], ◌∷◌, ◌++◌, ℕ, ◌+◌, ◌-◌}
+use Rattle.std.specs.Prelude.{◌≡◌, List, [], ◌∷◌, ◌++◌, ℕ, ◌+◌, ◌-◌, if◌then◌else◌}
 use Rattle.std.proofs.Math.Option.{Option, some, none}
-use Rattle.words.specs.Words.{if◌then◌else◌, ◌<?◌, ◌≤?◌, ◌=?◌}
+use Rattle.words.specs.Words.{◌<?◌, ◌≤?◌, ◌=?◌}
 use Rattle.places.specs.Format.{Asks, opens, finishes, feeds, Fed, goes, ends, Format, Event, frame, pause}
 use Rattle.places.specs.Places.{free, held, Out, full, said, heard, paused, closed_by, eight_free, after, History}
 use Rattle.places.specs.Statements.{on_busy_bus, OpenAsRules, ToldAsRules, BusyAsQuiet}

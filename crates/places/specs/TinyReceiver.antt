@@ -1,9 +1,9 @@
 -- A receiver of the made-up format, as a definition (RULES 13.5): eight slots over lent storage, nine bytes a slot. An
 -- opening that finishes at once is stored in its key's slot, or in the first free one, and handed over from there; the
 -- slot is free afterwards.
-use Rattle.std.specs.Prelude.{◌≡◌, refl, Bool, true, not, List, [], ◌∷◌, map, ℕ, ◌+◌, ◌-◌, ◌*◌, ◌≤◌, length, take, get_or, set, replicate}
+use Rattle.std.specs.Prelude.{◌≡◌, refl, Bool, true, not, List, [], ◌∷◌, map, ℕ, ◌+◌, ◌-◌, ◌*◌, ◌≤◌, length, take, get_or, set, replicate, if◌then◌else◌}
 use Rattle.std.proofs.Math.Seq.{paste}
-use Rattle.words.specs.Words.{if◌then◌else◌, ◌<?◌, ◌≤?◌, ◌=?◌, ◌and◌, Told, gives}
+use Rattle.words.specs.Words.{◌<?◌, ◌≤?◌, ◌=?◌, ◌and◌, Told, gives}
 use Rattle.words.specs.Lists.{every, count, first}
 use Rattle.places.specs.Places.{Out, full, said, place_count}
 use Rattle.places.specs.Layout.{stretch, Layout, open_by, view, one_each}

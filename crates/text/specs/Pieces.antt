@@ -1,6 +1,6 @@
 -- A piece of text put into lent bytes at a place: the whole piece where it fits, and nothing of it where it does not.
-use Rattle.std.specs.Prelude.{◌≡◌, Bool, List, ◌++◌, ℕ, ◌+◌, ◌≤◌, length, take, drop}
-use Rattle.words.specs.Words.{if◌then◌else◌, ◌≤?◌}
+use Rattle.std.specs.Prelude.{◌≡◌, Bool, List, ◌++◌, ℕ, ◌+◌, ◌≤◌, length, take, drop, if◌then◌else◌}
+use Rattle.words.specs.Words.{◌≤?◌}
 
 -- whether a piece fits behind a place
 abbrev pub fits_in : List ℕ → ℕ → List ℕ → Bool

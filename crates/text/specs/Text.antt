@@ -1,9 +1,9 @@
 -- Text as the list of its bytes' ASCII codes: words as they stand; numbers as digits, the most significant first
 -- (RULES 11.1 and 11.2: decimal without leading zeros, and hexadecimal in capitals); and bytes as two digits each.
-use Rattle.std.specs.Prelude.{List, [], ◌∷◌, ◌++◌, ℕ, zero, suc, ◌+◌, ◌-◌, ◌/◌, ◌%◌}
+use Rattle.std.specs.Prelude.{List, [], ◌∷◌, ◌++◌, ℕ, zero, suc, ◌+◌, ◌-◌, ◌/◌, ◌%◌, if◌then◌else◌}
 use Prim.Native.Char.{code}
 use Prim.Native.String.{String, [] as done, ◌∷◌ as ◌then◌}
-use Rattle.words.specs.Words.{if◌then◌else◌, ◌<?◌}
+use Rattle.words.specs.Words.{◌<?◌}
 
 -- the codes of a word
 abbrev pub text : String → List ℕ

@@ -1,5 +1,6 @@
 -- The statements of specs/Laws.antt, proved.
 -- Assumes nothing.
+use Rattle.std.specs.Prelude.{if◌then◌else◌}
 use mathlib.Core.Path.{◌≡◌, refl, sym, ap, ◌∙◌, subst}
 use mathlib.Core.Bool.{true, not}
 use mathlib.Core.List.{List}
@@ -9,7 +10,7 @@ use borrow.Author.Tests.{ltb-true, lt-ltb}
 use lib.ListN.{length}
 use lib.Signed.{mag}
 use lib.Seq.{get_or-set_same, get_or-set_other}
-use Rattle.words.specs.Words.{if◌then◌else◌, given◌then◌, ◌=?◌, Told, refused, gives, Done, done}
+use Rattle.words.specs.Words.{given◌then◌, ◌=?◌, Told, refused, gives, Done, done}
 use Rattle.words.proofs.Words.{by_test, both_true, true_false, gives_same}
 use Rattle.frame.specs.Bytes.{number_of}
 use Rattle.frame.specs.Identifier.{catalogue_form}

@@ -1,5 +1,6 @@
 -- Runs of calls on one panel: they keep its rules, and what they make of one tile goes by the calls alone.
 -- Assumes nothing.
+use Rattle.std.specs.Prelude.{if◌then◌else◌}
 use mathlib.Core.Path.{◌≡◌, refl, sym, ap, ◌∙◌, subst}
 use mathlib.Core.Bool.{Bool, true, false, not}
 use mathlib.Core.List.{List, [], ◌∷◌, ◌++◌, append_assoc}
@@ -7,7 +8,7 @@ use Prim.Native.Nat.{ℕ, zero, suc, ◌<◌}
 use borrow.Author.Tests.{eq-eqb, ne_eqb, eqb-true, eqb-false, ltb-true}
 use lib.ListN.{length, get_or, set, replicate, length-map, length-set}
 use lib.Seq.{get_or-set_same, get_or-set_other}
-use Rattle.words.specs.Words.{if◌then◌else◌, given◌then◌, ◌<?◌, ◌=?◌, ◌and◌, ◌or◌, Told, refused, gives, Done, done}
+use Rattle.words.specs.Words.{given◌then◌, ◌<?◌, ◌=?◌, ◌and◌, ◌or◌, Told, refused, gives, Done, done}
 use Rattle.words.specs.Lists.{any}
 use Rattle.words.proofs.Words.{by_test, both_true, true_false, refused_gives, past_refusal, not_flips}
 use Rattle.words.proofs.Lists.{every_map, every_replicate, every_set}

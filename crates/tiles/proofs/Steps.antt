@@ -1,5 +1,6 @@
 -- The steps by which the code comes to its answers.
 -- Assumes nothing.
+use Rattle.std.specs.Prelude.{if◌then◌else◌}
 use mathlib.Core.Path.{◌≡◌, refl, sym, ap, ◌∙◌, subst}
 use mathlib.Core.Bool.{Bool, true, false, not}
 use mathlib.Core.List.{List}
@@ -16,7 +17,7 @@ use lib.Signed.{mag}
 use mir.Syntax.{w64}
 use mir.Val.{SFits, to_z, of_z}
 use mir.ValLaws.{to_z-of_z}
-use Rattle.words.specs.Words.{if◌then◌else◌, ◌=?◌, Told, refused, gives, Done, done}
+use Rattle.words.specs.Words.{◌=?◌, Told, refused, gives, Done, done}
 use Rattle.words.proofs.Words.{by_test, both_true, gives_same, refused_gives}
 use Rattle.frame.specs.Bytes.{number_of}
 use Rattle.frame.specs.Identifier.{catalogue_form}

@@ -1,6 +1,6 @@
 -- A wall panel of 32 tiles (RULES 18): a tile named, a frame heard, and what a tile shows.
-use Rattle.std.specs.Prelude.{Bool, not, List, [], ◌∷◌, map, ℕ, ◌+◌, ◌*◌, length, get_or, set, replicate}
-use Rattle.words.specs.Words.{if◌then◌else◌, given◌then◌, ◌<?◌, Told, refused, gives, Done, done}
+use Rattle.std.specs.Prelude.{Bool, not, List, [], ◌∷◌, map, ℕ, ◌+◌, ◌*◌, length, get_or, set, replicate, if◌then◌else◌}
+use Rattle.words.specs.Words.{given◌then◌, ◌<?◌, Told, refused, gives, Done, done}
 use Rattle.words.specs.Lists.{every}
 use Rattle.frame.specs.Identifier.{catalogue_form}
 use Rattle.frame.specs.Frame.{checked_of}

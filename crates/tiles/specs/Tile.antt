@@ -1,7 +1,7 @@
 -- One tile of a wall panel (RULES 18.2 to 18.12): the rows that it may name, what it shows of them, which frames are
 -- for it, and what they make of it.
-use Rattle.std.specs.Prelude.{Bool, true, false, not, List, ℕ, ℤ, get_or}
-use Rattle.words.specs.Words.{if◌then◌else◌, ◌=?◌, ◌and◌, Told, refused, gives}
+use Rattle.std.specs.Prelude.{Bool, true, false, not, List, ℕ, ℤ, get_or, if◌then◌else◌}
+use Rattle.words.specs.Words.{◌=?◌, ◌and◌, Told, refused, gives}
 use Rattle.frame.specs.Bytes.{number_of}
 use Rattle.catalogue.specs.Instances.{has_instance}
 use Rattle.catalogue.specs.Table.{row_of}

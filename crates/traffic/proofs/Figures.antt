@@ -1,5 +1,6 @@
 -- The figures of lines with one line more, and how they add up.
 -- Assumes nothing.
+use Rattle.std.specs.Prelude.{if◌then◌else◌}
 use mathlib.Core.Path.{◌≡◌, refl, sym, ap, ◌∙◌}
 use mathlib.Core.Bool.{Bool, true, false, not}
 use mathlib.Core.List.{List, [], ◌∷◌, ◌++◌, map, append_assoc, append-nil}
@@ -7,7 +8,7 @@ use Prim.Native.Nat.{ℕ, zero, suc, ◌+◌, ◌≤◌, min, max}
 use native.Mathlib.Omega.{arith}
 use borrow.Author.Tests.{eqb-true, eqb-false, eq-eqb, ne_eqb}
 use lib.ListN.{length, take, drop, length-append}
-use Rattle.words.specs.Words.{if◌then◌else◌, ◌=?◌, ◌or◌, Told, refused, gives}
+use Rattle.words.specs.Words.{◌=?◌, ◌or◌, Told, refused, gives}
 use Rattle.words.specs.Lists.{any, count, Absent, Distinct}
 use Rattle.words.proofs.Words.{by_test, true_false}
 use Rattle.words.proofs.Lists.{distinct_cons, distinct_head, distinct_tail, absent_cons, absent_head, absent_tail}

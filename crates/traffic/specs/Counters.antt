@@ -1,7 +1,7 @@
 -- The counters (for RULES 15): how the lent table is laid out, what a line makes of it, and when it holds the figures
 -- of some lines.
-use Rattle.std.specs.Prelude.{◌≡◌, List, [], ◌∷◌, ◌++◌, ℕ, zero, suc, ◌+◌, ◌*◌, ◌-◌, ◌≤◌, ◌<◌, min, max, length, take, get_or}
-use Rattle.words.specs.Words.{if◌then◌else◌, given◌then◌, ◌=?◌, Told, refused, gives}
+use Rattle.std.specs.Prelude.{◌≡◌, List, [], ◌∷◌, ◌++◌, ℕ, zero, suc, ◌+◌, ◌*◌, ◌-◌, ◌≤◌, ◌<◌, min, max, length, take, get_or, if◌then◌else◌}
+use Rattle.words.specs.Words.{given◌then◌, ◌=?◌, Told, refused, gives}
 use Rattle.frame.specs.Frame.{checked_of}
 use Rattle.capture.specs.Line.{greatest_gap}
 use Rattle.capture.specs.Stream.{most_lines}

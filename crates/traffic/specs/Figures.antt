@@ -1,7 +1,7 @@
 -- The figures of a capture (RULES 15.3 to 15.9): for each pair of sender and DGN, its frames and the gaps between them.
 -- Every figure is told by the lines that were read, and by nothing else.
-use Rattle.std.specs.Prelude.{Bool, true, false, not, List, [], ◌∷◌, ◌++◌, map, ℕ, ◌+◌, min, max, length, take, drop}
-use Rattle.words.specs.Words.{if◌then◌else◌, given◌then◌, ◌=?◌, bits, Told, refused, gives}
+use Rattle.std.specs.Prelude.{Bool, true, false, not, List, [], ◌∷◌, ◌++◌, map, ℕ, ◌+◌, min, max, length, take, drop, if◌then◌else◌}
+use Rattle.words.specs.Words.{given◌then◌, ◌=?◌, bits, Told, refused, gives}
 use Rattle.words.specs.Lists.{any, count}
 use Rattle.frame.specs.Frame.{checked_of}
 use Rattle.capture.specs.Line.{Frame}

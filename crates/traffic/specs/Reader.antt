@@ -1,7 +1,6 @@
 -- The lines of a block taken one after the other, and the end of the capture: what the reader promises (RULES 15.10 to
 -- 15.17).
-use Rattle.std.specs.Prelude.{◌≡◌, List, [], ◌∷◌, ◌++◌, map, ℕ, ◌+◌, ◌≤◌, ◌<◌, length, take}
-use Rattle.words.specs.Words.{if◌then◌else◌}
+use Rattle.std.specs.Prelude.{◌≡◌, List, [], ◌∷◌, ◌++◌, map, ℕ, ◌+◌, ◌≤◌, ◌<◌, length, take, if◌then◌else◌}
 use Rattle.text.specs.Pieces.{Wrote}
 use Rattle.capture.specs.Stream.{Piece}
 use Rattle.capture.specs.Cutter.{fresh}

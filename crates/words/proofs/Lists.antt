@@ -1,5 +1,6 @@
 -- Laws of the tests on lists, and the turns of the loops that search, count, test, compare, replace and fill up.
 -- Assumes nothing.
+use Rattle.std.specs.Prelude.{if◌then◌else◌}
 use mathlib.Core.Path.{◌≡◌, refl, sym, ap, ◌∙◌}
 use mathlib.Core.Bool.{Bool, true, false, not}
 use mathlib.Core.List.{List, [], ◌∷◌, ◌++◌, map, append-nil, append_assoc}
@@ -12,7 +13,7 @@ use borrow.Author.Tests.{eq-eqb, ne_eqb, leb-true, leb-false, not-true}
 use lib.Dec.{eqb}
 use lib.ListN.{length, take, drop, get_or, set, replicate, drop_of_length-le, length-map, length-set}
 use lib.Seq.{take_all, take-suc, take-append-le, take-append-add, drop-cons, set_at, get_or-set_other, length-take-le}
-use Rattle.words.specs.Words.{if◌then◌else◌, ◌≤?◌, ◌=?◌}
+use Rattle.words.specs.Words.{◌≤?◌, ◌=?◌}
 use Rattle.words.specs.Lists.{any, every, count, first_from, first}
 use Rattle.words.specs.Lists.{no_two, Absent, Distinct, filled_to}
 use Rattle.words.specs.declared.Found.{Found}

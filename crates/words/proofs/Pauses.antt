@@ -1,12 +1,13 @@
 -- Pauses that are computed add up, where what they compute does: the laws of specs/Pauses.antt for every call `pause`
 -- that refuses a state by what it is, and otherwise hands back what it computes of it and of the milliseconds.
 -- Assumes nothing.
+use Rattle.std.specs.Prelude.{if◌then◌else◌}
 use mathlib.Core.Path.{◌≡◌, refl, sym, ap, ◌∙◌, subst, subst⁻¹}
 use mathlib.Core.List.{List, [], ◌∷◌, map}
 use mathlib.Core.Bool.{Bool, true, false}
 use Prim.Native.Nat.{ℕ, ◌+◌}
 use native.Mathlib.Omega.{arith}
-use Rattle.words.specs.Words.{if◌then◌else◌, given◌then◌, Told, refused, gives, Done, done}
+use Rattle.words.specs.Words.{given◌then◌, Told, refused, gives, Done, done}
 use Rattle.words.specs.Lists.{every, count}
 use Rattle.words.specs.Pauses.{PauseCall, Adds, AddsNothing, total, Paused, no_pause, a_pause, AddUp}
 use Rattle.words.specs.Pauses.{TwoAsOne, ZeroKeeps, RefusedStays, RulesLast, OthersRefused, ShopsAgree}

@@ -1,10 +1,11 @@
 -- Laws of the words: what an `if` shows that gives, or refuses.
 -- Assumes nothing.
+use Rattle.std.specs.Prelude.{if◌then◌else◌}
 use mathlib.Core.Path.{◌≡◌, refl, sym}
 use mathlib.Core.Bool.{Bool, true, false, not}
 use Prim.Native.Nat.{ℕ}
 use native.Mathlib.Omega.{arith}
-use Rattle.words.specs.Words.{if◌then◌else◌, Told, refused, gives, ◌and◌}
+use Rattle.words.specs.Words.{Told, refused, gives, ◌and◌}
 
 module _ {A : Type 0} where
   -- a refusal gives nothing

@@ -1,12 +1,13 @@
 -- The statements of specs/WrongPauses.antt: two pauses and the one in their place, which each wrong call tells apart.
 -- Assumes nothing.
+use Rattle.std.specs.Prelude.{if◌then◌else◌}
 use mathlib.Core.Path.{◌≡◌, refl, sym, ◌∙◌}
 use mathlib.Core.Bool.{true}
 use mathlib.Core.Option.{some, none}
 use Prim.Native.Nat.{ℕ, ◌+◌, ◌<◌, ◌≤◌}
 use native.Mathlib.Omega.{arith}
 use borrow.Author.Tests.{ltb-true, ltb-false, leb-true, lt-ltb, le-ltb, le-leb}
-use Rattle.words.specs.Words.{if◌then◌else◌, given◌then◌, ◌<?◌, Told, refused, gives, Done, done}
+use Rattle.words.specs.Words.{given◌then◌, ◌<?◌, Told, refused, gives, Done, done}
 use Rattle.words.specs.WrongPauses.{Waiting, is_within, call, idles, closed, IdleAddsUp}
 use Rattle.words.specs.WrongPauses.{RestartsDoNot, CappedDoNot, WrapsDoNot, PlacesDoNot}
 use Rattle.words.proofs.Words.{by_test, gives_same, before_refusal}

@@ -1,7 +1,7 @@
 -- Tests on lists: whether any element passes, whether every one does, how many do, which is the first, and whether no
 -- two are alike; and a list filled up to a length.
-use Rattle.std.specs.Prelude.{◌≡◌, Bool, true, false, not, List, [], ◌∷◌, ◌++◌, ℕ, suc, ◌+◌, ◌-◌, length, replicate}
-use Rattle.words.specs.Words.{if◌then◌else◌, ◌=?◌, ◌and◌, ◌or◌}
+use Rattle.std.specs.Prelude.{◌≡◌, Bool, true, false, not, List, [], ◌∷◌, ◌++◌, ℕ, suc, ◌+◌, ◌-◌, length, replicate, if◌then◌else◌}
+use Rattle.words.specs.Words.{◌=?◌, ◌and◌, ◌or◌}
 use Rattle.words.specs.declared.Found.{Found}
 use Rattle.words.specs.declared.Found.TheVariants.{At, Nowhere}
 

@@ -2,17 +2,12 @@
 -- answer as RULES 2 has it.
 use Rattle.std.specs.Prelude.{Bool, true, false, ℕ, ◌+◌, ◌-◌, ◌/◌, ◌%◌, ◌^◌, ltb, leb, eqb}
 
-infixr 5 if◌then◌else◌
 infixr 5 given◌then◌
 infixr 20 ◌or◌
 infixr 30 ◌and◌
 infix 50 ◌<?◌
 infix 50 ◌≤?◌
 infix 50 ◌=?◌
-abbrev pub if◌then◌else◌ : {A : Type 0} → Bool → A → A → A
-if true then a else b = a
-if false then a else b = b
-
 abbrev pub ◌<?◌ : ℕ → ℕ → Bool
 a <? b = ltb a b
 

@@ -1,9 +1,9 @@
 -- Pauses that do not add up, each refused by the statement of Pauses.antt itself, and one that does. What waits is the
 -- smallest thing that can: one message, open with the milliseconds that it has been idle, or closed. Above 750 ms a
 -- pause closes it, and answers 1; an idle time above 750 ms is refused with 2. proofs/WrongPauses.antt has the proofs.
-use Rattle.std.specs.Prelude.{◌≡◌, Bool, true, ℕ, ◌+◌, ◌%◌, ◌^◌, min}
+use Rattle.std.specs.Prelude.{◌≡◌, Bool, true, ℕ, ◌+◌, ◌%◌, ◌^◌, min, if◌then◌else◌}
 use Rattle.std.proofs.Math.Option.{Option, some, none}
-use Rattle.words.specs.Words.{if◌then◌else◌, ◌<?◌, ◌≤?◌, Told, refused, gives}
+use Rattle.words.specs.Words.{◌<?◌, ◌≤?◌, Told, refused, gives}
 use Rattle.words.specs.Pauses.{PauseCall, AddUp}
 
 -- what is open, and how long it has been idle

@@ -1,4 +1,5 @@
 -- `command::picking::pick` meets its contract. Assumes nothing.
+use Rattle.std.specs.Prelude.{if◌then◌else◌}
 use mathlib.Core.Path.{◌≡◌, ap, ◌∙◌}
 use Prim.Native.Nat.{◌<◌}
 use native.Mathlib.Omega.{arith}
@@ -6,7 +7,6 @@ use borrow.Author.Rules.{rules}
 use lib.Seq.{get_or-take, length-take-le, take_all}
 use lib.ListN.{get_or}
 use Rattle.command.specs.declared.Positions.{Positions}
-use Rattle.words.specs.Words.{if◌then◌else◌}
 use Rattle.words.proofs.Lists.{length_field}
 use Rattle.command.specs.Private.{is_wanted, added}
 use Rattle.command.specs.Positions.{positions_where, filled}
