@@ -36,6 +36,7 @@ use Rattle.nodes.proofs.Shown as NodesShown
 use Rattle.command.proofs.Laws as Command
 use Rattle.command.proofs.PositionLaws as CommandPositionLaws
 use Rattle.command.proofs.ReplyLaws as CommandReplyLaws
+use Rattle.command.proofs.Unheld as CommandUnheld
 use Rattle.command.proofs.Editions as CommandEditions
 use Rattle.faults.proofs.FieldLaws as FaultsFields
 use Rattle.faults.proofs.Laws as Faults
@@ -477,6 +478,9 @@ command_laws =
       later_bytes_ignored = Command.later_bytes_ignored;
       claiming_for_claim_only = CommandReplyLaws.claiming_for_claim_only;
       silent_only_global = CommandReplyLaws.silent_only_global;
+      claim_exactly = CommandUnheld.claim_exactly;
+      claim_given = CommandUnheld.claim_given;
+      unheld_exactly = CommandUnheld.unheld_exactly;
       picked_held = CommandReplyLaws.picked_held;
       supported_held = CommandReplyLaws.supported_held;
       nak_is_sound = CommandReplyLaws.nak_is_sound;

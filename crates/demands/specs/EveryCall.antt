@@ -315,183 +315,236 @@ module _ (M : Type 1) where
   pub record EveryCallOver : Type 2 where
     -- Identifier
     pub frame_take_apart :
-        Answers frame_take_apart.ended frame_take_apart_symbol.code frame_take_apart_symbol.name (λ 𝓤 𝓛. frame_take_apart.spec 𝓛) Frame.TakeApartOnly
+        Answers frame_take_apart.ended frame_take_apart_symbol.code frame_take_apart_symbol.name
+        (λ 𝓤 𝓛. frame_take_apart.spec 𝓛) Frame.TakeApartOnly
     pub frame_apart_refusal :
-        Answers frame_apart_refusal.ended frame_apart_refusal_symbol.code frame_apart_refusal_symbol.name (λ 𝓤 𝓛. frame_apart_refusal.spec 𝓛)
-        Frame.ApartRefusalOnly
-    pub frame_form : Answers frame_form.ended frame_form_symbol.code frame_form_symbol.name (λ 𝓤 𝓛. frame_form.spec 𝓛) Frame.FormOnly
+        Answers frame_apart_refusal.ended frame_apart_refusal_symbol.code frame_apart_refusal_symbol.name
+        (λ 𝓤 𝓛. frame_apart_refusal.spec 𝓛) Frame.ApartRefusalOnly
+    pub frame_form :
+        Answers frame_form.ended frame_form_symbol.code frame_form_symbol.name
+        (λ 𝓤 𝓛. frame_form.spec 𝓛) Frame.FormOnly
     pub frame_formed_refusal :
-        Answers frame_formed_refusal.ended frame_formed_refusal_symbol.code frame_formed_refusal_symbol.name (λ 𝓤 𝓛. frame_formed_refusal.spec 𝓛)
-        Frame.FormedRefusalOnly
-    pub frame_check : Answers frame_check.ended frame_check_symbol.code frame_check_symbol.name (λ 𝓤 𝓛. frame_check.spec 𝓛) Frame.CheckOnly
+        Answers frame_formed_refusal.ended frame_formed_refusal_symbol.code frame_formed_refusal_symbol.name
+        (λ 𝓤 𝓛. frame_formed_refusal.spec 𝓛) Frame.FormedRefusalOnly
+    pub frame_check :
+        Answers frame_check.ended frame_check_symbol.code frame_check_symbol.name
+        (λ 𝓤 𝓛. frame_check.spec 𝓛) Frame.CheckOnly
     pub frame_verdict_refusal :
-        Answers frame_verdict_refusal.ended frame_verdict_refusal_symbol.code frame_verdict_refusal_symbol.name (λ 𝓤 𝓛. frame_verdict_refusal.spec 𝓛)
-        Frame.VerdictRefusalOnly
+        Answers frame_verdict_refusal.ended frame_verdict_refusal_symbol.code frame_verdict_refusal_symbol.name
+        (λ 𝓤 𝓛. frame_verdict_refusal.spec 𝓛) Frame.VerdictRefusalOnly
     pub frame_bad_frame_refusal :
-        Answers frame_bad_frame_refusal.ended frame_bad_frame_refusal_symbol.code frame_bad_frame_refusal_symbol.name (λ 𝓤 𝓛. frame_bad_frame_refusal.spec 𝓛)
-        Frame.BadFrameRefusalOnly
+        Answers frame_bad_frame_refusal.ended frame_bad_frame_refusal_symbol.code frame_bad_frame_refusal_symbol.name
+        (λ 𝓤 𝓛. frame_bad_frame_refusal.spec 𝓛) Frame.BadFrameRefusalOnly
     pub frame_destination_of :
-        Answers frame_destination_of.ended frame_destination_of_symbol.code frame_destination_of_symbol.name (λ 𝓤 𝓛. frame_destination_of.spec 𝓛)
-        Frame.DestinationOfOnly
+        Answers frame_destination_of.ended frame_destination_of_symbol.code frame_destination_of_symbol.name
+        (λ 𝓤 𝓛. frame_destination_of.spec 𝓛) Frame.DestinationOfOnly
     pub frame_catalogue_form :
-        Answers frame_catalogue_form.ended frame_catalogue_form_symbol.code frame_catalogue_form_symbol.name (λ 𝓤 𝓛. frame_catalogue_form.spec 𝓛)
-        Frame.CatalogueFormOnly
+        Answers frame_catalogue_form.ended frame_catalogue_form_symbol.code frame_catalogue_form_symbol.name
+        (λ 𝓤 𝓛. frame_catalogue_form.spec 𝓛) Frame.CatalogueFormOnly
     pub frame_number_of :
-        Answers frame_number_of.ended frame_number_of_symbol.code frame_number_of_symbol.name (λ 𝓤 𝓛. frame_number_of.spec 𝓛) Frame.NumberOfOnly
+        Answers frame_number_of.ended frame_number_of_symbol.code frame_number_of_symbol.name
+        (λ 𝓤 𝓛. frame_number_of.spec 𝓛) Frame.NumberOfOnly
     pub frame_bytes_of :
-        Answers frame_bytes_of.ended frame_bytes_of_symbol.code frame_bytes_of_symbol.name (λ 𝓤 𝓛. frame_bytes_of.spec 𝓛) Frame.BytesOfOnly
+        Answers frame_bytes_of.ended frame_bytes_of_symbol.code frame_bytes_of_symbol.name
+        (λ 𝓤 𝓛. frame_bytes_of.spec 𝓛) Frame.BytesOfOnly
     pub frame_dgn_bytes :
-        Answers frame_dgn_bytes.ended frame_dgn_bytes_symbol.code frame_dgn_bytes_symbol.name (λ 𝓤 𝓛. frame_dgn_bytes.spec 𝓛) Frame.DgnBytesOnly
-    pub frame_dgn_of : Answers frame_dgn_of.ended frame_dgn_of_symbol.code frame_dgn_of_symbol.name (λ 𝓤 𝓛. frame_dgn_of.spec 𝓛) Frame.DgnOfOnly
+        Answers frame_dgn_bytes.ended frame_dgn_bytes_symbol.code frame_dgn_bytes_symbol.name
+        (λ 𝓤 𝓛. frame_dgn_bytes.spec 𝓛) Frame.DgnBytesOnly
+    pub frame_dgn_of :
+        Answers frame_dgn_of.ended frame_dgn_of_symbol.code frame_dgn_of_symbol.name
+        (λ 𝓤 𝓛. frame_dgn_of.spec 𝓛) Frame.DgnOfOnly
     -- Long messages, eight senders at once
-    pub message_new : Answers message_new.ended message_new_symbol.code message_new_symbol.name (λ 𝓤 𝓛. message_new.spec 𝓛) Message.NewOnly
-    pub message_hear : Answers message_hear.ended message_hear_symbol.code message_hear_symbol.name (λ 𝓤 𝓛. message_hear.spec 𝓛) Message.HearOnly
+    pub message_new :
+        Answers message_new.ended message_new_symbol.code message_new_symbol.name
+        (λ 𝓤 𝓛. message_new.spec 𝓛) Message.NewOnly
+    pub message_hear :
+        Answers message_hear.ended message_hear_symbol.code message_hear_symbol.name
+        (λ 𝓤 𝓛. message_hear.spec 𝓛) Message.HearOnly
     pub message_answer_refusal :
-        Answers message_answer_refusal.ended message_answer_refusal_symbol.code message_answer_refusal_symbol.name (λ 𝓤 𝓛. message_answer_refusal.spec 𝓛)
-        Message.AnswerRefusalOnly
+        Answers message_answer_refusal.ended message_answer_refusal_symbol.code message_answer_refusal_symbol.name
+        (λ 𝓤 𝓛. message_answer_refusal.spec 𝓛) Message.AnswerRefusalOnly
     pub message_pause :
-        Answers message_pause.ended message_pause_symbol.code message_pause_symbol.name (λ 𝓤 𝓛. message_pause.spec 𝓛) Message.PauseOnly
+        Answers message_pause.ended message_pause_symbol.code message_pause_symbol.name
+        (λ 𝓤 𝓛. message_pause.spec 𝓛) Message.PauseOnly
     pub message_pausing_refusal :
-        Answers message_pausing_refusal.ended message_pausing_refusal_symbol.code message_pausing_refusal_symbol.name (λ 𝓤 𝓛. message_pausing_refusal.spec 𝓛)
-        Message.PausingRefusalOnly
+        Answers message_pausing_refusal.ended message_pausing_refusal_symbol.code message_pausing_refusal_symbol.name
+        (λ 𝓤 𝓛. message_pausing_refusal.spec 𝓛) Message.PausingRefusalOnly
     -- the answer is a part of the storage: two are the same that have the same bytes
     pub message_message :
-        AnswersBy message_message.ended message_message_symbol.code message_message_symbol.name (λ 𝓤 𝓛. message_message.spec 𝓛) (λ κs r s. r.now ≡ s.now)
-        Message.MessageOnly
+        AnswersBy message_message.ended message_message_symbol.code message_message_symbol.name
+        (λ 𝓤 𝓛. message_message.spec 𝓛) (λ κs r s. r.now ≡ s.now) Message.MessageOnly
     pub message_announcement :
-        Answers message_announcement.ended message_announcement_symbol.code message_announcement_symbol.name (λ 𝓤 𝓛. message_announcement.spec 𝓛)
-        Message.AnnouncementOnly
+        Answers message_announcement.ended message_announcement_symbol.code message_announcement_symbol.name
+        (λ 𝓤 𝓛. message_announcement.spec 𝓛) Message.AnnouncementOnly
     pub message_announcing_refusal :
         Answers message_announcing_refusal.ended message_announcing_refusal_symbol.code message_announcing_refusal_symbol.name
         (λ 𝓤 𝓛. message_announcing_refusal.spec 𝓛) Message.AnnouncingRefusalOnly
     pub message_packet :
-        Answers message_packet.ended message_packet_symbol.code message_packet_symbol.name (λ 𝓤 𝓛. message_packet.spec 𝓛) Message.PacketOnly
+        Answers message_packet.ended message_packet_symbol.code message_packet_symbol.name
+        (λ 𝓤 𝓛. message_packet.spec 𝓛) Message.PacketOnly
     pub message_splitting_refusal :
-        Answers message_splitting_refusal.ended message_splitting_refusal_symbol.code message_splitting_refusal_symbol.name (λ 𝓤 𝓛. message_splitting_refusal.spec 𝓛)
-        Message.SplittingRefusalOnly
+        Answers message_splitting_refusal.ended message_splitting_refusal_symbol.code message_splitting_refusal_symbol.name
+        (λ 𝓤 𝓛. message_splitting_refusal.spec 𝓛) Message.SplittingRefusalOnly
     pub message_unsplittable_refusal :
         Answers message_unsplittable_refusal.ended message_unsplittable_refusal_symbol.code message_unsplittable_refusal_symbol.name
         (λ 𝓤 𝓛. message_unsplittable_refusal.spec 𝓛) Message.UnsplittableRefusalOnly
     -- Fast packets
-    pub fast_start : Answers fast_start.ended fast_start_symbol.code fast_start_symbol.name (λ 𝓤 𝓛. fast_start.spec 𝓛) Fast.StartOnly
+    pub fast_start :
+        Answers fast_start.ended fast_start_symbol.code fast_start_symbol.name
+        (λ 𝓤 𝓛. fast_start.spec 𝓛) Fast.StartOnly
     pub fast_starting_refusal :
-        Answers fast_starting_refusal.ended fast_starting_refusal_symbol.code fast_starting_refusal_symbol.name (λ 𝓤 𝓛. fast_starting_refusal.spec 𝓛)
-        Fast.StartingRefusalOnly
-    pub fast_hear : Answers fast_hear.ended fast_hear_symbol.code fast_hear_symbol.name (λ 𝓤 𝓛. fast_hear.spec 𝓛) Fast.HearOnly
+        Answers fast_starting_refusal.ended fast_starting_refusal_symbol.code fast_starting_refusal_symbol.name
+        (λ 𝓤 𝓛. fast_starting_refusal.spec 𝓛) Fast.StartingRefusalOnly
+    pub fast_hear :
+        Answers fast_hear.ended fast_hear_symbol.code fast_hear_symbol.name
+        (λ 𝓤 𝓛. fast_hear.spec 𝓛) Fast.HearOnly
     pub fast_answer_refusal :
-        Answers fast_answer_refusal.ended fast_answer_refusal_symbol.code fast_answer_refusal_symbol.name (λ 𝓤 𝓛. fast_answer_refusal.spec 𝓛)
-        Fast.AnswerRefusalOnly
-    pub fast_pause : Answers fast_pause.ended fast_pause_symbol.code fast_pause_symbol.name (λ 𝓤 𝓛. fast_pause.spec 𝓛) Fast.PauseOnly
+        Answers fast_answer_refusal.ended fast_answer_refusal_symbol.code fast_answer_refusal_symbol.name
+        (λ 𝓤 𝓛. fast_answer_refusal.spec 𝓛) Fast.AnswerRefusalOnly
+    pub fast_pause :
+        Answers fast_pause.ended fast_pause_symbol.code fast_pause_symbol.name
+        (λ 𝓤 𝓛. fast_pause.spec 𝓛) Fast.PauseOnly
     pub fast_pausing_refusal :
-        Answers fast_pausing_refusal.ended fast_pausing_refusal_symbol.code fast_pausing_refusal_symbol.name (λ 𝓤 𝓛. fast_pausing_refusal.spec 𝓛)
-        Fast.PausingRefusalOnly
+        Answers fast_pausing_refusal.ended fast_pausing_refusal_symbol.code fast_pausing_refusal_symbol.name
+        (λ 𝓤 𝓛. fast_pausing_refusal.spec 𝓛) Fast.PausingRefusalOnly
     pub fast_message :
-        AnswersBy fast_message.ended fast_message_symbol.code fast_message_symbol.name (λ 𝓤 𝓛. fast_message.spec 𝓛) (λ κs r s. r.now ≡ s.now)
-        Fast.MessageOnly
-    pub fast_frame_of : Answers fast_frame_of.ended fast_frame_of_symbol.code fast_frame_of_symbol.name (λ 𝓤 𝓛. fast_frame_of.spec 𝓛) Fast.FrameOfOnly
+        AnswersBy fast_message.ended fast_message_symbol.code fast_message_symbol.name
+        (λ 𝓤 𝓛. fast_message.spec 𝓛) (λ κs r s. r.now ≡ s.now) Fast.MessageOnly
+    pub fast_frame_of :
+        Answers fast_frame_of.ended fast_frame_of_symbol.code fast_frame_of_symbol.name
+        (λ 𝓤 𝓛. fast_frame_of.spec 𝓛) Fast.FrameOfOnly
     pub fast_splitting_refusal :
-        Answers fast_splitting_refusal.ended fast_splitting_refusal_symbol.code fast_splitting_refusal_symbol.name (λ 𝓤 𝓛. fast_splitting_refusal.spec 𝓛)
-        Fast.SplittingRefusalOnly
+        Answers fast_splitting_refusal.ended fast_splitting_refusal_symbol.code fast_splitting_refusal_symbol.name
+        (λ 𝓤 𝓛. fast_splitting_refusal.spec 𝓛) Fast.SplittingRefusalOnly
     -- Field catalogue
     pub catalogue_rows :
-        Answers catalogue_rows.ended catalogue_rows_symbol.code catalogue_rows_symbol.name (λ 𝓤 𝓛. catalogue_rows.spec 𝓛) Catalogue.RowsOnly
+        Answers catalogue_rows.ended catalogue_rows_symbol.code catalogue_rows_symbol.name
+        (λ 𝓤 𝓛. catalogue_rows.spec 𝓛) Catalogue.RowsOnly
     pub catalogue_row_at :
-        Answers catalogue_row_at.ended catalogue_row_at_symbol.code catalogue_row_at_symbol.name (λ 𝓤 𝓛. catalogue_row_at.spec 𝓛) Catalogue.RowAtOnly
+        Answers catalogue_row_at.ended catalogue_row_at_symbol.code catalogue_row_at_symbol.name
+        (λ 𝓤 𝓛. catalogue_row_at.spec 𝓛) Catalogue.RowAtOnly
     pub catalogue_rows_of :
-        Answers catalogue_rows_of.ended catalogue_rows_of_symbol.code catalogue_rows_of_symbol.name (λ 𝓤 𝓛. catalogue_rows_of.spec 𝓛) Catalogue.RowsOfOnly
+        Answers catalogue_rows_of.ended catalogue_rows_of_symbol.code catalogue_rows_of_symbol.name
+        (λ 𝓤 𝓛. catalogue_rows_of.spec 𝓛) Catalogue.RowsOfOnly
     pub catalogue_has_instance :
-        Answers catalogue_has_instance.ended catalogue_has_instance_symbol.code catalogue_has_instance_symbol.name (λ 𝓤 𝓛. catalogue_has_instance.spec 𝓛)
-        Catalogue.HasInstanceOnly
+        Answers catalogue_has_instance.ended catalogue_has_instance_symbol.code catalogue_has_instance_symbol.name
+        (λ 𝓤 𝓛. catalogue_has_instance.spec 𝓛) Catalogue.HasInstanceOnly
     pub catalogue_steps_in_one :
-        Answers catalogue_steps_in_one.ended catalogue_steps_in_one_symbol.code catalogue_steps_in_one_symbol.name (λ 𝓤 𝓛. catalogue_steps_in_one.spec 𝓛)
-        Catalogue.StepsInOneOnly
+        Answers catalogue_steps_in_one.ended catalogue_steps_in_one_symbol.code catalogue_steps_in_one_symbol.name
+        (λ 𝓤 𝓛. catalogue_steps_in_one.spec 𝓛) Catalogue.StepsInOneOnly
     pub catalogue_classify :
-        Answers catalogue_classify.ended catalogue_classify_symbol.code catalogue_classify_symbol.name (λ 𝓤 𝓛. catalogue_classify.spec 𝓛)
-        Catalogue.ClassifyOnly
+        Answers catalogue_classify.ended catalogue_classify_symbol.code catalogue_classify_symbol.name
+        (λ 𝓤 𝓛. catalogue_classify.spec 𝓛) Catalogue.ClassifyOnly
     pub catalogue_read :
-        Answers catalogue_read.ended catalogue_read_symbol.code catalogue_read_symbol.name (λ 𝓤 𝓛. catalogue_read.spec 𝓛) Catalogue.ReadOnly
+        Answers catalogue_read.ended catalogue_read_symbol.code catalogue_read_symbol.name
+        (λ 𝓤 𝓛. catalogue_read.spec 𝓛) Catalogue.ReadOnly
     pub catalogue_read_scaled :
-        Answers catalogue_read_scaled.ended catalogue_read_scaled_symbol.code catalogue_read_scaled_symbol.name (λ 𝓤 𝓛. catalogue_read_scaled.spec 𝓛)
-        Catalogue.ReadScaledOnly
+        Answers catalogue_read_scaled.ended catalogue_read_scaled_symbol.code catalogue_read_scaled_symbol.name
+        (λ 𝓤 𝓛. catalogue_read_scaled.spec 𝓛) Catalogue.ReadScaledOnly
     pub catalogue_write :
-        Answers catalogue_write.ended catalogue_write_symbol.code catalogue_write_symbol.name (λ 𝓤 𝓛. catalogue_write.spec 𝓛) Catalogue.WriteOnly
+        Answers catalogue_write.ended catalogue_write_symbol.code catalogue_write_symbol.name
+        (λ 𝓤 𝓛. catalogue_write.spec 𝓛) Catalogue.WriteOnly
     pub catalogue_looked_refusal :
-        Answers catalogue_looked_refusal.ended catalogue_looked_refusal_symbol.code catalogue_looked_refusal_symbol.name (λ 𝓤 𝓛. catalogue_looked_refusal.spec 𝓛)
-        Catalogue.LookedRefusalOnly
+        Answers catalogue_looked_refusal.ended catalogue_looked_refusal_symbol.code catalogue_looked_refusal_symbol.name
+        (λ 𝓤 𝓛. catalogue_looked_refusal.spec 𝓛) Catalogue.LookedRefusalOnly
     pub catalogue_reading_refusal :
-        Answers catalogue_reading_refusal.ended catalogue_reading_refusal_symbol.code catalogue_reading_refusal_symbol.name (λ 𝓤 𝓛. catalogue_reading_refusal.spec 𝓛)
-        Catalogue.ReadingRefusalOnly
+        Answers catalogue_reading_refusal.ended catalogue_reading_refusal_symbol.code catalogue_reading_refusal_symbol.name
+        (λ 𝓤 𝓛. catalogue_reading_refusal.spec 𝓛) Catalogue.ReadingRefusalOnly
     pub catalogue_scaled_reading_refusal :
         Answers catalogue_scaled_reading_refusal.ended catalogue_scaled_reading_refusal_symbol.code catalogue_scaled_reading_refusal_symbol.name
         (λ 𝓤 𝓛. catalogue_scaled_reading_refusal.spec 𝓛) Catalogue.ScaledReadingRefusalOnly
     pub catalogue_writing_refusal :
-        Answers catalogue_writing_refusal.ended catalogue_writing_refusal_symbol.code catalogue_writing_refusal_symbol.name (λ 𝓤 𝓛. catalogue_writing_refusal.spec 𝓛)
-        Catalogue.WritingRefusalOnly
+        Answers catalogue_writing_refusal.ended catalogue_writing_refusal_symbol.code catalogue_writing_refusal_symbol.name
+        (λ 𝓤 𝓛. catalogue_writing_refusal.spec 𝓛) Catalogue.WritingRefusalOnly
     pub catalogue_row_of :
-        Answers catalogue_row_of.ended catalogue_row_of_symbol.code catalogue_row_of_symbol.name (λ 𝓤 𝓛. catalogue_row_of.spec 𝓛) Catalogue.RowOfOnly
+        Answers catalogue_row_of.ended catalogue_row_of_symbol.code catalogue_row_of_symbol.name
+        (λ 𝓤 𝓛. catalogue_row_of.spec 𝓛) Catalogue.RowOfOnly
     pub catalogue_packed_rows :
-        Answers catalogue_packed_rows.ended catalogue_packed_rows_symbol.code catalogue_packed_rows_symbol.name (λ 𝓤 𝓛. catalogue_packed_rows.spec 𝓛)
-        Catalogue.PackedRowsOnly
+        Answers catalogue_packed_rows.ended catalogue_packed_rows_symbol.code catalogue_packed_rows_symbol.name
+        (λ 𝓤 𝓛. catalogue_packed_rows.spec 𝓛) Catalogue.PackedRowsOnly
     pub catalogue_row_in :
-        Answers catalogue_row_in.ended catalogue_row_in_symbol.code catalogue_row_in_symbol.name (λ 𝓤 𝓛. catalogue_row_in.spec 𝓛) Catalogue.RowInOnly
+        Answers catalogue_row_in.ended catalogue_row_in_symbol.code catalogue_row_in_symbol.name
+        (λ 𝓤 𝓛. catalogue_row_in.spec 𝓛) Catalogue.RowInOnly
     pub catalogue_rows_in :
-        Answers catalogue_rows_in.ended catalogue_rows_in_symbol.code catalogue_rows_in_symbol.name (λ 𝓤 𝓛. catalogue_rows_in.spec 𝓛) Catalogue.RowsInOnly
+        Answers catalogue_rows_in.ended catalogue_rows_in_symbol.code catalogue_rows_in_symbol.name
+        (λ 𝓤 𝓛. catalogue_rows_in.spec 𝓛) Catalogue.RowsInOnly
     pub catalogue_row_of_in :
-        Answers catalogue_row_of_in.ended catalogue_row_of_in_symbol.code catalogue_row_of_in_symbol.name (λ 𝓤 𝓛. catalogue_row_of_in.spec 𝓛)
-        Catalogue.RowOfInOnly
+        Answers catalogue_row_of_in.ended catalogue_row_of_in_symbol.code catalogue_row_of_in_symbol.name
+        (λ 𝓤 𝓛. catalogue_row_of_in.spec 𝓛) Catalogue.RowOfInOnly
     pub catalogue_read_row :
-        Answers catalogue_read_row.ended catalogue_read_row_symbol.code catalogue_read_row_symbol.name (λ 𝓤 𝓛. catalogue_read_row.spec 𝓛) Catalogue.ReadRowOnly
+        Answers catalogue_read_row.ended catalogue_read_row_symbol.code catalogue_read_row_symbol.name
+        (λ 𝓤 𝓛. catalogue_read_row.spec 𝓛) Catalogue.ReadRowOnly
     pub catalogue_read_row_scaled :
-        Answers catalogue_read_row_scaled.ended catalogue_read_row_scaled_symbol.code catalogue_read_row_scaled_symbol.name (λ 𝓤 𝓛. catalogue_read_row_scaled.spec 𝓛)
-        Catalogue.ReadRowScaledOnly
+        Answers catalogue_read_row_scaled.ended catalogue_read_row_scaled_symbol.code catalogue_read_row_scaled_symbol.name
+        (λ 𝓤 𝓛. catalogue_read_row_scaled.spec 𝓛) Catalogue.ReadRowScaledOnly
     pub catalogue_write_row :
-        Answers catalogue_write_row.ended catalogue_write_row_symbol.code catalogue_write_row_symbol.name (λ 𝓤 𝓛. catalogue_write_row.spec 𝓛)
-        Catalogue.WriteRowOnly
+        Answers catalogue_write_row.ended catalogue_write_row_symbol.code catalogue_write_row_symbol.name
+        (λ 𝓤 𝓛. catalogue_write_row.spec 𝓛) Catalogue.WriteRowOnly
     -- Claiming an address
-    pub claim_start : Answers claim_start.ended claim_start_symbol.code claim_start_symbol.name (λ 𝓤 𝓛. claim_start.spec 𝓛) Claim.StartOnly
-    pub claim_hear : Answers claim_hear.ended claim_hear_symbol.code claim_hear_symbol.name (λ 𝓤 𝓛. claim_hear.spec 𝓛) Claim.HearOnly
-    pub claim_pause : Answers claim_pause.ended claim_pause_symbol.code claim_pause_symbol.name (λ 𝓤 𝓛. claim_pause.spec 𝓛) Claim.PauseOnly
-    pub claim_stands : Answers claim_stands.ended claim_stands_symbol.code claim_stands_symbol.name (λ 𝓤 𝓛. claim_stands.spec 𝓛) Claim.StandsOnly
+    pub claim_start :
+        Answers claim_start.ended claim_start_symbol.code claim_start_symbol.name
+        (λ 𝓤 𝓛. claim_start.spec 𝓛) Claim.StartOnly
+    pub claim_hear :
+        Answers claim_hear.ended claim_hear_symbol.code claim_hear_symbol.name
+        (λ 𝓤 𝓛. claim_hear.spec 𝓛) Claim.HearOnly
+    pub claim_pause :
+        Answers claim_pause.ended claim_pause_symbol.code claim_pause_symbol.name
+        (λ 𝓤 𝓛. claim_pause.spec 𝓛) Claim.PauseOnly
+    pub claim_stands :
+        Answers claim_stands.ended claim_stands_symbol.code claim_stands_symbol.name
+        (λ 𝓤 𝓛. claim_stands.spec 𝓛) Claim.StandsOnly
     pub claim_our_claim :
-        Answers claim_our_claim.ended claim_our_claim_symbol.code claim_our_claim_symbol.name (λ 𝓤 𝓛. claim_our_claim.spec 𝓛) Claim.OurClaimOnly
+        Answers claim_our_claim.ended claim_our_claim_symbol.code claim_our_claim_symbol.name
+        (λ 𝓤 𝓛. claim_our_claim.spec 𝓛) Claim.OurClaimOnly
     pub claim_keeps_rules :
-        Answers claim_keeps_rules.ended claim_keeps_rules_symbol.code claim_keeps_rules_symbol.name (λ 𝓤 𝓛. claim_keeps_rules.spec 𝓛) Claim.KeepsRulesOnly
+        Answers claim_keeps_rules.ended claim_keeps_rules_symbol.code claim_keeps_rules_symbol.name
+        (λ 𝓤 𝓛. claim_keeps_rules.spec 𝓛) Claim.KeepsRulesOnly
     pub claim_holds_list :
-        Answers claim_holds_list.ended claim_holds_list_symbol.code claim_holds_list_symbol.name (λ 𝓤 𝓛. claim_holds_list.spec 𝓛) Claim.HoldsListOnly
+        Answers claim_holds_list.ended claim_holds_list_symbol.code claim_holds_list_symbol.name
+        (λ 𝓤 𝓛. claim_holds_list.spec 𝓛) Claim.HoldsListOnly
     pub claim_starting_refusal :
-        Answers claim_starting_refusal.ended claim_starting_refusal_symbol.code claim_starting_refusal_symbol.name (λ 𝓤 𝓛. claim_starting_refusal.spec 𝓛)
-        Claim.StartingRefusalOnly
+        Answers claim_starting_refusal.ended claim_starting_refusal_symbol.code claim_starting_refusal_symbol.name
+        (λ 𝓤 𝓛. claim_starting_refusal.spec 𝓛) Claim.StartingRefusalOnly
     pub claim_hearing_refusal :
-        Answers claim_hearing_refusal.ended claim_hearing_refusal_symbol.code claim_hearing_refusal_symbol.name (λ 𝓤 𝓛. claim_hearing_refusal.spec 𝓛)
-        Claim.HearingRefusalOnly
+        Answers claim_hearing_refusal.ended claim_hearing_refusal_symbol.code claim_hearing_refusal_symbol.name
+        (λ 𝓤 𝓛. claim_hearing_refusal.spec 𝓛) Claim.HearingRefusalOnly
     pub claim_pausing_refusal :
-        Answers claim_pausing_refusal.ended claim_pausing_refusal_symbol.code claim_pausing_refusal_symbol.name (λ 𝓤 𝓛. claim_pausing_refusal.spec 𝓛)
-        Claim.PausingRefusalOnly
+        Answers claim_pausing_refusal.ended claim_pausing_refusal_symbol.code claim_pausing_refusal_symbol.name
+        (λ 𝓤 𝓛. claim_pausing_refusal.spec 𝓛) Claim.PausingRefusalOnly
     pub claim_standing_refusal :
-        Answers claim_standing_refusal.ended claim_standing_refusal_symbol.code claim_standing_refusal_symbol.name (λ 𝓤 𝓛. claim_standing_refusal.spec 𝓛)
-        Claim.StandingRefusalOnly
+        Answers claim_standing_refusal.ended claim_standing_refusal_symbol.code claim_standing_refusal_symbol.name
+        (λ 𝓤 𝓛. claim_standing_refusal.spec 𝓛) Claim.StandingRefusalOnly
     pub claim_sending_refusal :
-        Answers claim_sending_refusal.ended claim_sending_refusal_symbol.code claim_sending_refusal_symbol.name (λ 𝓤 𝓛. claim_sending_refusal.spec 𝓛)
-        Claim.SendingRefusalOnly
+        Answers claim_sending_refusal.ended claim_sending_refusal_symbol.code claim_sending_refusal_symbol.name
+        (λ 𝓤 𝓛. claim_sending_refusal.spec 𝓛) Claim.SendingRefusalOnly
     -- Node table
-    pub nodes_empty : Answers nodes_empty.ended nodes_empty_symbol.code nodes_empty_symbol.name (λ 𝓤 𝓛. nodes_empty.spec 𝓛) Nodes.EmptyOnly
-    pub nodes_hear : Answers nodes_hear.ended nodes_hear_symbol.code nodes_hear_symbol.name (λ 𝓤 𝓛. nodes_hear.spec 𝓛) Nodes.HearOnly
-    pub nodes_pause : Answers nodes_pause.ended nodes_pause_symbol.code nodes_pause_symbol.name (λ 𝓤 𝓛. nodes_pause.spec 𝓛) Nodes.PauseOnly
-    pub nodes_look_up : Answers nodes_look_up.ended nodes_look_up_symbol.code nodes_look_up_symbol.name (λ 𝓤 𝓛. nodes_look_up.spec 𝓛) Nodes.LookUpOnly
+    pub nodes_empty :
+        Answers nodes_empty.ended nodes_empty_symbol.code nodes_empty_symbol.name
+        (λ 𝓤 𝓛. nodes_empty.spec 𝓛) Nodes.EmptyOnly
+    pub nodes_hear :
+        Answers nodes_hear.ended nodes_hear_symbol.code nodes_hear_symbol.name
+        (λ 𝓤 𝓛. nodes_hear.spec 𝓛) Nodes.HearOnly
+    pub nodes_pause :
+        Answers nodes_pause.ended nodes_pause_symbol.code nodes_pause_symbol.name
+        (λ 𝓤 𝓛. nodes_pause.spec 𝓛) Nodes.PauseOnly
+    pub nodes_look_up :
+        Answers nodes_look_up.ended nodes_look_up_symbol.code nodes_look_up_symbol.name
+        (λ 𝓤 𝓛. nodes_look_up.spec 𝓛) Nodes.LookUpOnly
     pub nodes_find_address :
-        Answers nodes_find_address.ended nodes_find_address_symbol.code nodes_find_address_symbol.name (λ 𝓤 𝓛. nodes_find_address.spec 𝓛) Nodes.FindAddressOnly
+        Answers nodes_find_address.ended nodes_find_address_symbol.code nodes_find_address_symbol.name
+        (λ 𝓤 𝓛. nodes_find_address.spec 𝓛) Nodes.FindAddressOnly
     pub nodes_find_challenger :
-        Answers nodes_find_challenger.ended nodes_find_challenger_symbol.code nodes_find_challenger_symbol.name (λ 𝓤 𝓛. nodes_find_challenger.spec 𝓛)
-        Nodes.FindChallengerOnly
+        Answers nodes_find_challenger.ended nodes_find_challenger_symbol.code nodes_find_challenger_symbol.name
+        (λ 𝓤 𝓛. nodes_find_challenger.spec 𝓛) Nodes.FindChallengerOnly
     pub nodes_hearing_refusal :
-        Answers nodes_hearing_refusal.ended nodes_hearing_refusal_symbol.code nodes_hearing_refusal_symbol.name (λ 𝓤 𝓛. nodes_hearing_refusal.spec 𝓛)
-        Nodes.HearingRefusalOnly
+        Answers nodes_hearing_refusal.ended nodes_hearing_refusal_symbol.code nodes_hearing_refusal_symbol.name
+        (λ 𝓤 𝓛. nodes_hearing_refusal.spec 𝓛) Nodes.HearingRefusalOnly
     pub nodes_pausing_refusal :
-        Answers nodes_pausing_refusal.ended nodes_pausing_refusal_symbol.code nodes_pausing_refusal_symbol.name (λ 𝓤 𝓛. nodes_pausing_refusal.spec 𝓛)
-        Nodes.PausingRefusalOnly
+        Answers nodes_pausing_refusal.ended nodes_pausing_refusal_symbol.code nodes_pausing_refusal_symbol.name
+        (λ 𝓤 𝓛. nodes_pausing_refusal.spec 𝓛) Nodes.PausingRefusalOnly
     pub nodes_looked_up_refusal :
-        Answers nodes_looked_up_refusal.ended nodes_looked_up_refusal_symbol.code nodes_looked_up_refusal_symbol.name (λ 𝓤 𝓛. nodes_looked_up_refusal.spec 𝓛)
-        Nodes.LookedUpRefusalOnly
+        Answers nodes_looked_up_refusal.ended nodes_looked_up_refusal_symbol.code nodes_looked_up_refusal_symbol.name
+        (λ 𝓤 𝓛. nodes_looked_up_refusal.spec 𝓛) Nodes.LookedUpRefusalOnly
     pub nodes_found_address_refusal :
         Answers nodes_found_address_refusal.ended nodes_found_address_refusal_symbol.code nodes_found_address_refusal_symbol.name
         (λ 𝓤 𝓛. nodes_found_address_refusal.spec 𝓛) Nodes.FoundAddressRefusalOnly
@@ -500,20 +553,23 @@ module _ (M : Type 1) where
         (λ 𝓤 𝓛. nodes_found_challenger_refusal.spec 𝓛) Nodes.FoundChallengerRefusalOnly
     -- Commands, requests, replies
     pub command_start :
-        Answers command_start.ended command_start_symbol.code command_start_symbol.name (λ 𝓤 𝓛. command_start.spec 𝓛) Command.StartOnly
+        Answers command_start.ended command_start_symbol.code command_start_symbol.name
+        (λ 𝓤 𝓛. command_start.spec 𝓛) Command.StartOnly
     pub command_route :
-        Answers command_route.ended command_route_symbol.code command_route_symbol.name (λ 𝓤 𝓛. command_route.spec 𝓛) Command.RouteOnly
+        Answers command_route.ended command_route_symbol.code command_route_symbol.name
+        (λ 𝓤 𝓛. command_route.spec 𝓛) Command.RouteOnly
     pub command_request :
-        Answers command_request.ended command_request_symbol.code command_request_symbol.name (λ 𝓤 𝓛. command_request.spec 𝓛) Command.RequestOnly
+        Answers command_request.ended command_request_symbol.code command_request_symbol.name
+        (λ 𝓤 𝓛. command_request.spec 𝓛) Command.RequestOnly
     pub command_acknowledge :
-        Answers command_acknowledge.ended command_acknowledge_symbol.code command_acknowledge_symbol.name (λ 𝓤 𝓛. command_acknowledge.spec 𝓛)
-        Command.AcknowledgeOnly
+        Answers command_acknowledge.ended command_acknowledge_symbol.code command_acknowledge_symbol.name
+        (λ 𝓤 𝓛. command_acknowledge.spec 𝓛) Command.AcknowledgeOnly
     pub command_starting_refusal :
-        Answers command_starting_refusal.ended command_starting_refusal_symbol.code command_starting_refusal_symbol.name (λ 𝓤 𝓛. command_starting_refusal.spec 𝓛)
-        Command.StartingRefusalOnly
+        Answers command_starting_refusal.ended command_starting_refusal_symbol.code command_starting_refusal_symbol.name
+        (λ 𝓤 𝓛. command_starting_refusal.spec 𝓛) Command.StartingRefusalOnly
     pub command_routing_refusal :
-        Answers command_routing_refusal.ended command_routing_refusal_symbol.code command_routing_refusal_symbol.name (λ 𝓤 𝓛. command_routing_refusal.spec 𝓛)
-        Command.RoutingRefusalOnly
+        Answers command_routing_refusal.ended command_routing_refusal_symbol.code command_routing_refusal_symbol.name
+        (λ 𝓤 𝓛. command_routing_refusal.spec 𝓛) Command.RoutingRefusalOnly
     pub command_requesting_refusal :
         Answers command_requesting_refusal.ended command_requesting_refusal_symbol.code command_requesting_refusal_symbol.name
         (λ 𝓤 𝓛. command_requesting_refusal.spec 𝓛) Command.RequestingRefusalOnly
@@ -522,17 +578,20 @@ module _ (M : Type 1) where
         (λ 𝓤 𝓛. command_acknowledging_refusal.spec 𝓛) Command.AcknowledgingRefusalOnly
     -- Faults
     pub faults_packed_rows :
-        Answers faults_packed_rows.ended faults_packed_rows_symbol.code faults_packed_rows_symbol.name (λ 𝓤 𝓛. faults_packed_rows.spec 𝓛)
-        Faults.PackedRowsOnly
+        Answers faults_packed_rows.ended faults_packed_rows_symbol.code faults_packed_rows_symbol.name
+        (λ 𝓤 𝓛. faults_packed_rows.spec 𝓛) Faults.PackedRowsOnly
     pub faults_row_at :
-        Answers faults_row_at.ended faults_row_at_symbol.code faults_row_at_symbol.name (λ 𝓤 𝓛. faults_row_at.spec 𝓛) Faults.RowAtOnly
+        Answers faults_row_at.ended faults_row_at_symbol.code faults_row_at_symbol.name
+        (λ 𝓤 𝓛. faults_row_at.spec 𝓛) Faults.RowAtOnly
     pub faults_read :
-        Answers faults_read.ended faults_read_symbol.code faults_read_symbol.name (λ 𝓤 𝓛. faults_read.spec 𝓛) Faults.ReadOnly
+        Answers faults_read.ended faults_read_symbol.code faults_read_symbol.name
+        (λ 𝓤 𝓛. faults_read.spec 𝓛) Faults.ReadOnly
     pub faults_write :
-        Answers faults_write.ended faults_write_symbol.code faults_write_symbol.name (λ 𝓤 𝓛. faults_write.spec 𝓛) Faults.WriteOnly
+        Answers faults_write.ended faults_write_symbol.code faults_write_symbol.name
+        (λ 𝓤 𝓛. faults_write.spec 𝓛) Faults.WriteOnly
     pub faults_read_service_point :
-        Answers faults_read_service_point.ended faults_read_service_point_symbol.code faults_read_service_point_symbol.name (λ 𝓤 𝓛. faults_read_service_point.spec 𝓛)
-        Faults.ReadServicePointOnly
+        Answers faults_read_service_point.ended faults_read_service_point_symbol.code faults_read_service_point_symbol.name
+        (λ 𝓤 𝓛. faults_read_service_point.spec 𝓛) Faults.ReadServicePointOnly
     pub faults_write_service_point :
         Answers faults_write_service_point.ended faults_write_service_point_symbol.code faults_write_service_point_symbol.name
         (λ 𝓤 𝓛. faults_write_service_point.spec 𝓛) Faults.WriteServicePointOnly
@@ -540,69 +599,92 @@ module _ (M : Type 1) where
         Answers faults_service_point_refusal.ended faults_service_point_refusal_symbol.code faults_service_point_refusal_symbol.name
         (λ 𝓤 𝓛. faults_service_point_refusal.spec 𝓛) Faults.ServicePointRefusalOnly
     pub faults_start :
-        Answers faults_start.ended faults_start_symbol.code faults_start_symbol.name (λ 𝓤 𝓛. faults_start.spec 𝓛) Faults.StartOnly
+        Answers faults_start.ended faults_start_symbol.code faults_start_symbol.name
+        (λ 𝓤 𝓛. faults_start.spec 𝓛) Faults.StartOnly
     pub faults_add :
-        Answers faults_add.ended faults_add_symbol.code faults_add_symbol.name (λ 𝓤 𝓛. faults_add.spec 𝓛) Faults.AddOnly
+        Answers faults_add.ended faults_add_symbol.code faults_add_symbol.name
+        (λ 𝓤 𝓛. faults_add.spec 𝓛) Faults.AddOnly
     pub faults_clear :
-        Answers faults_clear.ended faults_clear_symbol.code faults_clear_symbol.name (λ 𝓤 𝓛. faults_clear.spec 𝓛) Faults.ClearOnly
+        Answers faults_clear.ended faults_clear_symbol.code faults_clear_symbol.name
+        (λ 𝓤 𝓛. faults_clear.spec 𝓛) Faults.ClearOnly
     pub faults_step :
-        Answers faults_step.ended faults_step_symbol.code faults_step_symbol.name (λ 𝓤 𝓛. faults_step.spec 𝓛) Faults.StepOnly
+        Answers faults_step.ended faults_step_symbol.code faults_step_symbol.name
+        (λ 𝓤 𝓛. faults_step.spec 𝓛) Faults.StepOnly
     pub faults_request :
-        Answers faults_request.ended faults_request_symbol.code faults_request_symbol.name (λ 𝓤 𝓛. faults_request.spec 𝓛) Faults.RequestOnly
+        Answers faults_request.ended faults_request_symbol.code faults_request_symbol.name
+        (λ 𝓤 𝓛. faults_request.spec 𝓛) Faults.RequestOnly
     pub faults_reply :
-        Answers faults_reply.ended faults_reply_symbol.code faults_reply_symbol.name (λ 𝓤 𝓛. faults_reply.spec 𝓛) Faults.ReplyOnly
+        Answers faults_reply.ended faults_reply_symbol.code faults_reply_symbol.name
+        (λ 𝓤 𝓛. faults_reply.spec 𝓛) Faults.ReplyOnly
     pub faults_adding_refusal :
-        Answers faults_adding_refusal.ended faults_adding_refusal_symbol.code faults_adding_refusal_symbol.name (λ 𝓤 𝓛. faults_adding_refusal.spec 𝓛)
-        Faults.AddingRefusalOnly
+        Answers faults_adding_refusal.ended faults_adding_refusal_symbol.code faults_adding_refusal_symbol.name
+        (λ 𝓤 𝓛. faults_adding_refusal.spec 𝓛) Faults.AddingRefusalOnly
     pub faults_clearing_refusal :
-        Answers faults_clearing_refusal.ended faults_clearing_refusal_symbol.code faults_clearing_refusal_symbol.name (λ 𝓤 𝓛. faults_clearing_refusal.spec 𝓛)
-        Faults.ClearingRefusalOnly
+        Answers faults_clearing_refusal.ended faults_clearing_refusal_symbol.code faults_clearing_refusal_symbol.name
+        (λ 𝓤 𝓛. faults_clearing_refusal.spec 𝓛) Faults.ClearingRefusalOnly
     pub faults_stepping_refusal :
-        Answers faults_stepping_refusal.ended faults_stepping_refusal_symbol.code faults_stepping_refusal_symbol.name (λ 𝓤 𝓛. faults_stepping_refusal.spec 𝓛)
-        Faults.SteppingRefusalOnly
+        Answers faults_stepping_refusal.ended faults_stepping_refusal_symbol.code faults_stepping_refusal_symbol.name
+        (λ 𝓤 𝓛. faults_stepping_refusal.spec 𝓛) Faults.SteppingRefusalOnly
     pub faults_requesting_refusal :
-        Answers faults_requesting_refusal.ended faults_requesting_refusal_symbol.code faults_requesting_refusal_symbol.name (λ 𝓤 𝓛. faults_requesting_refusal.spec 𝓛)
-        Faults.RequestingRefusalOnly
+        Answers faults_requesting_refusal.ended faults_requesting_refusal_symbol.code faults_requesting_refusal_symbol.name
+        (λ 𝓤 𝓛. faults_requesting_refusal.spec 𝓛) Faults.RequestingRefusalOnly
     -- The capture reader
     pub capture_take_apart :
-        Answers capture_take_apart.ended capture_take_apart_symbol.code capture_take_apart_symbol.name (λ 𝓤 𝓛. capture_take_apart.spec 𝓛)
-        Capture.TakeApartOnly
+        Answers capture_take_apart.ended capture_take_apart_symbol.code capture_take_apart_symbol.name
+        (λ 𝓤 𝓛. capture_take_apart.spec 𝓛) Capture.TakeApartOnly
     pub capture_reading_refusal :
-        Answers capture_reading_refusal.ended capture_reading_refusal_symbol.code capture_reading_refusal_symbol.name (λ 𝓤 𝓛. capture_reading_refusal.spec 𝓛)
-        Capture.ReadingRefusalOnly
+        Answers capture_reading_refusal.ended capture_reading_refusal_symbol.code capture_reading_refusal_symbol.name
+        (λ 𝓤 𝓛. capture_reading_refusal.spec 𝓛) Capture.ReadingRefusalOnly
     pub capture_write :
-        Answers capture_write.ended capture_write_symbol.code capture_write_symbol.name (λ 𝓤 𝓛. capture_write.spec 𝓛) Capture.WriteOnly
-    pub capture_new : Answers capture_new.ended capture_new_symbol.code capture_new_symbol.name (λ 𝓤 𝓛. capture_new.spec 𝓛) Capture.NewOnly
-    pub capture_next : Answers capture_next.ended capture_next_symbol.code capture_next_symbol.name (λ 𝓤 𝓛. capture_next.spec 𝓛) Capture.NextOnly
-    pub capture_last : Answers capture_last.ended capture_last_symbol.code capture_last_symbol.name (λ 𝓤 𝓛. capture_last.spec 𝓛) Capture.LastOnly
+        Answers capture_write.ended capture_write_symbol.code capture_write_symbol.name
+        (λ 𝓤 𝓛. capture_write.spec 𝓛) Capture.WriteOnly
+    pub capture_new :
+        Answers capture_new.ended capture_new_symbol.code capture_new_symbol.name
+        (λ 𝓤 𝓛. capture_new.spec 𝓛) Capture.NewOnly
+    pub capture_next :
+        Answers capture_next.ended capture_next_symbol.code capture_next_symbol.name
+        (λ 𝓤 𝓛. capture_next.spec 𝓛) Capture.NextOnly
+    pub capture_last :
+        Answers capture_last.ended capture_last_symbol.code capture_last_symbol.name
+        (λ 𝓤 𝓛. capture_last.spec 𝓛) Capture.LastOnly
     -- Text put into lent bytes
-    pub text_put : Answers text_put.ended text_put_symbol.code text_put_symbol.name (λ 𝓤 𝓛. text_put.spec 𝓛) Text.PutOnly
+    pub text_put :
+        Answers text_put.ended text_put_symbol.code text_put_symbol.name
+        (λ 𝓤 𝓛. text_put.spec 𝓛) Text.PutOnly
     pub text_put_decimal :
-        Answers text_put_decimal.ended text_put_decimal_symbol.code text_put_decimal_symbol.name (λ 𝓤 𝓛. text_put_decimal.spec 𝓛) Text.PutDecimalOnly
-    pub text_put_hex : Answers text_put_hex.ended text_put_hex_symbol.code text_put_hex_symbol.name (λ 𝓤 𝓛. text_put_hex.spec 𝓛) Text.PutHexOnly
+        Answers text_put_decimal.ended text_put_decimal_symbol.code text_put_decimal_symbol.name
+        (λ 𝓤 𝓛. text_put_decimal.spec 𝓛) Text.PutDecimalOnly
+    pub text_put_hex :
+        Answers text_put_hex.ended text_put_hex_symbol.code text_put_hex_symbol.name
+        (λ 𝓤 𝓛. text_put_hex.spec 𝓛) Text.PutHexOnly
     pub text_put_bytes :
-        Answers text_put_bytes.ended text_put_bytes_symbol.code text_put_bytes_symbol.name (λ 𝓤 𝓛. text_put_bytes.spec 𝓛) Text.PutBytesOnly
+        Answers text_put_bytes.ended text_put_bytes_symbol.code text_put_bytes_symbol.name
+        (λ 𝓤 𝓛. text_put_bytes.spec 𝓛) Text.PutBytesOnly
     pub text_decimal_width :
-        Answers text_decimal_width.ended text_decimal_width_symbol.code text_decimal_width_symbol.name (λ 𝓤 𝓛. text_decimal_width.spec 𝓛)
-        Text.DecimalWidthOnly
+        Answers text_decimal_width.ended text_decimal_width_symbol.code text_decimal_width_symbol.name
+        (λ 𝓤 𝓛. text_decimal_width.spec 𝓛) Text.DecimalWidthOnly
     -- The wall panel, above the library
     pub tiles_new :
-        Answers tiles_new.ended tiles_new_symbol.code tiles_new_symbol.name (λ 𝓤 𝓛. tiles_new.spec 𝓛) Tiles.NewOnly
+        Answers tiles_new.ended tiles_new_symbol.code tiles_new_symbol.name
+        (λ 𝓤 𝓛. tiles_new.spec 𝓛) Tiles.NewOnly
     pub tiles_name :
-        Answers tiles_name.ended tiles_name_symbol.code tiles_name_symbol.name (λ 𝓤 𝓛. tiles_name.spec 𝓛) Tiles.NameOnly
+        Answers tiles_name.ended tiles_name_symbol.code tiles_name_symbol.name
+        (λ 𝓤 𝓛. tiles_name.spec 𝓛) Tiles.NameOnly
     pub tiles_hear :
-        Answers tiles_hear.ended tiles_hear_symbol.code tiles_hear_symbol.name (λ 𝓤 𝓛. tiles_hear.spec 𝓛) Tiles.HearOnly
+        Answers tiles_hear.ended tiles_hear_symbol.code tiles_hear_symbol.name
+        (λ 𝓤 𝓛. tiles_hear.spec 𝓛) Tiles.HearOnly
     pub tiles_reading :
-        Answers tiles_reading.ended tiles_reading_symbol.code tiles_reading_symbol.name (λ 𝓤 𝓛. tiles_reading.spec 𝓛) Tiles.ReadTileOnly
+        Answers tiles_reading.ended tiles_reading_symbol.code tiles_reading_symbol.name
+        (λ 𝓤 𝓛. tiles_reading.spec 𝓛) Tiles.ReadTileOnly
     pub tiles_naming_refusal :
-        Answers tiles_naming_refusal.ended tiles_naming_refusal_symbol.code tiles_naming_refusal_symbol.name (λ 𝓤 𝓛. tiles_naming_refusal.spec 𝓛)
-        Tiles.NamingRefusalOnly
+        Answers tiles_naming_refusal.ended tiles_naming_refusal_symbol.code tiles_naming_refusal_symbol.name
+        (λ 𝓤 𝓛. tiles_naming_refusal.spec 𝓛) Tiles.NamingRefusalOnly
     pub tiles_hearing_refusal :
-        Answers tiles_hearing_refusal.ended tiles_hearing_refusal_symbol.code tiles_hearing_refusal_symbol.name (λ 𝓤 𝓛. tiles_hearing_refusal.spec 𝓛)
-        Tiles.HearingRefusalOnly
+        Answers tiles_hearing_refusal.ended tiles_hearing_refusal_symbol.code tiles_hearing_refusal_symbol.name
+        (λ 𝓤 𝓛. tiles_hearing_refusal.spec 𝓛) Tiles.HearingRefusalOnly
     pub tiles_asking_refusal :
-        Answers tiles_asking_refusal.ended tiles_asking_refusal_symbol.code tiles_asking_refusal_symbol.name (λ 𝓤 𝓛. tiles_asking_refusal.spec 𝓛)
-        Tiles.AskingRefusalOnly
+        Answers tiles_asking_refusal.ended tiles_asking_refusal_symbol.code tiles_asking_refusal_symbol.name
+        (λ 𝓤 𝓛. tiles_asking_refusal.spec 𝓛) Tiles.AskingRefusalOnly
 
 abbrev pub EveryCall : Type 2
 EveryCall = (M : Type 1) → EveryCallOver M

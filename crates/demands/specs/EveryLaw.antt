@@ -441,6 +441,9 @@ pub record CommandLaws : Type 0 where
   pub later_bytes_ignored : Command.LaterBytesIgnored
   pub claiming_for_claim_only : Command.ClaimingForClaimOnly
   pub silent_only_global : Command.SilentOnlyGlobal
+  pub claim_exactly : Command.ClaimExactly
+  pub claim_given : Command.ClaimGiven
+  pub unheld_exactly : Command.UnheldExactly
   pub picked_held : Command.PickedHeld
   pub supported_held : Command.SupportedHeld
   pub nak_is_sound : Command.NakIsSound
