@@ -1,5 +1,5 @@
 -- What the loop of `console::listen` keeps, and why it ends.
-use Rattle.std.proofs.Common.{◌≡◌, length, rules}
+use Rattle.std.proofs.Common.{◌≡◌, length}
 use Rattle.console.proofs.listen.Given as goal
 
 abbrev pub invariant-loop-turns : goal.invariant-loop-turns

@@ -1,5 +1,5 @@
 -- What the loop of `console::captures::keep_carry` keeps, and why it ends.
-use Rattle.std.proofs.Common.{◌≡◌, ◌-◌, ◌≤◌, length, rules}
+use Rattle.std.proofs.Common.{◌≡◌, ◌-◌, ◌≤◌, length}
 use Rattle.console.proofs.captures.keep_carry.Given as goal
 
 abbrev pub invariant-loop-i : goal.invariant-loop-i

@@ -1,5 +1,5 @@
 -- What the loop of `console::exercises::fast_packet` keeps, and why it ends.
-use Rattle.std.proofs.Common.{◌≡◌, ◌-◌, ◌≤◌, length, rules}
+use Rattle.std.proofs.Common.{◌≡◌, ◌-◌, ◌≤◌, length}
 use Rattle.console.proofs.exercises.fast_packet.Given as goal
 
 abbrev pub invariant-loop-number : goal.invariant-loop-number

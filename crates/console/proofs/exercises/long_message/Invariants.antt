@@ -1,5 +1,5 @@
 -- What the loop of `console::exercises::long_message` keeps, and why it ends.
-use Rattle.std.proofs.Common.{◌≡◌, ◌-◌, ◌≤◌, length, rules}
+use Rattle.std.proofs.Common.{◌≡◌, ◌-◌, ◌≤◌, length}
 use Rattle.console.proofs.exercises.long_message.Given as goal
 
 abbrev pub invariant-loop-number : goal.invariant-loop-number

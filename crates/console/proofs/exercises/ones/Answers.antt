@@ -1,5 +1,5 @@
 -- `console::exercises::ones` meets its contract. Assumes nothing.
-use Rattle.std.proofs.Common.{pow_pos, rules}
+use Rattle.std.proofs.Common.{pow_pos}
 use Rattle.catalogue.proofs.Bits.{one_shl}
 use Rattle.console.proofs.exercises.ones.Goals as goal
 

@@ -1,5 +1,5 @@
 -- What the loop of `console::fast_packets::keep_dgns` keeps, and why it ends.
-use Rattle.std.proofs.Common.{◌≡◌, ◌-◌, ◌≤◌, length, rules}
+use Rattle.std.proofs.Common.{◌≡◌, ◌-◌, ◌≤◌, length}
 use Rattle.console.proofs.fast_packets.keep_dgns.Given as goal
 
 abbrev pub invariant-loop-i : goal.invariant-loop-i

@@ -1,5 +1,5 @@
 -- What the loop of `console::fast_packets::typed_list` keeps, and why it ends.
-use Rattle.std.proofs.Common.{◌≡◌, ◌-◌, ◌≤◌, length, rules}
+use Rattle.std.proofs.Common.{◌≡◌, ◌-◌, ◌≤◌, length}
 use Rattle.console.proofs.fast_packets.typed_list.Given as goal
 
 abbrev pub invariant-loop-i : goal.invariant-loop-i

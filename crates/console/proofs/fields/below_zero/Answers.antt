@@ -1,5 +1,5 @@
 -- `console::fields::below_zero` is safe. Assumes nothing.
-use Rattle.std.proofs.Common.{◌≡◌, ℕ, zero, suc, ◌+◌, ◌^◌, ◌<◌, ℤ, pos, negsuc, ◌-ℤ◌, refl, ap, arith, w64, SFits, to_z, of_z, rules}
+use Rattle.std.proofs.Common.{◌≡◌, ℕ, zero, suc, ◌+◌, ◌^◌, ◌<◌, ℤ, pos, negsuc, ◌-ℤ◌, refl, ap, arith, w64, SFits, to_z, of_z}
 use mir.ValLaws.{to_z-of_z}
 use Rattle.catalogue.proofs.Scales.{is_from}
 use Rattle.console.proofs.fields.below_zero.Goals as goal

@@ -1,5 +1,5 @@
 -- What the loop of `console::messages::show` keeps, and why it ends.
-use Rattle.std.proofs.Common.{◌-◌, ◌≤◌, rules}
+use Rattle.std.proofs.Common.{◌-◌, ◌≤◌}
 use Rattle.console.proofs.messages.show.Given as goal
 
 abbrev pub invariant-loop-i : goal.invariant-loop-i

@@ -1,5 +1,5 @@
 -- What the loop of `console::notes::record` keeps, and why it ends.
-use Rattle.std.proofs.Common.{◌≤◌, rules}
+use Rattle.std.proofs.Common.{◌≤◌}
 use Rattle.console.proofs.notes.record.Given as goal
 
 abbrev pub invariant-loop-left : goal.invariant-loop-left

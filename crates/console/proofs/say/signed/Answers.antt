@@ -1,5 +1,5 @@
 -- `console::say::signed` meets its contract. Assumes nothing.
-use Rattle.std.proofs.Common.{T, ℤ, pos, nat_abs, sym, ◌∙◌, subst, arith, w64, Fits, SFits, rules}
+use Rattle.std.proofs.Common.{T, ℤ, pos, nat_abs, sym, ◌∙◌, subst, arith, w64, Fits, SFits}
 use lib.Signed.{non_neg}
 use mir.ValLaws.{to_z-of_z}
 use Rattle.catalogue.proofs.Scales.{is_below, is_from, flip}

@@ -1,5 +1,5 @@
 -- What the loop of `console::typing::digit_pairs` keeps, and why it ends.
-use Rattle.std.proofs.Common.{◌≡◌, length, rules}
+use Rattle.std.proofs.Common.{◌≡◌, length}
 use Rattle.console.proofs.typing.digit_pairs.Given as goal
 
 abbrev pub invariant-loop-left : goal.invariant-loop-left

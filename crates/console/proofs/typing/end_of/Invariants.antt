@@ -1,5 +1,5 @@
 -- What the loop of `console::typing::end_of` keeps, and why it ends.
-use Rattle.std.proofs.Common.{◌-◌, ◌≤◌, rules}
+use Rattle.std.proofs.Common.{◌-◌, ◌≤◌}
 use Rattle.console.proofs.typing.end_of.Given as goal
 
 abbrev pub invariant-loop-i : goal.invariant-loop-i

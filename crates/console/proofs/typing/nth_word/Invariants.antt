@@ -1,5 +1,5 @@
 -- What the loop of `console::typing::nth_word` keeps, and why it ends.
-use Rattle.std.proofs.Common.{◌≤◌, rules}
+use Rattle.std.proofs.Common.{◌≤◌}
 use Rattle.console.proofs.typing.nth_word.Given as goal
 
 abbrev pub invariant-loop-left : goal.invariant-loop-left
