@@ -29,7 +29,7 @@ abbrev pub identifiers : ℕ
 identifiers = 2 ^ 29
 
 abbrev pub greatest_dgn : ℕ
-greatest_dgn = 0x1_f_fFF
+greatest_dgn = 0x1FFFF
 
 abbrev pub lowest_priority : ℕ
 lowest_priority = 7

@@ -10,7 +10,7 @@ pub const EVERYONE: u8 = 255;
 // Identifiers have 29 bits, DGNs 17, priorities 3.
 pub const IDENTIFIERS: u32 = 0x20000000;
 
-pub const GREATEST_DGN: u32 = 0x1_f_fFF;
+pub const GREATEST_DGN: u32 = 0x1FFFF;
 
 pub const LOWEST_PRIORITY: u8 = 7;
 
