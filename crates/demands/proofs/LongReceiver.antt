@@ -1,6 +1,7 @@
 -- The calls of the receiver, its places seen with their stretches of the storage, do what the places of long messages do, and a state that keeps its
 -- rules leads to one that keeps them.
 -- Assumes nothing.
+use Rattle.std.specs.Prelude.{Option, Some, None}
 use mathlib.Core.Path.{◌≡◌, refl, sym, ap, ap₂, ◌∙◌, subst⁻¹}
 use mathlib.Core.Bool.{true, false, not}
 use mathlib.Core.List.{List, map}
@@ -22,8 +23,6 @@ use Rattle.places.specs.Format.{fixed, opens, feeds, goes, ends}
 use Rattle.places.specs.Places.{Out, said, place_count}
 use Rattle.places.specs.Layout.{stretch, AgreeBut, open_by, view}
 use Rattle.places.specs.Calls.{KeepsPlaces}
-use Rattle.words.specs.declared.Found.{Found}
-use Rattle.words.specs.declared.Found.TheVariants.{At, Nowhere}
 use Rattle.words.proofs.Lists.{found_at, every_set}
 use Rattle.places.proofs.Stretch.{stretch_same, stretch_other}
 use Rattle.places.proofs.View.{one_each_view, length_view, blank_view, view_pass, view_closes}
@@ -158,7 +157,7 @@ module _ (f : Frame) (ps : List Place) (s : List ℕ) (eight : length ps ≡ pla
     new_open : open_by layout (source_of f.id) new ≡ true
     new_open = rw (not_free new long, by, eq-eqb sender sender refl)
 
-    found : (g : Found) → first (is_open_by sender) ps ≡ g → first (open_by layout (source_of f.id)) ps ≡ g
+    found : (g : Option ℕ) → first (is_open_by sender) ps ≡ g → first (open_by layout (source_of f.id)) ps ≡ g
     found g e = ap (λ k. first (open_by layout k) ps) by ∙ e
 
     new_set : (j : ℕ) → every place_keeps_rules (set ps j new) ≡ true
@@ -168,29 +167,29 @@ module _ (f : Frame) (ps : List Place) (s : List ℕ) (eight : length ps ≡ pla
     unfolding hears_announcement place_for
     announced = held (first (is_open_by sender) ps) refl
       where
-        free : (g : Found) → first (is_open_by sender) ps ≡ Nowhere → first is_free ps ≡ g
+        free : (g : Option ℕ) → first (is_open_by sender) ps ≡ None → first is_free ps ≡ g
             → Agrees (hears_announcement sender size dgn ps s)
-        free (At j) n e =
+        free (Some j) n e =
             rw (n, e)
             (record {
-              shows = shows_opens_free long_messages layout f ps s (announced_by sender size dgn) (gives opened) j new s asks (found Nowhere n) e new_open refl (λ i x. refl);
+              shows = shows_opens_free long_messages layout f ps s (announced_by sender size dgn) (gives opened) j new s asks (found None n) e new_open refl (λ i x. refl);
               rules = new_set j;
               long = refl;
               answers = (Opened, refl);
             })
-        free Nowhere n e =
-            rw (n, e) (record { shows = shows_full long_messages layout f ps s (rw asks) (found Nowhere n) e; rules = each_rules; long = refl; answers = (NoPlaceFree, refl) })
+        free None n e =
+            rw (n, e) (record { shows = shows_full long_messages layout f ps s (rw asks) (found None n) e; rules = each_rules; long = refl; answers = (NoPlaceFree, refl) })
 
-        held : (g : Found) → first (is_open_by sender) ps ≡ g → Agrees (hears_announcement sender size dgn ps s)
-        held (At j) e =
+        held : (g : Option ℕ) → first (is_open_by sender) ps ≡ g → Agrees (hears_announcement sender size dgn ps s)
+        held (Some j) e =
             rw e
             (record {
-              shows = shows_opens_held long_messages layout f ps s (announced_by sender size dgn) (gives opened) j new s asks (found (At j) e) new_open refl (λ i x. refl);
+              shows = shows_opens_held long_messages layout f ps s (announced_by sender size dgn) (gives opened) j new s asks (found (Some j) e) new_open refl (λ i x. refl);
               rules = new_set j;
               long = refl;
               answers = (Opened, refl);
             })
-        held Nowhere e = free (first is_free ps) e refl
+        held None e = free (first is_free ps) e refl
 
   -- a data packet
   module _ (sender number : ℕ) (by : source_of f.id ≡ sender) (size : length f.bytes ≡ frame_bytes)
@@ -198,10 +197,10 @@ module _ (f : Frame) (ps : List Place) (s : List ℕ) (eight : length ps ≡ pla
     abbrev part : Part
     part = record { number = number; seven = drop 1 f.bytes }
 
-    sought : (g : Found) → first (is_open_by sender) ps ≡ g → first (open_by layout (source_of f.id)) ps ≡ g
+    sought : (g : Option ℕ) → first (is_open_by sender) ps ≡ g → first (open_by layout (source_of f.id)) ps ≡ g
     sought g e = ap (λ k. first (open_by layout k) ps) by ∙ e
 
-    module _ (j : ℕ) (e : first (is_open_by sender) ps ≡ At j) where
+    module _ (j : ℕ) (e : first (is_open_by sender) ps ≡ Some j) where
       abbrev p : Place
       p = get_or ps j free_place
 
@@ -246,7 +245,7 @@ module _ (f : Frame) (ps : List Place) (s : List ℕ) (eight : length ps ≡ pla
                 (shows_feeds_ends long_messages layout f ps s part (refused 9)
                 (gives (finished (whole_of (open_message p (stretch longest j s))
                 (joined (open_message p (stretch longest j s)) (drop 1 f.bytes)))))
-                j free_place free_place (kept_at j p f.bytes s) asks (sought (At j) e) (last n u) refl (others s f.bytes j p enough below rules_here size));
+                j free_place free_place (kept_at j p f.bytes s) asks (sought (Some j) e) (last n u) refl (others s f.bytes j p enough below rules_here size));
             rules = freed;
             long = length_written s f.bytes j p enough below rules_here size;
             answers = (Finished j p.sender p.dgn p.length, refl);
@@ -259,7 +258,7 @@ module _ (f : Frame) (ps : List Place) (s : List ℕ) (eight : length ps ≡ pla
             shows =
                 shows_feeds_goes long_messages layout f ps s part (refused 9) (gives stored)
                 (expecting_next (open_message p (stretch longest j s)) (joined (open_message p (stretch longest j s)) (drop 1 f.bytes)))
-                j free_place (expecting (p.expected + 1) p) (kept_at j p f.bytes s) asks (sought (At j) e) (next n u) next_open
+                j free_place (expecting (p.expected + 1) p) (kept_at j p f.bytes s) asks (sought (Some j) e) (next n u) next_open
                 (next_message s f.bytes j p enough below rules_here size u) (others s f.bytes j p enough below rules_here size);
             rules =
                 every_set place_keeps_rules ps j (expecting (p.expected + 1) p) each_rules
@@ -282,7 +281,7 @@ module _ (f : Frame) (ps : List Place) (s : List ℕ) (eight : length ps ≡ pla
           subst⁻¹ Agrees (packet_other j p ps s number f.bytes n)
           (record {
             shows =
-                shows_feeds_ends long_messages layout f ps s part (refused 9) (refused 10) j free_place free_place s asks (sought (At j) e) (wrong n) refl (λ i x. refl);
+                shows_feeds_ends long_messages layout f ps s part (refused 9) (refused 10) j free_place free_place s asks (sought (Some j) e) (wrong n) refl (λ i x. refl);
             rules = freed;
             long = refl;
             answers = (UnexpectedPacket, refl);
@@ -291,12 +290,12 @@ module _ (f : Frame) (ps : List Place) (s : List ℕ) (eight : length ps ≡ pla
     carried : Agrees (carries sender number f.bytes ps s)
     carried = go (first (is_open_by sender) ps) refl
       where
-        go : (g : Found) → first (is_open_by sender) ps ≡ g → Agrees (carries sender number f.bytes ps s)
-        go (At j) e = subst⁻¹ Agrees (carries_at sender number f.bytes ps s j e) (at_place j e)
-        go Nowhere e =
+        go : (g : Option ℕ) → first (is_open_by sender) ps ≡ g → Agrees (carries sender number f.bytes ps s)
+        go (Some j) e = subst⁻¹ Agrees (carries_at sender number f.bytes ps s j e) (at_place j e)
+        go None e =
             subst⁻¹ Agrees (carries_nowhere sender number f.bytes ps s e)
             (record {
-              shows = shows_feeds_nowhere long_messages layout f ps s part (refused 9) asks (sought Nowhere e);
+              shows = shows_feeds_nowhere long_messages layout f ps s part (refused 9) asks (sought None e);
               rules = each_rules;
               long = refl;
               answers = (NoOpenMessage, refl);

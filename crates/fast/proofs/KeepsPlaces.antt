@@ -1,6 +1,7 @@
 -- The calls of the receiver, its places seen with their stretches of the storage, do what the places of fast packets
 -- do, and a state that keeps its rules leads to one that keeps them; and pauses of fast packets add up.
 -- Assumes nothing.
+use Rattle.std.specs.Prelude.{Option, Some, None}
 use mathlib.Core.Path.{◌≡◌, refl, sym, ap, ap₂, ◌∙◌, subst, subst⁻¹}
 use mathlib.Core.Bool.{true, false, not}
 use mathlib.Core.List.{List, ◌++◌, map}
@@ -25,8 +26,6 @@ use Rattle.places.specs.OneKey.{pause_alone}
 use Rattle.places.specs.Places.{free, Out, said, place_count, rest, closes}
 use Rattle.places.specs.Layout.{stretch, AgreeBut, open_by, seat, view, one_each}
 use Rattle.places.specs.Statements.{is_opening}
-use Rattle.words.specs.declared.Found.{Found}
-use Rattle.words.specs.declared.Found.TheVariants.{At, Nowhere}
 use Rattle.words.proofs.Lists.{found_at, every_at, every_set, every_map}
 use Rattle.places.proofs.Stretch.{stretch_same, stretch_other}
 use Rattle.places.proofs.View.{one_each_view, length_view, blank_view, view_pass, view_closes}
@@ -91,7 +90,7 @@ all_zeros names p f e =
 
 -- so freeing the lowest free place changes nothing
 freed_again : (names : List ℕ) (ps : List Place) (j : ℕ) → every (place_keeps_rules names) ps ≡ true
-    → first is_free ps ≡ At j → set ps j free_place ≡ ps
+    → first is_free ps ≡ Some j → set ps j free_place ≡ ps
 freed_again names ps j each e =
     let t = found_at j is_free ps free_place e in
     let z = all_zeros names (get_or ps j free_place) t.passes
@@ -202,7 +201,7 @@ module _ (f : Frame) (r : Receiver) (s : List ℕ) (eight : length r.places ≡ 
     abbrev six : List ℕ
     six = drop 2 f.bytes
 
-    found : (g : Found) → first (is_open_by (pair_of sender dgn)) ps ≡ g → first (open_by layout key) ps ≡ g
+    found : (g : Option ℕ) → first (is_open_by (pair_of sender dgn)) ps ≡ g → first (open_by layout key) ps ≡ g
     found g e = ap (λ (k : ℕ). first (open_by layout k) ps) by ∙ e
 
     room_first : 0 + needed_first size ≤ longest
@@ -225,7 +224,7 @@ module _ (f : Frame) (r : Receiver) (s : List ℕ) (eight : length r.places ≡ 
           written_read s six j 0 (needed_first size) enough b room_first six_there size (omega arith)
           ∙ ap (λ (n : ℕ). take n six) e
 
-      finished_held : (j : ℕ) → first (is_open_by (pair_of sender dgn)) ps ≡ At j → Agrees (enters_at j new f.bytes r s)
+      finished_held : (j : ℕ) → first (is_open_by (pair_of sender dgn)) ps ≡ Some j → Agrees (enters_at j new f.bytes r s)
       finished_held j e =
           let b = found_below (is_open_by (pair_of sender dgn)) ps j eight e in
           subst⁻¹ Agrees (entered_short j new r (first_kept j new f.bytes s) few)
@@ -234,13 +233,13 @@ module _ (f : Frame) (r : Receiver) (s : List ℕ) (eight : length r.places ≡ 
             shows =
                 rw (whole j b)
                 (shows_finishes_held format layout f ps s told j free_place (first_kept j new f.bytes s) asks_finishes
-                (found (At j) e) refl (written_others s six j 0 (needed_first size) enough b room_first six_there));
+                (found (Some j) e) refl (written_others s six j 0 (needed_first size) enough b room_first six_there));
             rules = freed j;
             long = written_long s six j 0 (needed_first size) enough b room_first six_there;
             answers = (Finished j sender dgn size, refl);
           })
 
-      finished_free : (j : ℕ) → first (is_open_by (pair_of sender dgn)) ps ≡ Nowhere → first is_free ps ≡ At j
+      finished_free : (j : ℕ) → first (is_open_by (pair_of sender dgn)) ps ≡ None → first is_free ps ≡ Some j
           → Agrees (enters_at j new f.bytes r s)
       finished_free j n e =
           let b = found_below is_free ps j eight e in
@@ -250,7 +249,7 @@ module _ (f : Frame) (r : Receiver) (s : List ℕ) (eight : length r.places ≡ 
             shows =
                 rw (whole j b, freed_again names ps j each_rules e)
                 (shows_finishes_free format layout f ps s told j (first_kept j new f.bytes s) asks_finishes
-                (found Nowhere n) e (written_others s six j 0 (needed_first size) enough b room_first six_there));
+                (found None n) e (written_others s six j 0 (needed_first size) enough b room_first six_there));
             rules = freed j;
             long = written_long s six j 0 (needed_first size) enough b room_first six_there;
             answers = (Finished j sender dgn size, refl);
@@ -295,7 +294,7 @@ module _ (f : Frame) (r : Receiver) (s : List ℕ) (eight : length r.places ≡ 
       new_set : (j : ℕ) → every (place_keeps_rules names) (set ps j new) ≡ true
       new_set j = every_set (place_keeps_rules names) ps j new each_rules new_rules
 
-      opened_held : (j : ℕ) → first (is_open_by (pair_of sender dgn)) ps ≡ At j → Agrees (enters_at j new f.bytes r s)
+      opened_held : (j : ℕ) → first (is_open_by (pair_of sender dgn)) ps ≡ Some j → Agrees (enters_at j new f.bytes r s)
       opened_held j e =
           let b = found_below (is_open_by (pair_of sender dgn)) ps j eight e in
           subst⁻¹ Agrees (entered_long j new r (first_kept j new f.bytes s) many)
@@ -303,14 +302,14 @@ module _ (f : Frame) (r : Receiver) (s : List ℕ) (eight : length r.places ≡ 
             same = refl;
             shows =
                 shows_opens_held format layout f ps s session (gives opened) j new
-                (first_kept j new f.bytes s) asks_opens (found (At j) e) new_open (new_session j b)
+                (first_kept j new f.bytes s) asks_opens (found (Some j) e) new_open (new_session j b)
                 (written_others s six j 0 (needed_first size) enough b room_first six_there);
             rules = new_set j;
             long = written_long s six j 0 (needed_first size) enough b room_first six_there;
             answers = (Opened, refl);
           })
 
-      opened_free : (j : ℕ) → first (is_open_by (pair_of sender dgn)) ps ≡ Nowhere → first is_free ps ≡ At j
+      opened_free : (j : ℕ) → first (is_open_by (pair_of sender dgn)) ps ≡ None → first is_free ps ≡ Some j
           → Agrees (enters_at j new f.bytes r s)
       opened_free j n e =
           let b = found_below is_free ps j eight e in
@@ -319,7 +318,7 @@ module _ (f : Frame) (r : Receiver) (s : List ℕ) (eight : length r.places ≡ 
             same = refl;
             shows =
                 shows_opens_free format layout f ps s session (gives opened) j new
-                (first_kept j new f.bytes s) asks_opens (found Nowhere n) e new_open (new_session j b)
+                (first_kept j new f.bytes s) asks_opens (found None n) e new_open (new_session j b)
                 (written_others s six j 0 (needed_first size) enough b room_first six_there);
             rules = new_set j;
             long = written_long s six j 0 (needed_first size) enough b room_first six_there;
@@ -345,15 +344,15 @@ module _ (f : Frame) (r : Receiver) (s : List ℕ) (eight : length r.places ≡ 
             (λ t. rw (asks_finishes (leb-true _ _ t)))
             (λ t. rw (asks_opens (leb-false _ _ t)))
 
-        go : (g : Found) → place_for (pair_of sender dgn) ps ≡ g → Agrees (Eight.hears_first new f.bytes r s)
-        go (At j) e =
+        go : (g : Option ℕ) → place_for (pair_of sender dgn) ps ≡ g → Agrees (Eight.hears_first new f.bytes r s)
+        go (Some j) e =
             subst⁻¹ Agrees (begins_at new f.bytes r s j e) (entering j (place_for_at (pair_of sender dgn) ps j e))
-        go Nowhere e =
+        go None e =
             let n = place_for_nowhere (pair_of sender dgn) ps e in
             subst⁻¹ Agrees (begins_nowhere new f.bytes r s e)
             (record {
               same = refl;
-              shows = shows_full format layout f ps s opening (found Nowhere n.0) n.1;
+              shows = shows_full format layout f ps s opening (found None n.0) n.1;
               rules = each_rules;
               long = refl;
               answers = (NoPlaceFree, refl);
@@ -370,10 +369,10 @@ module _ (f : Frame) (r : Receiver) (s : List ℕ) (eight : length r.places ≡ 
     abbrev part : Part
     part = record { sequence = sequence; number = number; seven = seven }
 
-    sought : (g : Found) → first (is_open_by (pair_of sender dgn)) ps ≡ g → first (open_by layout key) ps ≡ g
+    sought : (g : Option ℕ) → first (is_open_by (pair_of sender dgn)) ps ≡ g → first (open_by layout key) ps ≡ g
     sought g e = ap (λ (k : ℕ). first (open_by layout k) ps) by ∙ e
 
-    module _ (j : ℕ) (e : first (is_open_by (pair_of sender dgn)) ps ≡ At j) where
+    module _ (j : ℕ) (e : first (is_open_by (pair_of sender dgn)) ps ≡ Some j) where
       abbrev p : Place
       p = get_or ps j free_place
 
@@ -470,7 +469,7 @@ module _ (f : Frame) (r : Receiver) (s : List ℕ) (eight : length r.places ≡ 
                 (whole_message u)
                 (shows_feeds_ends format layout f ps s part (refused 9)
                 (gives (finished (record { sender = p.sender; dgn = p.dgn; bytes = joined m seven })))
-                j free_place free_place t asks (sought (At j) e) (last q n u) refl others);
+                j free_place free_place t asks (sought (Some j) e) (last q n u) refl others);
             rules = freed j;
             long = length_kept;
             answers = (Finished j p.sender p.dgn p.length, refl);
@@ -484,7 +483,7 @@ module _ (f : Frame) (r : Receiver) (s : List ℕ) (eight : length r.places ≡ 
             same = refl;
             shows =
                 shows_feeds_goes format layout f ps s part (refused 9) (gives stored)
-                (expecting_next m (joined m seven)) j free_place (expecting (p.expected + 1) p) t asks (sought (At j) e)
+                (expecting_next m (joined m seven)) j free_place (expecting (p.expected + 1) p) t asks (sought (Some j) e)
                 (next q n u) next_open (next_message u) others;
             rules = every_set (place_keeps_rules names) ps j (expecting (p.expected + 1) p) each_rules (next_rules u);
             long = length_kept;
@@ -506,7 +505,7 @@ module _ (f : Frame) (r : Receiver) (s : List ℕ) (eight : length r.places ≡ 
             same = refl;
             shows =
                 shows_feeds_ends format layout f ps s part (refused 9) (refused 10) j free_place free_place s asks
-                (sought (At j) e) w refl (λ i x. refl);
+                (sought (Some j) e) w refl (λ i x. refl);
             rules = freed j;
             long = refl;
             answers = (UnexpectedFrame, refl);
@@ -530,15 +529,15 @@ module _ (f : Frame) (r : Receiver) (s : List ℕ) (eight : length r.places ≡ 
     continued : Agrees (Eight.hears_later (pair_of sender dgn) sequence number f.bytes r s)
     continued = go (first (is_open_by (pair_of sender dgn)) ps) refl
       where
-        go : (g : Found) → first (is_open_by (pair_of sender dgn)) ps ≡ g
+        go : (g : Option ℕ) → first (is_open_by (pair_of sender dgn)) ps ≡ g
             → Agrees (Eight.hears_later (pair_of sender dgn) sequence number f.bytes r s)
-        go (At j) e =
+        go (Some j) e =
             subst⁻¹ Agrees (continues_at (pair_of sender dgn) sequence number f.bytes r s j e) (at_place j e)
-        go Nowhere e =
+        go None e =
             subst⁻¹ Agrees (continues_nowhere (pair_of sender dgn) sequence number f.bytes r s e)
             (record {
               same = refl;
-              shows = shows_feeds_nowhere format layout f ps s part (refused 9) asks (sought Nowhere e);
+              shows = shows_feeds_nowhere format layout f ps s part (refused 9) asks (sought None e);
               rules = each_rules;
               long = refl;
               answers = (NoOpenMessage, refl);

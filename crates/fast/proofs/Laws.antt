@@ -1,5 +1,6 @@
 -- The statements of specs/Laws.antt, proved.
 -- Assumes nothing.
+use Rattle.std.specs.Prelude.{Option, Some, None}
 use Rattle.std.specs.Prelude.{if◌then◌else◌}
 use mathlib.Core.Path.{◌≡◌, refl, sym, ap, ◌∙◌, subst, subst⁻¹}
 use mathlib.Core.Bool.{Bool, true, false, not}
@@ -27,8 +28,6 @@ use Rattle.frame.proofs.Laws.{bad_back, bad_back_lem}
 use Rattle.places.specs.Places.{place_count}
 use Rattle.places.proofs.Stretch.{copy_keeps, copy_writes}
 use Rattle.places.specs.Telling.{Outcome, nothing_to_do, opened, stored, finished}
-use Rattle.words.specs.declared.Found.{Found}
-use Rattle.words.specs.declared.Found.TheVariants.{At, Nowhere}
 use Rattle.words.proofs.Lists.{every_at, every_replicate, distinct_cons, distinct_head, distinct_tail}
 use Rattle.frame.specs.Bytes.{byte_at}
 use Rattle.fast.specs.FastPacket.{greatest_sequence, first_bytes, longest, offset_of, last_frame, needed_first, needed}
@@ -342,16 +341,16 @@ data Left (id : ℕ) (bytes : List ℕ) (r : Receiver) (s : List ℕ) : After �
   passes : Left id bytes r s (leaves r s (gives nothing_to_do))
   enters : {n : NewMessage} {i : ℕ} {q : Receiver} {o : Outcome}
       → meaning_of (names_of r) id bytes ≡ gives (begins n)
-      → place_for (pair_of n.sender n.dgn) r.places ≡ At i → room ≤ length s → length bytes ≡ frame_bytes
+      → place_for (pair_of n.sender n.dgn) r.places ≡ Some i → room ≤ length s → length bytes ≡ frame_bytes
       → Left id bytes r s
       (leaves q (first_kept i (new_place n.sender n.dgn n.sequence n.size) bytes s) (gives o))
   closes : {l : LaterFrame} {i : ℕ}
       → meaning_of (names_of r) id bytes ≡ gives (continues l)
-      → first (is_open_by (pair_of l.sender l.dgn)) r.places ≡ At i → OutOfTurn r i l.sequence l.number
+      → first (is_open_by (pair_of l.sender l.dgn)) r.places ≡ Some i → OutOfTurn r i l.sequence l.number
       → Left id bytes r s (leaves (placing r i free_place) s (refused 10))
   stores : {l : LaterFrame} {i : ℕ} {q : Receiver} {o : Outcome}
       → meaning_of (names_of r) id bytes ≡ gives (continues l)
-      → first (is_open_by (pair_of l.sender l.dgn)) r.places ≡ At i
+      → first (is_open_by (pair_of l.sender l.dgn)) r.places ≡ Some i
       → l.number ≡ (get_or r.places i free_place).expected
       → OpenRules (names_of r) (get_or r.places i free_place) → room ≤ length s → length bytes ≡ frame_bytes
       → Left id bytes r s (leaves q (kept_at i (get_or r.places i free_place) bytes s) (gives o))
@@ -367,16 +366,16 @@ module _ (id : ℕ) (bytes : List ℕ) (r : Receiver) (s : List ℕ) where
       p : Place
       p = new_place sender dgn sequence size
 
-      go : (g : Found) → place_for (pair_of sender dgn) r.places ≡ g
+      go : (g : Option ℕ) → place_for (pair_of sender dgn) r.places ≡ g
           → Left id bytes r s (Receiver.hears_first (new_place sender dgn sequence size) bytes r s)
-      go (At i) e =
+      go (Some i) e =
           subst⁻¹ (Left id bytes r s) (begins_at p bytes r s i e)
           (by_test (size ≤? first_bytes)
           (λ t. subst⁻¹ (Left id bytes r s) (entered_short i p r (first_kept i p bytes s) (leb-true size first_bytes t))
           (enters m e enough l))
           (λ t. subst⁻¹ (Left id bytes r s) (entered_long i p r (first_kept i p bytes s) (leb-false size first_bytes t))
           (enters m e enough l)))
-      go Nowhere e = subst⁻¹ (Left id bytes r s) (begins_nowhere p bytes r s e) (refuses (λ x. omega arith))
+      go None e = subst⁻¹ (Left id bytes r s) (begins_nowhere p bytes r s e) (refuses (λ x. omega arith))
 
   continues_left : (sender dgn sequence number : ℕ)
       → meaning_of (names_of r) id bytes
@@ -385,7 +384,7 @@ module _ (id : ℕ) (bytes : List ℕ) (r : Receiver) (s : List ℕ) where
       → Left id bytes r s (Receiver.hears_later (pair_of sender dgn) sequence number bytes r s)
   continues_left sender dgn sequence number m v enough l = go (first (is_open_by (pair_of sender dgn)) r.places) refl
     where
-      at : (i : ℕ) → first (is_open_by (pair_of sender dgn)) r.places ≡ At i
+      at : (i : ℕ) → first (is_open_by (pair_of sender dgn)) r.places ≡ Some i
           → Left id bytes r s (frame_at i (get_or r.places i free_place) sequence number bytes r s)
       at i e =
           let p = get_or r.places i free_place in
@@ -411,11 +410,11 @@ module _ (id : ℕ) (bytes : List ℕ) (r : Receiver) (s : List ℕ) where
           let d = eqb-false sequence p.sequence t in
           subst⁻¹ (Left id bytes r s) (frame_other_sequence i p r s sequence number bytes d) (closes m e (inl d)))
 
-      go : (g : Found) → first (is_open_by (pair_of sender dgn)) r.places ≡ g
+      go : (g : Option ℕ) → first (is_open_by (pair_of sender dgn)) r.places ≡ g
           → Left id bytes r s (Receiver.hears_later (pair_of sender dgn) sequence number bytes r s)
-      go (At i) e =
+      go (Some i) e =
           subst⁻¹ (Left id bytes r s) (continues_at (pair_of sender dgn) sequence number bytes r s i e) (at i e)
-      go Nowhere e =
+      go None e =
           subst⁻¹ (Left id bytes r s) (continues_nowhere (pair_of sender dgn) sequence number bytes r s e)
           (refuses (λ x. omega arith))
 

@@ -1,6 +1,7 @@
 -- A frame, case by case: what each definition leaves where its tests are known, and that a state and an answer that
 -- tells this are left by it.
 -- Assumes nothing.
+use Rattle.std.specs.Prelude.{Option, Some, None}
 use mathlib.Core.Path.{◌≡◌, refl, sym, ap, ◌∙◌, subst⁻¹}
 use mathlib.Core.Bool.{Bool, true, false, not}
 use mathlib.Core.List.{List}
@@ -18,8 +19,6 @@ use Rattle.words.proofs.Words.{both_true, by_test}
 use Rattle.places.specs.Layout.{one_each}
 use Rattle.places.specs.Telling.{Outcome, opened, stored, finished}
 use Rattle.words.proofs.Lists.{found_at, every_at}
-use Rattle.words.specs.declared.Found.{Found}
-use Rattle.words.specs.declared.Found.TheVariants.{At, Nowhere}
 use Rattle.fast.specs.FastPacket.{greatest_sequence, first_bytes, longest, last_frame, idle_limit, pair_of, other}
 use Rattle.fast.specs.FastPacket.{carried, meant, meaning_of}
 use Rattle.fast.specs.Names.{most_named, may_be_named, is_named, is_well_formed}
@@ -50,35 +49,35 @@ left_as {h = h} {s = s} e k = subst⁻¹ (λ (x : After). LeftBy x h s) e k
 
 -- a frame 0
 
-pub found_below : (f : Place → Bool) (ps : List Place) (j : ℕ) → length ps ≡ 8 → first f ps ≡ At j → j < 8
+pub found_below : (f : Place → Bool) (ps : List Place) (j : ℕ) → length ps ≡ 8 → first f ps ≡ Some j → j < 8
 found_below f ps j h e = omega (arith, (found_at j f ps free_place e).below)
 
 -- its place is its pair's, or there is none and it is the lowest free one
 pub data Takes (pair : ℕ) (ps : List Place) (j : ℕ) : Type 0 where
-  its_own : first (is_open_by pair) ps ≡ At j → Takes pair ps j
-  a_free_one : first (is_open_by pair) ps ≡ Nowhere → first is_free ps ≡ At j → Takes pair ps j
+  its_own : first (is_open_by pair) ps ≡ Some j → Takes pair ps j
+  a_free_one : first (is_open_by pair) ps ≡ None → first is_free ps ≡ Some j → Takes pair ps j
 
-pub place_for_at : (pair : ℕ) (ps : List Place) (j : ℕ) → place_for pair ps ≡ At j → Takes pair ps j
+pub place_for_at : (pair : ℕ) (ps : List Place) (j : ℕ) → place_for pair ps ≡ Some j → Takes pair ps j
 unfolding place_for
 place_for_at pair ps j e = go (first (is_open_by pair) ps) refl
   where
-    go : (f : Found) → first (is_open_by pair) ps ≡ f → Takes pair ps j
-    go (At i) k = let z : At i ≡ At j = rw k at e in its_own (k ∙ z)
-    go Nowhere k = a_free_one k (rw k at e)
+    go : (f : Option ℕ) → first (is_open_by pair) ps ≡ f → Takes pair ps j
+    go (Some i) k = let z : Some i ≡ Some j = rw k at e in its_own (k ∙ z)
+    go None k = a_free_one k (rw k at e)
 
-pub place_for_nowhere : (pair : ℕ) (ps : List Place) → place_for pair ps ≡ Nowhere
-    → (first (is_open_by pair) ps ≡ Nowhere) × (first is_free ps ≡ Nowhere)
+pub place_for_nowhere : (pair : ℕ) (ps : List Place) → place_for pair ps ≡ None
+    → (first (is_open_by pair) ps ≡ None) × (first is_free ps ≡ None)
 unfolding place_for
 place_for_nowhere pair ps e = go (first (is_open_by pair) ps) refl
   where
-    go : (f : Found) → first (is_open_by pair) ps ≡ f → (first (is_open_by pair) ps ≡ Nowhere) × (first is_free ps ≡ Nowhere)
-    go (At i) k =
-        let z : At i ≡ Nowhere = rw k at e in
+    go : (f : Option ℕ) → first (is_open_by pair) ps ≡ f → (first (is_open_by pair) ps ≡ None) × (first is_free ps ≡ None)
+    go (Some i) k =
+        let z : Some i ≡ None = rw k at e in
         let y : ◌≡◌ {A = ℕ} 0 1 = cc in
         absurd (omega arith)
-    go Nowhere k = (k, rw k at e)
+    go None k = (k, rw k at e)
 
-pub place_for_below : (pair : ℕ) (ps : List Place) (j : ℕ) → length ps ≡ 8 → place_for pair ps ≡ At j → j < 8
+pub place_for_below : (pair : ℕ) (ps : List Place) (j : ℕ) → length ps ≡ 8 → place_for pair ps ≡ Some j → j < 8
 place_for_below pair ps j h e = go (place_for_at pair ps j e)
   where
     go : Takes pair ps j → j < 8
@@ -86,12 +85,12 @@ place_for_below pair ps j h e = go (place_for_at pair ps j e)
     go (a_free_one n k) = found_below is_free ps j h k
 
 module _ (p : Place) (bytes : List ℕ) (r : Receiver) (s : List ℕ) where
-  pub begins_at : (i : ℕ) → place_for (pair_of p.sender p.dgn) r.places ≡ At i
+  pub begins_at : (i : ℕ) → place_for (pair_of p.sender p.dgn) r.places ≡ Some i
       → hears_first p bytes r s ≡ enters_at i p bytes r s
   unfolding hears_first
   begins_at i e = rw e
 
-  pub begins_nowhere : place_for (pair_of p.sender p.dgn) r.places ≡ Nowhere
+  pub begins_nowhere : place_for (pair_of p.sender p.dgn) r.places ≡ None
       → hears_first p bytes r s ≡ leaves r s (refused 8)
   unfolding hears_first
   begins_nowhere e = rw e
@@ -149,12 +148,12 @@ module _ (i : ℕ) (p : Place) (r : Receiver) (s : List ℕ) where
     frame_other_number d e = rw (eq-eqb _ _ d, ne_eqb _ _ e)
 
 module _ (pair sequence number : ℕ) (bytes : List ℕ) (r : Receiver) (s : List ℕ) where
-  pub continues_at : (i : ℕ) → first (is_open_by pair) r.places ≡ At i
+  pub continues_at : (i : ℕ) → first (is_open_by pair) r.places ≡ Some i
       → hears_later pair sequence number bytes r s ≡ frame_at i (get_or r.places i free_place) sequence number bytes r s
   unfolding hears_later
   continues_at i e = rw e
 
-  pub continues_nowhere : first (is_open_by pair) r.places ≡ Nowhere
+  pub continues_nowhere : first (is_open_by pair) r.places ≡ None
       → hears_later pair sequence number bytes r s ≡ leaves r s (refused 9)
   unfolding hears_later
   continues_nowhere e = rw e
@@ -232,7 +231,7 @@ rules_open names p f o =
     )
 
 -- the open place of a pair, in a state that keeps its rules
-pub rules_at : (pair j : ℕ) (r : Receiver) → keeps_rules r ≡ true → first (is_open_by pair) r.places ≡ At j
+pub rules_at : (pair j : ℕ) (r : Receiver) → keeps_rules r ≡ true → first (is_open_by pair) r.places ≡ Some j
     → OpenRules (names_of r) (get_or r.places j free_place)
 rules_at pair j r v e =
     let t = found_at j (is_open_by pair) r.places free_place e in
@@ -241,7 +240,7 @@ rules_at pair j r v e =
     open_rules (names_of r) p (not-true (is_free p) o.0)
     (every_at (place_keeps_rules (names_of r)) r.places j free_place t.below (rules_of r v).each)
 
-pub live_at : (pair j : ℕ) (r : Receiver) → keeps_rules r ≡ true → first (is_open_by pair) r.places ≡ At j
+pub live_at : (pair j : ℕ) (r : Receiver) → keeps_rules r ≡ true → first (is_open_by pair) r.places ≡ Some j
     → Live (get_or r.places j free_place)
 live_at pair j r v e =
     let o = rules_at pair j r v e in

@@ -1,6 +1,7 @@
 -- The laws of this crate (RULES 12), each a named statement. proofs/Laws.antt has a proof of each, under the same name
 -- written small. The larger theorems, that a busy bus reads like a quiet one and that what is split is joined, stand in
 -- the crate `demands`.
+use Rattle.std.specs.Prelude.{Some}
 use Rattle.std.specs.Prelude.{◌≡◌, true, false, List, ◌≢◌, ◌⊎◌, ℕ, ◌+◌, ◌-◌, ◌*◌, ◌≤◌, ◌<◌, length, get_or, replicate}
 use Rattle.words.specs.Words.{refused, gives, bits}
 use Rattle.words.specs.Lists.{first}
@@ -10,7 +11,6 @@ use Rattle.frame.specs.Standard.{announcement_dgn, packet_dgn}
 use Rattle.frame.specs.declared.Parts.{Parts}
 use Rattle.places.specs.Places.{place_count}
 use Rattle.places.specs.Telling.{nothing_to_do}
-use Rattle.words.specs.declared.Found.TheVariants.{At}
 use Rattle.frame.specs.Bytes.{byte_at}
 use Rattle.fast.specs.FastPacket.{frame_number_of, sequence_of, first_byte_of, greatest_sequence, first_bytes}
 use Rattle.fast.specs.FastPacket.{later_bytes, longest, offset_of, last_frame, needed_first, needed, pair_of}
@@ -147,7 +147,7 @@ OutOfTurn state i sequence number =
     (sequence ≢ (get_or state.places i free_place).sequence) ⊎ (number ≢ (get_or state.places i free_place).expected)
 
 pub record ClosedAt (state : Receiver) (storage : List ℕ) (after : Receiver) (exit : List ℕ) (pair i : ℕ) : Type 0 where
-  pub held : first (is_open_by pair) state.places ≡ At i
+  pub held : first (is_open_by pair) state.places ≡ Some i
   pub closed : after ≡ placing state i free_place
   pub kept : exit ≡ storage
 
@@ -199,7 +199,7 @@ WritesFrameZero =
     → length state.places ≡ place_count → room ≤ length storage → keeps_rules state ≡ true
     → Hear id bytes state storage r exit
     → meaning_of (names_of state) id bytes ≡ gives (begins m)
-    → place_for (pair_of m.sender m.dgn) state.places ≡ At i
+    → place_for (pair_of m.sender m.dgn) state.places ≡ Some i
     → ItsOwn i 0 (needed_first m.size) k
     → get_or exit k 0 ≡ get_or bytes (2 + (k - (longest * i + 0))) 0
 
@@ -213,7 +213,7 @@ WritesTheFrame =
     → p ≡ get_or state.places i free_place
     → meaning_of (names_of state) id bytes
     ≡ gives (continues (record { sender = sender; dgn = dgn; sequence = p.sequence; number = p.expected }))
-    → first (is_open_by (pair_of sender dgn)) state.places ≡ At i
+    → first (is_open_by (pair_of sender dgn)) state.places ≡ Some i
     → ItsOwn i (offset_of p.expected) (needed p.length p.expected) k
     → get_or exit k 0 ≡ get_or bytes (1 + (k - (longest * i + offset_of p.expected))) 0
 
@@ -223,9 +223,9 @@ WritesItsOwn =
     (id : ℕ) (bytes : List ℕ) (state : Receiver) (storage : List ℕ) (r : Heard) (exit : List ℕ) (k : ℕ)
     → length state.places ≡ place_count → Hear id bytes state storage r exit
     → ((m : NewMessage) (i : ℕ) → meaning_of (names_of state) id bytes ≡ gives (begins m)
-    → place_for (pair_of m.sender m.dgn) state.places ≡ At i → ItsOwn i 0 (needed_first m.size) k → ⊥)
+    → place_for (pair_of m.sender m.dgn) state.places ≡ Some i → ItsOwn i 0 (needed_first m.size) k → ⊥)
     → ((f : LaterFrame) (i : ℕ) → meaning_of (names_of state) id bytes ≡ gives (continues f)
-    → first (is_open_by (pair_of f.sender f.dgn)) state.places ≡ At i
+    → first (is_open_by (pair_of f.sender f.dgn)) state.places ≡ Some i
     → ItsOwn i (offset_of f.number) (needed (get_or state.places i free_place).length f.number) k → ⊥)
     → get_or exit k 0 ≡ get_or storage k 0
 

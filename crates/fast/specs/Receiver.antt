@@ -1,11 +1,10 @@
 -- The receiver: eight places over lent storage of their own, and the DGNs that are named (RULES 12.7 to 12.19).
+use Rattle.std.specs.Prelude.{Option, Some, None}
 use Rattle.std.specs.Prelude.{refl, Bool, not, List, map, ℕ, ◌+◌, ◌*◌, length, take, drop, get_or, set, if◌then◌else◌}
 use Rattle.std.proofs.Math.Seq.{paste}
 use Rattle.words.specs.Words.{◌<?◌, ◌≤?◌, ◌=?◌, ◌and◌, Told, refused, gives}
 use Rattle.words.specs.Lists.{every, count, first, or_else}
 use Rattle.frame.specs.Standard.{greatest_address}
-use Rattle.words.specs.declared.Found.{Found}
-use Rattle.words.specs.declared.Found.TheVariants.{At, Nowhere}
 use Rattle.places.specs.Places.{place_count}
 use Rattle.places.specs.Layout.{Layout, open_by, one_each}
 use Rattle.places.specs.Telling.{WholeAt, Outcome, nothing_to_do, opened, stored, finished}
@@ -106,7 +105,7 @@ placing r i p = holding r (set r.places i p)
 -- Frame 0: a pair that has a message open stays in its place, any other takes the lowest-numbered free one. The frame's
 -- bytes are kept there; a message of six bytes or fewer is handed over, and the place is free.
 
-unfoldable pub place_for : ℕ → List Place → Found
+unfoldable pub place_for : ℕ → List Place → Option ℕ
 place_for pair places = or_else (first (is_open_by pair) places) (first is_free places)
 
 abbrev pub new_place : ℕ → ℕ → ℕ → ℕ → Place
@@ -125,9 +124,9 @@ entered i p r storage =
 abbrev pub enters_at : ℕ → Place → List ℕ → Receiver → List ℕ → After
 enters_at i p bytes r storage = entered i p r (first_kept i p bytes storage)
 
-abbrev pub enters_in : Found → Place → List ℕ → Receiver → List ℕ → After
-enters_in (At i) p bytes r storage = enters_at i p bytes r storage
-enters_in Nowhere p bytes r storage = leaves r storage (refused 8)
+abbrev pub enters_in : Option ℕ → Place → List ℕ → Receiver → List ℕ → After
+enters_in (Some i) p bytes r storage = enters_at i p bytes r storage
+enters_in None p bytes r storage = leaves r storage (refused 8)
 
 unfoldable pub hears_first : Place → List ℕ → Receiver → List ℕ → After
 hears_first p bytes r storage = enters_in (place_for (pair_of p.sender p.dgn) r.places) p bytes r storage
@@ -163,10 +162,10 @@ frame_at i p sequence number bytes r storage =
     then advanced i p r (kept_at i p bytes storage)
     else leaves (placing r i free_place) storage (refused 10)
 
-abbrev pub frame_in : Found → ℕ → ℕ → List ℕ → Receiver → List ℕ → After
-frame_in (At i) sequence number bytes r storage =
+abbrev pub frame_in : Option ℕ → ℕ → ℕ → List ℕ → Receiver → List ℕ → After
+frame_in (Some i) sequence number bytes r storage =
     frame_at i (get_or r.places i free_place) sequence number bytes r storage
-frame_in Nowhere sequence number bytes r storage = leaves r storage (refused 9)
+frame_in None sequence number bytes r storage = leaves r storage (refused 9)
 
 unfoldable pub hears_later : ℕ → ℕ → ℕ → List ℕ → Receiver → List ℕ → After
 hears_later pair sequence number bytes r storage =

@@ -11,7 +11,6 @@ use crate::limits::{FIRST_BYTES, LATER_BYTES, PLACES};
 use crate::meaning::Meant;
 use crate::{Answer, Heard, Paused, Pausing, Place, Receiver, meaning, names, one_place, storage};
 use frame::Verdict;
-use words::Found;
 
 // The state as it came, with an answer.
 pub fn keeps(r: Receiver, answer: Answer) -> Heard
@@ -89,23 +88,23 @@ fn begins(r: Receiver, storage: &mut [u8], p: Place, bytes: [u8; 8]) -> Heard
     ensures { LeftBy (hears_first p bytes r storage.old) result storage.new }
 {
     match place_for(r, one_place::pair_of(p.sender, p.dgn)) {
-        Found::At(at) => enters_at(r, storage, at, p, bytes),
-        Found::Nowhere => keeps(r, Answer::NoPlaceFree),
+        Some(at) => enters_at(r, storage, at, p, bytes),
+        None => keeps(r, Answer::NoPlaceFree),
     }
 }
 
 // The place that a pair's frame 0 takes.
-fn place_for(r: Receiver, pair: u64) -> Found
+fn place_for(r: Receiver, pair: u64) -> Option<usize>
     ensures { result ≡ place_for pair r.places }
 {
     match open_by(r, pair) {
-        Found::At(at) => Found::At(at),
-        Found::Nowhere => lowest_free(r),
+        Some(at) => Some(at),
+        None => lowest_free(r),
     }
 }
 
 // The lowest-numbered free place.
-fn lowest_free(r: Receiver) -> Found
+fn lowest_free(r: Receiver) -> Option<usize>
     ensures { result ≡ first is_free r.places }
 {
     let mut i: usize = 0;
@@ -120,25 +119,25 @@ fn lowest_free(r: Receiver) -> Found
         i += 1;
     };
     if at < PLACES {
-        Found::At(at)
+        Some(at)
     } else {
-        Found::Nowhere
+        None
     }
 }
 
 // The place that is open by this pair.
-fn open_by(r: Receiver, pair: u64) -> Found
+fn open_by(r: Receiver, pair: u64) -> Option<usize>
     ensures { result ≡ first (is_open_by pair) r.places }
 {
     let mut i: usize = 0;
     while i < PLACES {
         let p = r.places[i];
         if one_place::is_open_by(p, pair) {
-            return Found::At(i);
+            return Some(i);
         }
         i += 1;
     }
-    Found::Nowhere
+    None
 }
 
 // One place replaced.
@@ -193,8 +192,8 @@ fn continues(
     ensures { LeftBy (hears_later pair sequence number bytes r storage.old) result storage.new }
 {
     match open_by(r, pair) {
-        Found::At(at) => frame_at(r, storage, at, sequence, number, bytes),
-        Found::Nowhere => keeps(r, Answer::NoOpenMessage),
+        Some(at) => frame_at(r, storage, at, sequence, number, bytes),
+        None => keeps(r, Answer::NoOpenMessage),
     }
 }
 

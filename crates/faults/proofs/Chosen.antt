@@ -1,5 +1,6 @@
 -- The fault that a step chooses: it is due, none that is due is older, and of equals it has the lowest place.
 -- Assumes nothing.
+use Rattle.std.specs.Prelude.{Some, None}
 use mathlib.Core.Path.{◌≡◌, refl, sym, ◌∙◌}
 use mathlib.Core.Bool.{true, false}
 use mathlib.Core.List.{List, [], ◌∷◌}
@@ -11,7 +12,6 @@ use borrow.Author.Tests.{ltb-true, ltb-false, eqb-true, eq-eqb}
 use lib.ListN.{length, get_or}
 use Rattle.words.specs.Words.{◌<?◌, ◌=?◌, ◌and◌}
 use Rattle.words.proofs.Words.{by_test, both_true, true_false}
-use Rattle.words.specs.declared.Found.TheVariants.{At, Nowhere}
 use Rattle.words.proofs.Lists.{found_at, found_nowhere}
 use Rattle.faults.specs.Fault.{no_fault, is_due}
 use Rattle.faults.specs.Sender.{longer, longest_due, is_chosen, chosen}
@@ -102,7 +102,7 @@ pub record Chosen (fs : List Fault) (q : ℕ) : Type 0 where
   pub lowest : (i : ℕ) → i < length fs → is_due (get_or fs i no_fault) ≡ true
       → (get_or fs i no_fault).age ≡ (get_or fs q no_fault).age → q ≤ i
 
-pub chosen_at : (fs : List Fault) (q : ℕ) → chosen fs ≡ At q → Chosen fs q
+pub chosen_at : (fs : List Fault) (q : ℕ) → chosen fs ≡ Some q → Chosen fs q
 unfolding chosen
 chosen_at fs q e =
     let a = longest_due fs in
@@ -118,7 +118,7 @@ chosen_at fs q e =
           (λ l. ltb-false i q l);
     }
 
-pub chosen_nowhere : (fs : List Fault) → chosen fs ≡ Nowhere → (i : ℕ) → i < length fs
+pub chosen_nowhere : (fs : List Fault) → chosen fs ≡ None → (i : ℕ) → i < length fs
     → is_due (get_or fs i no_fault) ≡ false
 unfolding chosen
 chosen_nowhere fs e i h =

@@ -1,5 +1,6 @@
 -- Fairness: while a due fault waits, each step sends one that has been due at least as long, and what is sent or added
 -- then is due later. So of 32 places at most 32 - j have been due for j steps. Assumes nothing.
+use Rattle.std.specs.Prelude.{Some}
 use mathlib.Core.Path.{◌≡◌, refl, sym, ap, ◌∙◌, subst⁻¹}
 use mathlib.Core.Bool.{true, false}
 use mathlib.Core.List.{List, [], ◌∷◌, map}
@@ -11,7 +12,6 @@ use lib.Seq.{get_or-set_other}
 use Rattle.words.specs.Words.{◌=?◌, ◌or◌}
 use Rattle.words.specs.Lists.{any, count, first}
 use Rattle.words.proofs.Words.{by_test, both_true, true_false}
-use Rattle.words.specs.declared.Found.TheVariants.{At}
 use Rattle.words.proofs.Lists.{found_at}
 use Rattle.faults.specs.Fault.{oldest, no_fault, is_empty, is_active, is_due, passed, added, sent}
 use Rattle.faults.specs.Sender.{fault_places, fault_at, replacing, passed_all, chosen}
@@ -86,7 +86,7 @@ put_aside p j at s f n u w =
     }
 
 -- an empty place is not the one that waits
-not_empty : (p j at : ℕ) (s : Sender) → first is_empty s.faults ≡ At at → Standing p j s → at ≡ p → ⊥
+not_empty : (p j at : ℕ) (s : Sender) → first is_empty s.faults ≡ Some at → Standing p j s → at ≡ p → ⊥
 not_empty p j at s e w z =
     let t = found_at at is_empty s.faults no_fault e in
     let a = active_says (fault_at p s) (ripe_active j (fault_at p s) w.waits) in
@@ -103,7 +103,7 @@ falls p j s w =
     (omega (arith, l, length_passed s.faults), ap is_due (fault_passed p s) ∙ t.0, t.1)
 
 -- a step for another
-passed_over : (p j q : ℕ) (s : Sender) → (q ≡ p → ⊥) → chosen (map passed s.faults) ≡ At q → Standing p j s
+passed_over : (p j q : ℕ) (s : Sender) → (q ≡ p → ⊥) → chosen (map passed s.faults) ≡ Some q → Standing p j s
     → Standing p (suc j) (replacing (passed_all s) q (sent (fault_at q (passed_all s))))
 passed_over p j q s n e w =
     let c = chosen_at (map passed s.faults) q e in

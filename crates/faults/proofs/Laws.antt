@@ -1,5 +1,6 @@
 -- The statements of specs/Laws.antt on answers, refusals, states and steps, proved.
 -- Assumes nothing.
+use Rattle.std.specs.Prelude.{Option, Some, None}
 use Rattle.std.specs.Prelude.{if◌then◌else◌}
 use mathlib.Core.Path.{◌≡◌, refl, sym, ap, ◌∙◌}
 use mathlib.Core.Bool.{Bool, true, false}
@@ -17,8 +18,6 @@ use Rattle.frame.specs.declared.BadFrame.TheVariants.{IdentifierTooLarge, NotEig
 use Rattle.frame.specs.declared.BadFrame.TheVariants.{SourceNotAllowed}
 use Rattle.words.proofs.Words.{by_test, both_true}
 use Rattle.frame.proofs.Laws as frame_laws
-use Rattle.words.specs.declared.Found.{Found}
-use Rattle.words.specs.declared.Found.TheVariants.{At, Nowhere}
 use Rattle.words.proofs.Lists.{found_at, every_map, every_set, every_at}
 use Rattle.claim.specs.Claim.{keeps_rules as claim_keeps_rules, stand_of, holds_list}
 use Rattle.claim.specs.Promises.{sound_of}
@@ -205,11 +204,11 @@ reply_keeps id bytes h c s r p = p.faults.state
 
 -- the lowest number wins
 
-some_empty : (period : ℕ) (found : Found) → (found ≡ Nowhere → ⊥) → is_allowed period ≡ false
+some_empty : (period : ℕ) (found : Option ℕ) → (found ≡ None → ⊥) → is_allowed period ≡ false
     → added_for period found ≡ refused 21
 unfolding added_at
-some_empty period Nowhere n e = absurd (n refl)
-some_empty period (At at) n e = rw e
+some_empty period None n e = absurd (n refl)
+some_empty period (Some at) n e = rw e
 
 pub add_lowest : the.AddLowest
 unfolding added_of

@@ -1,5 +1,6 @@
 -- The fault that a step sends is the one that has been due longest by the calls alone: the state's ages are the steps
 -- since it fell due, and never reach the 31 at which they stop. Assumes nothing.
+use Rattle.std.specs.Prelude.{Some, None}
 use Rattle.std.specs.Prelude.{if◌then◌else◌}
 use mathlib.Core.Path.{◌≡◌, refl, sym, ap, ◌∙◌, subst, subst⁻¹}
 use mathlib.Core.Bool.{true, false}
@@ -11,7 +12,6 @@ use lib.ListN.{length, get_or, set, replicate, length-set}
 use lib.Seq.{get_or-set_other, get_or-set_same}
 use Rattle.words.specs.Words.{◌=?◌, ◌≤?◌, ◌<?◌, gives}
 use Rattle.words.proofs.Words.{by_test, true_false}
-use Rattle.words.specs.declared.Found.TheVariants.{At, Nowhere}
 use Rattle.words.proofs.Lists.{found_at}
 use Rattle.claim.specs.declared.Claim.{Claim}
 use Rattle.faults.specs.Fault.{step_time, no_fault, is_empty, is_due, passed, added, sent}
@@ -96,7 +96,7 @@ all_later s ks k p =
 
 -- few are left after a step that sends none, or the one that has been due longest
 
-few_rested : (j : ℕ) (fs : List Fault) → length fs ≡ fault_places → chosen (map passed fs) ≡ Nowhere
+few_rested : (j : ℕ) (fs : List Fault) → length fs ≡ fault_places → chosen (map passed fs) ≡ None
     → j ≤ fault_places → Few j (map passed fs)
 few_rested zero fs n e h = few_zero (map passed fs) (length_passed fs ∙ n)
 few_rested (suc j) fs n e h =
@@ -106,7 +106,7 @@ few_rested (suc j) fs n e h =
     (λ r. r)) in
     omega (arith, c, h)
 
-few_chosen : (j q : ℕ) (s : Sender) → length s.faults ≡ fault_places → chosen (map passed s.faults) ≡ At q
+few_chosen : (j q : ℕ) (s : Sender) → length s.faults ≡ fault_places → chosen (map passed s.faults) ≡ Some q
     → j ≤ fault_places
     → ((i : ℕ) → i ≤ fault_places → Few i s.faults)
     → Few j (set (map passed s.faults) q (sent (fault_at q (passed_all s))))
@@ -239,7 +239,7 @@ known_run s t _ ks (no_call _) k = k
 known_run s t _ ks (a_call _ m _ h hs l r) k =
     known_run m t hs (λ p. learns p h (ks p)) r (turn s m h ks (move s m h l) k)
 
--- ---- At the start.
+-- ---- Some the start.
 
 same_all : (n i : ℕ) → get_or (replicate n no_fault) i no_fault ≡ no_fault
 same_all zero i = refl
@@ -308,7 +308,7 @@ due_inside : (s : Sender) (q : ℕ) → is_due (fault_at q (passed_all s)) ≡ t
 due_inside s q e =
     inside (map passed s.faults) q (active_true (fault_at q (passed_all s)) (due_says (fault_at q (passed_all s)) e).0)
 
-not_due_outside : (s : Sender) (q : ℕ) → chosen (map passed s.faults) ≡ Nowhere
+not_due_outside : (s : Sender) (q : ℕ) → chosen (map passed s.faults) ≡ None
     → is_due (fault_at q (passed_all s)) ≡ false
 not_due_outside s q e =
     by_test (is_due (fault_at q (passed_all s)))

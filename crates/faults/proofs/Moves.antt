@@ -1,5 +1,6 @@
 -- What a call of a run makes of the state, in the eight ways that the definitions have; and what the places of a state
 -- are afterwards. Assumes nothing.
+use Rattle.std.specs.Prelude.{Option, Some, None}
 use Rattle.std.specs.Prelude.{if◌then◌else◌}
 use mathlib.Core.Path.{◌≡◌, refl, sym, ap, ◌∙◌, subst}
 use mathlib.Core.Bool.{Bool, true, false, not}
@@ -11,8 +12,6 @@ use lib.ListN.{length, get_or}
 use Rattle.words.specs.Words.{given◌then◌, ◌or◌, ◌<?◌, Told, refused, gives}
 use Rattle.words.specs.Lists.{first}
 use Rattle.words.proofs.Words.{both_true, true_false, refused_gives, gives_same, past_refusal, before_refusal}
-use Rattle.words.specs.declared.Found.{Found}
-use Rattle.words.specs.declared.Found.TheVariants.{At, Nowhere}
 use Rattle.claim.specs.Claim.{Stand}
 use Rattle.claim.specs.declared.Claim.{Claim}
 use Rattle.command.specs.Handed.{address_held}
@@ -34,14 +33,14 @@ pub record Made (c : Claim) (s : Sender) (outcome : Outcome) : Type 0 where
 
 pub data Move : Sender → Happened → Sender → Type 0 where
   add_refused : (s : Sender) (bytes : List ℕ) (period n : ℕ) → Move s (adds bytes period (refused n)) s
-  added_at_lem : (s : Sender) (bytes : List ℕ) (period at : ℕ) → first is_empty s.faults ≡ At at → is_allowed period ≡ true
+  added_at_lem : (s : Sender) (bytes : List ℕ) (period at : ℕ) → first is_empty s.faults ≡ Some at → is_allowed period ≡ true
       → Move s (adds bytes period (gives at)) (replacing s at (added bytes period))
   clear_refused : (s : Sender) (place n : ℕ) → Move s (clears place (refused n)) s
   cleared_at : (s : Sender) (at : ℕ) → is_active_at at s ≡ true → Move s (clears at (gives at)) (replacing s at no_fault)
   step_refused : (s : Sender) (c : Claim) (n : ℕ) → Move s (steps c (refused n)) s
-  rested : (s : Sender) (c : Claim) → chosen (map passed s.faults) ≡ Nowhere
+  rested : (s : Sender) (c : Claim) → chosen (map passed s.faults) ≡ None
       → Move s (steps c (gives nothing_due)) (passed_all s)
-  sent_at : (s : Sender) (c : Claim) (at address : ℕ) → chosen (map passed s.faults) ≡ At at
+  sent_at : (s : Sender) (c : Claim) (at address : ℕ) → chosen (map passed s.faults) ≡ Some at
       → (given standing c then λ stand. address_held stand) ≡ gives address
       → Move s (steps c (gives (sends at (dm_rv_frame address (fault_at at (passed_all s)).bytes))))
       (replacing (passed_all s) at (sent (fault_at at (passed_all s))))
@@ -50,16 +49,16 @@ pub data Move : Sender → Happened → Sender → Type 0 where
 
 -- a fault added
 
-given_at : (period at : ℕ) (found : Found) → added_for period found ≡ gives at
-    → (found ≡ At at) × (is_allowed period ≡ true)
+given_at : (period at : ℕ) (found : Option ℕ) → added_for period found ≡ gives at
+    → (found ≡ Some at) × (is_allowed period ≡ true)
 unfolding added_at
-given_at period at (At i) e =
+given_at period at (Some i) e =
     let t = before_refusal (is_allowed period) 21 (gives i) e in
-    (ap At (gives_same t.1), t.0)
-given_at period at Nowhere e = refused_gives e
+    (ap Some (gives_same t.1), t.0)
+given_at period at None e = refused_gives e
 
 pub was_added : (s : Sender) (period at : ℕ) → added_of period s ≡ gives at
-    → (first is_empty s.faults ≡ At at) × (is_allowed period ≡ true)
+    → (first is_empty s.faults ≡ Some at) × (is_allowed period ≡ true)
 unfolding added_of
 was_added s period at e =
     given_at period at (first is_empty s.faults)
@@ -111,14 +110,14 @@ made c s outcome e =
     held_made c s (given standing c then λ stand. address_held stand) outcome refl (sym (given_twice (standing c) s) ∙ t)
 
 pub data Step (s : Sender) (c : Claim) (address : ℕ) : Outcome → Type 0 where
-  none : chosen (map passed s.faults) ≡ Nowhere → Step s c address nothing_due
-  one : (at : ℕ) → chosen (map passed s.faults) ≡ At at
+  none : chosen (map passed s.faults) ≡ None → Step s c address nothing_due
+  one : (at : ℕ) → chosen (map passed s.faults) ≡ Some at
       → Step s c address (sends at (dm_rv_frame address (fault_at at (passed_all s)).bytes))
 
-step_of : (s : Sender) (c : Claim) (address : ℕ) (found : Found) → chosen (map passed s.faults) ≡ found
+step_of : (s : Sender) (c : Claim) (address : ℕ) (found : Option ℕ) → chosen (map passed s.faults) ≡ found
     → Step s c address (outcome_for address found (passed_all s))
-step_of s c address (At at) e = one at e
-step_of s c address Nowhere e = none e
+step_of s c address (Some at) e = one at e
+step_of s c address None e = none e
 
 pub held_step_lem : (s : Sender) (c : Claim) (address : ℕ) → Step s c address (held_step address s)
 unfolding held_step

@@ -1,5 +1,6 @@
 -- There is a run of whatever calls are made; and one in which a due fault waits for 31 others.
 -- Assumes nothing.
+use Rattle.std.specs.Prelude.{Option, Some, None}
 use mathlib.Core.Path.{◌≡◌, refl, sym, ◌∙◌}
 use mathlib.Core.List.{List, [], ◌∷◌}
 use Prim.Native.Nat.{ℕ}
@@ -8,8 +9,6 @@ use Rattle.words.specs.Words.{given◌then◌, Told, gives}
 use Rattle.words.specs.Lists.{first}
 use Rattle.frame.specs.Bytes.{number_of}
 use Rattle.words.proofs.Words.{by_test}
-use Rattle.words.specs.declared.Found.{Found}
-use Rattle.words.specs.declared.Found.TheVariants.{At, Nowhere}
 use Rattle.claim.specs.Candidates.{is_well_formed, padded}
 use Rattle.claim.specs.Claim.{keeps_rules as claim_keeps_rules, Stand, held, claiming, silent, stand_of, holds_list}
 use Rattle.claim.specs.Promises.{sound_of}
@@ -30,10 +29,10 @@ use Rattle.faults.specs.declared.Stepping.{Stepping}
 
 -- every answer of the definitions has a name in the code
 
-add_found : (period : ℕ) (found : Found) → (answer : Adding) × (told_adding answer ≡ added_for period found)
+add_found : (period : ℕ) (found : Option ℕ) → (answer : Adding) × (told_adding answer ≡ added_for period found)
 unfolding added_at
-add_found period Nowhere = (Adding.NoPlace, refl)
-add_found period (At at) =
+add_found period None = (Adding.NoPlace, refl)
+add_found period (Some at) =
     by_test (is_allowed period)
     (λ e. (Adding.Added at, sym (rw e)))
     (λ e. (Adding.PeriodNotAllowed, sym (rw e)))

@@ -1,5 +1,6 @@
 -- The statements of specs/Laws.antt on requests, and on a host and a sender together, proved.
 -- Assumes nothing.
+use Rattle.std.specs.Prelude.{Option, Some, None}
 use Rattle.std.specs.Prelude.{if◌then◌else◌}
 use mathlib.Core.Path.{◌≡◌, refl, sym, ap, ◌∙◌}
 use mathlib.Core.Bool.{Bool, true, false, not}
@@ -20,8 +21,6 @@ use Rattle.frame.specs.declared.Parts.{Parts}
 use Rattle.words.proofs.Words.{by_test, both_true, true_false, refused_gives, gives_same, past_refusal}
 use Rattle.frame.proofs.Laws as frame_laws
 use Rattle.frame.proofs.Sent.{sent_checked}
-use Rattle.words.specs.declared.Found.{Found}
-use Rattle.words.specs.declared.Found.TheVariants.{At, Nowhere}
 use Rattle.words.proofs.Lists.{found_at, found_nowhere}
 use Rattle.claim.specs.Candidates.{is_well_formed as is_well_formed_list, padded}
 use Rattle.claim.specs.Claim.{keeps_rules as claim_keeps_rules, Stand, held, claiming, silent, stand_of, holds_list}
@@ -94,11 +93,11 @@ request_lowest id bytes c s =
 
 -- the lowest active place answers
 
-reply_at : (s : Sender) (at : ℕ) (found : Found) → first is_active s.faults ≡ found → at < length s.faults
+reply_at : (s : Sender) (at : ℕ) (found : Option ℕ) → first is_active s.faults ≡ found → at < length s.faults
     → is_active (fault_at at s) ≡ true → ((i : ℕ) → i < at → is_active (fault_at i s) ≡ false)
     → reply_from found s ≡ (fault_at at s).bytes
-reply_at s at Nowhere e l a n = true_false (sym a ∙ found_nowhere is_active s.faults no_fault e at l)
-reply_at s at (At j) e l a n =
+reply_at s at None e l a n = true_false (sym a ∙ found_nowhere is_active s.faults no_fault e at l)
+reply_at s at (Some j) e l a n =
     let t = found_at j is_active s.faults no_fault e in
     by_test (j <? at)
     (λ k. true_false (sym t.passes ∙ n j (ltb-true j at k)))
@@ -106,10 +105,10 @@ reply_at s at (At j) e l a n =
     (λ m. true_false (sym a ∙ t.lowest at (ltb-true at j m)))
     (λ m. let z : j ≡ at = omega (arith, ltb-false j at k, ltb-false at j m) in ap (λ (i : ℕ). (fault_at i s).bytes) z))
 
-reply_none : (s : Sender) (found : Found) → first is_active s.faults ≡ found
-    → ((i : ℕ) → i < length s.faults → is_active (fault_at i s) ≡ false) → reply_from found s ≡ reply_from Nowhere s
-reply_none s Nowhere e n = refl
-reply_none s (At j) e n =
+reply_none : (s : Sender) (found : Option ℕ) → first is_active s.faults ≡ found
+    → ((i : ℕ) → i < length s.faults → is_active (fault_at i s) ≡ false) → reply_from found s ≡ reply_from None s
+reply_none s None e n = refl
+reply_none s (Some j) e n =
     let t = found_at j is_active s.faults no_fault e in
     true_false (sym t.passes ∙ n j t.below)
 

@@ -1,6 +1,7 @@
 -- The steps by which each call of a sender comes to its answer, answers with no frame beside them, a place that is
 -- read, and the pass that looks for the greatest age.
 -- Assumes nothing.
+use Rattle.std.specs.Prelude.{Option, Some, None}
 use Rattle.std.specs.Prelude.{if◌then◌else◌}
 use mathlib.Core.Path.{◌≡◌, refl, sym, ap, ◌∙◌}
 use mathlib.Core.Bool.{Bool, true, false}
@@ -19,8 +20,6 @@ use Rattle.frame.specs.Standard.{no_frame}
 use Rattle.frame.specs.Promises.{bytes_if}
 use Rattle.frame.specs.declared.Parts.{Parts}
 use Rattle.words.proofs.Words.{by_test, both_true}
-use Rattle.words.specs.declared.Found.{Found}
-use Rattle.words.specs.declared.Found.TheVariants.{At, Nowhere}
 use Rattle.words.proofs.Lists.{search_pass, search_stop, search_end, found_at as found_at_lem}
 use Rattle.claim.specs.Claim as Claim
 use Rattle.claim.specs.Claim.{Stand, claiming, silent}
@@ -70,8 +69,8 @@ same_at (x ∷ l) (suc i) d e h = same_at l i d e (le_of_suc-le-suc h)
 -- ---- The pass that looks for the lowest place.
 
 -- what has been found, or will be from place i on
-abbrev pub found_or : (Fault → Bool) → ℕ → ℕ → List Fault → Found
-found_or f at i fs = if at <? fault_places then At at else first_from f i (drop i fs)
+abbrev pub found_or : (Fault → Bool) → ℕ → ℕ → List Fault → Option ℕ
+found_or f at i fs = if at <? fault_places then Some at else first_from f i (drop i fs)
 
 kept_lowest : (at i : ℕ) (b : Bool) → (at <? fault_places) ≡ true → lowest at i b ≡ at
 unfolding lowest
@@ -133,11 +132,11 @@ longest_end fs i longest h e = sym (e ∙ rw (drop_of_length-le fs h) (omega ari
 -- ---- What a search finds.
 
 -- a place that is found is there
-pub found_below : (f : Fault → Bool) (fs : List Fault) (at : ℕ) → length fs ≡ fault_places → first f fs ≡ At at
+pub found_below : (f : Fault → Bool) (fs : List Fault) (at : ℕ) → length fs ≡ fault_places → first f fs ≡ Some at
     → at < fault_places
 found_below f fs at n e = let b = (found_at_lem at f fs no_fault e).below in omega arith
 
-pub chosen_below : (fs : List Fault) (at : ℕ) → length fs ≡ fault_places → chosen fs ≡ At at → at < fault_places
+pub chosen_below : (fs : List Fault) (at : ℕ) → length fs ≡ fault_places → chosen fs ≡ Some at → at < fault_places
 unfolding chosen
 chosen_below fs at n e = found_below (is_chosen (longest_due fs)) fs at n e
 
@@ -152,7 +151,7 @@ module _ (period : ℕ) (s : Sender) where
   unfolding added_of
   added_broken k = rw k
 
-  pub added_found : (found : Found) → keeps_rules s ≡ true → first is_empty s.faults ≡ found
+  pub added_found : (found : Option ℕ) → keeps_rules s ≡ true → first is_empty s.faults ≡ found
       → added_of period s ≡ added_for period found
   unfolding added_of
   added_found found k e = rw (k, e)
@@ -175,7 +174,7 @@ pub stepped_as : {t u : Told Outcome} {s : Sender} {r : Stepped} → t ≡ u →
 stepped_as e p = rw e p
 
 module _ (address : ℕ) (s : Sender) where
-  pub step_sends : (at : ℕ) (r : Stepped) → chosen (passed_all s).faults ≡ At at → r ≡ sent_at at address (passed_all s)
+  pub step_sends : (at : ℕ) (r : Stepped) → chosen (passed_all s).faults ≡ Some at → r ≡ sent_at at address (passed_all s)
       → SteppedBy (gives (held_step address s)) s r
   unfolding held_step
   step_sends at r e h =
@@ -188,7 +187,7 @@ module _ (address : ℕ) (s : Sender) where
       }
       )
 
-  pub step_quiet : (r : Stepped) → chosen (passed_all s).faults ≡ Nowhere → r ≡ bare_stepped (passed_all s) NothingDue
+  pub step_quiet : (r : Stepped) → chosen (passed_all s).faults ≡ None → r ≡ bare_stepped (passed_all s) NothingDue
       → SteppedBy (gives (held_step address s)) s r
   unfolding held_step
   step_quiet r e h = rw e (bare_stepped_lem (gives nothing_due) NothingDue s (passed_all s) r refl refl refl h)

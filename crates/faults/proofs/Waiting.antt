@@ -1,5 +1,6 @@
 -- One place over a run of calls: what stays of an active fault, how its time passes, and an empty place. With these the
 -- laws over calls alone. Assumes nothing.
+use Rattle.std.specs.Prelude.{Some}
 use Rattle.std.specs.Prelude.{if◌then◌else◌}
 use mathlib.Core.Path.{◌≡◌, refl, sym, ap, ◌∙◌}
 use mathlib.Core.Bool.{Bool, true, false}
@@ -13,7 +14,6 @@ use Rattle.words.specs.Words.{given◌then◌, ◌<?◌, ◌=?◌, ◌≤?◌, �
 use Rattle.words.specs.Lists.{any, first}
 use Rattle.frame.specs.Standard.{Frame}
 use Rattle.words.proofs.Words.{by_test, both_true}
-use Rattle.words.specs.declared.Found.TheVariants.{At}
 use Rattle.words.proofs.Lists.{found_at}
 use Rattle.claim.specs.declared.Claim.{Claim}
 use Rattle.faults.specs.Fault.{step_time, is_allowed, no_fault, is_empty, is_due, passed, added, sent}
@@ -129,7 +129,7 @@ holds_passed period bytes p s o =
     }
 
 -- an active place is not the empty one that a new fault takes
-pub taken_other : (p at : ℕ) (s : Sender) → first is_empty s.faults ≡ At at → ((fault_at p s).period ≡ 0 → ⊥)
+pub taken_other : (p at : ℕ) (s : Sender) → first is_empty s.faults ≡ Some at → ((fault_at p s).period ≡ 0 → ⊥)
     → at ≡ p → ⊥
 taken_other p at s e n z =
     let t = found_at at is_empty s.faults no_fault e in
@@ -208,7 +208,7 @@ pub record Sends (p : ℕ) (c : Claim) (frame : Frame) (b d : Sender) : Type 0 w
   pub address : ℕ
   pub held : (given standing c then λ stand. address_held stand) ≡ gives address
   pub is : frame ≡ dm_rv_frame address (fault_at p (passed_all b)).bytes
-  pub chose : chosen (map passed b.faults) ≡ At p
+  pub chose : chosen (map passed b.faults) ≡ Some p
   pub left : d ≡ replacing (passed_all b) p (sent (fault_at p (passed_all b)))
 
 sends_by : (p : ℕ) (c : Claim) (frame : Frame) (b d : Sender) → Move b (steps c (gives (sends p frame))) d
@@ -345,7 +345,7 @@ empty_passed : (p : ℕ) (s : Sender) → Empty p s → Empty p (passed_all s)
 empty_passed p s z = ap (λ (g : Fault). g.period) (fault_passed p s) ∙ passed_period (fault_at p s) ∙ z
 
 -- it is not sent
-empty_unsent : (p at : ℕ) (s : Sender) → Empty p s → chosen (map passed s.faults) ≡ At at → at ≡ p → ⊥
+empty_unsent : (p at : ℕ) (s : Sender) → Empty p s → chosen (map passed s.faults) ≡ Some at → at ≡ p → ⊥
 empty_unsent p at s z e y =
     let d = (chosen_at (map passed s.faults) at e).due in
     let n = (due_says (fault_at at (passed_all s)) d).0 in

@@ -1,6 +1,7 @@
 -- The laws of this crate's calls (RULES 14), each a named statement: what their answers say, and the sender.
 -- proofs/Laws.antt, RequestLaws.antt and FieldLaws.antt have a proof of each, under the same name written small. Other
 -- laws on fields stand in FieldLaws.antt, those over runs of calls in Runs.antt.
+use Rattle.std.specs.Prelude.{None}
 use Rattle.std.specs.Prelude.{◌≡◌, true, false, List, [], ◌∷◌, ℕ, ◌≤◌, ◌<◌, ◌%◌, ◌^◌, length}
 use Rattle.words.specs.Words.{refused, gives}
 use Rattle.words.specs.Lists.{first}
@@ -8,7 +9,6 @@ use Rattle.frame.specs.Identifier.{identifiers, catalogue_form, destination_of, 
 use Rattle.frame.specs.Frame.{checked_of, frame_bytes}
 use Rattle.frame.specs.Standard.{Frame, no_frame, greatest_address, everyone, request_dgn, dgn_at}
 use Rattle.frame.specs.declared.Parts.{Parts}
-use Rattle.words.specs.declared.Found.TheVariants.{Nowhere}
 use Rattle.catalogue.specs.declared.Looked.{Looked}
 use Rattle.catalogue.specs.declared.Reading.{Reading}
 use Rattle.catalogue.specs.declared.Value.{Value}
@@ -177,8 +177,8 @@ ReplyKeeps =
 
 pub record AddLowestWins (period : ℕ) (s : Sender) : Type 0 where
   pub two : keeps_rules s ≡ false → added_of period s ≡ refused 2
-  pub twenty : keeps_rules s ≡ true → first is_empty s.faults ≡ Nowhere → added_of period s ≡ refused 20
-  pub twenty_one : keeps_rules s ≡ true → (first is_empty s.faults ≡ Nowhere → ⊥) → is_allowed period ≡ false
+  pub twenty : keeps_rules s ≡ true → first is_empty s.faults ≡ None → added_of period s ≡ refused 20
+  pub twenty_one : keeps_rules s ≡ true → (first is_empty s.faults ≡ None → ⊥) → is_allowed period ≡ false
       → added_of period s ≡ refused 21
 
 pub record ClearLowestWins (place : ℕ) (s : Sender) : Type 0 where

@@ -1,9 +1,8 @@
 -- What the private functions of this crate promise, where it is no definition of the others (for RULES 14).
+use Rattle.std.specs.Prelude.{Option, Some, None}
 use Rattle.std.specs.Prelude.{List, [], ℕ, Bool, not, if◌then◌else◌}
 use Rattle.words.specs.Words.{◌<?◌, Told, refused, gives}
 use Rattle.frame.specs.Standard.{no_frame}
-use Rattle.words.specs.declared.Found.{Found}
-use Rattle.words.specs.declared.Found.TheVariants.{At, Nowhere}
 use Rattle.command.specs.Positions.{filled}
 use Rattle.command.specs.declared.Requesting.TheVariants as Hosting
 use Rattle.faults.specs.Fault.{sent}
@@ -28,8 +27,8 @@ told_meant (Faults destination) = gives (faults_of destination)
 unfoldable pub lowest : ℕ → ℕ → Bool → ℕ
 lowest at i chosen = if not chosen then at else if at <? fault_places then at else i
 
-unfoldable pub found_at : ℕ → Found
-found_at at = if at <? fault_places then At at else Nowhere
+unfoldable pub found_at : ℕ → Option ℕ
+found_at at = if at <? fault_places then Some at else None
 
 -- the DM_RV of a place, which is due again a period later
 abbrev pub sent_at : ℕ → ℕ → Sender → Stepped

@@ -1,12 +1,11 @@
 -- A request for DM_RV (RULES 14.15 to 14.19).
+use Rattle.std.specs.Prelude.{Option, Some, None}
 use Rattle.std.specs.Prelude.{Bool, not, List, [], ◌∷◌, ℕ, length, get_or, if◌then◌else◌}
 use Rattle.words.specs.Words.{given◌then◌, ◌<?◌, ◌=?◌, ◌and◌, ◌or◌, Told, refused, gives}
 use Rattle.words.specs.Lists.{first}
 use Rattle.frame.specs.Identifier.{catalogue_form, destination_of, greatest_dgn}
 use Rattle.frame.specs.Frame.{checked_of}
 use Rattle.frame.specs.Standard.{Frame, everyone, unused, request_dgn, dgn_at}
-use Rattle.words.specs.declared.Found.{Found}
-use Rattle.words.specs.declared.Found.TheVariants.{At, Nowhere}
 use Rattle.claim.specs.Claim as Claim
 use Rattle.claim.specs.Claim.{Stand, held, claiming, silent}
 use Rattle.claim.specs.declared.Claim as Claims
@@ -38,9 +37,9 @@ none_active bytes =
     get_or bytes 0 0 ∷ get_or bytes 1 0 ∷ unused ∷ unused ∷ unused ∷ unused ∷ get_or bytes 6 0 ∷ get_or bytes 7 0 ∷ []
 
 -- the lowest active place answers a request
-abbrev pub reply_from : Found → Sender → List ℕ
-reply_from (At at) s = (fault_at at s).bytes
-reply_from Nowhere s = none_active s.no_fault
+abbrev pub reply_from : Option ℕ → Sender → List ℕ
+reply_from (Some at) s = (fault_at at s).bytes
+reply_from None s = none_active s.no_fault
 
 unfoldable pub reply_bytes : Sender → List ℕ
 reply_bytes s = reply_from (first is_active s.faults) s

@@ -1,11 +1,10 @@
 -- The places of a sender, the fault that is sent at a step, and the frame of a DM_RV (RULES 14.5 to 14.14).
+use Rattle.std.specs.Prelude.{Option, Some, None}
 use Rattle.std.specs.Prelude.{Bool, not, List, [], ◌∷◌, map, ℕ, get_or, set, replicate, if◌then◌else◌}
 use Rattle.words.specs.Words.{given◌then◌, ◌<?◌, ◌=?◌, ◌and◌, Told, refused, gives}
 use Rattle.words.specs.Lists.{every, first}
 use Rattle.frame.specs.Identifier.{identifier_of}
 use Rattle.frame.specs.Standard.{Frame}
-use Rattle.words.specs.declared.Found.{Found}
-use Rattle.words.specs.declared.Found.TheVariants.{At, Nowhere}
 use Rattle.claim.specs.Claim.{Stand, stand_of}
 use Rattle.claim.specs.Promises.{sound_of}
 use Rattle.claim.specs.declared.Claim.{Claim}
@@ -56,9 +55,9 @@ replacing s at f = record { faults = set s.faults at f; no_fault = s.no_fault }
 unfoldable pub added_at : ℕ → ℕ → Told ℕ
 added_at at period = if is_allowed period then gives at else refused 21
 
-abbrev pub added_for : ℕ → Found → Told ℕ
-added_for period (At at) = added_at at period
-added_for period Nowhere = refused 20
+abbrev pub added_for : ℕ → Option ℕ → Told ℕ
+added_for period (Some at) = added_at at period
+added_for period None = refused 20
 
 unfoldable pub added_of : ℕ → Sender → Told ℕ
 added_of period s = if not (keeps_rules s) then refused 2 else added_for period (first is_empty s.faults)
@@ -97,7 +96,7 @@ longest_due (f ∷ fs) = longer f (longest_due fs)
 abbrev pub is_chosen : ℕ → Fault → Bool
 is_chosen age f = is_due f and (f.age =? age)
 
-unfoldable pub chosen : List Fault → Found
+unfoldable pub chosen : List Fault → Option ℕ
 chosen fs = first (is_chosen (longest_due fs)) fs
 
 -- 50 ms pass for every place
@@ -109,9 +108,9 @@ pub data Outcome : Type 0 where
   nothing_due : Outcome
   sends : ℕ → Frame → Outcome
 
-abbrev pub outcome_for : ℕ → Found → Sender → Outcome
-outcome_for address Nowhere later = nothing_due
-outcome_for address (At at) later = sends at (dm_rv_frame address (fault_at at later).bytes)
+abbrev pub outcome_for : ℕ → Option ℕ → Sender → Outcome
+outcome_for address None later = nothing_due
+outcome_for address (Some at) later = sends at (dm_rv_frame address (fault_at at later).bytes)
 
 -- a step while we hold this address
 unfoldable pub held_step : ℕ → Sender → Outcome

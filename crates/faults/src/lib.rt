@@ -302,8 +302,8 @@ impl Sender {
             };
         }
         match searches::lowest_empty(self) {
-            words::Found::At(at) => sending::add(self, at, bytes, period),
-            words::Found::Nowhere => Added {
+            words::Some(at) => sending::add(self, at, bytes, period),
+            words::None => Added {
                 sender: self,
                 answer: Adding::NoPlace,
             },

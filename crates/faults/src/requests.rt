@@ -12,7 +12,6 @@ use crate::{DM_RV, Replied, Requested, Requesting, Sender, searches, sending};
 use claim::{Claim, Standing};
 use command::Positions;
 use frame::standard;
-use words::Found;
 
 // What a sound frame asks for.
 #[derive(Clone, Copy)]
@@ -123,8 +122,8 @@ fn reply_bytes(s: Sender) -> [u8; 8]
     ensures { result ≡ reply_bytes s }
 {
     match searches::lowest_active(s) {
-        Found::At(at) => bytes_at(s, at),
-        Found::Nowhere => none_active(s),
+        Some(at) => bytes_at(s, at),
+        None => none_active(s),
     }
 }
 

@@ -6,36 +6,35 @@ ghost use Rattle.faults.specs.Sender.{is_active_at, longer, longest_due, is_chos
 ghost use Rattle.faults.specs.Private.{lowest, found_at};
 
 use crate::{Fault, PLACES, Sender, place};
-use words::Found;
 
 // The lowest empty place.
-pub fn lowest_empty(s: Sender) -> Found
+pub fn lowest_empty(s: Sender) -> Option<usize>
     ensures { result ≡ first is_empty s.faults }
 {
     let mut i: usize = 0;
     while i < PLACES {
         let f = s.faults[i];
         if f.period == 0 {
-            return Found::At(i);
+            return Some(i);
         }
         i += 1;
     }
-    Found::Nowhere
+    None
 }
 
 // The lowest place with an active fault.
-pub fn lowest_active(s: Sender) -> Found
+pub fn lowest_active(s: Sender) -> Option<usize>
     ensures { result ≡ first is_active s.faults }
 {
     let mut i: usize = 0;
     while i < PLACES {
         let f = s.faults[i];
         if f.period != 0 {
-            return Found::At(i);
+            return Some(i);
         }
         i += 1;
     }
-    Found::Nowhere
+    None
 }
 
 // Whether there is such a place, and a fault is active in it.
@@ -100,17 +99,17 @@ fn lowest(at: usize, i: usize, chosen: bool) -> usize
 }
 
 // A place, if there is such a one.
-fn found(at: usize) -> Found
+fn found(at: usize) -> Option<usize>
     ensures { result ≡ found_at at }
 {
     if PLACES <= at {
-        return Found::Nowhere;
+        return None;
     }
-    Found::At(at)
+    Some(at)
 }
 
 // The place whose fault has been due longest; of several the lowest.
-pub fn chosen(s: Sender) -> Found
+pub fn chosen(s: Sender) -> Option<usize>
     ensures { result ≡ chosen s.faults }
 {
     let age = longest_due(s);

@@ -7,7 +7,6 @@ ghost use Rattle.faults.specs.Private.{sent_at, bare_stepped};
 
 use crate::{Added, Adding, DM_RV, Fault, PLACES, Sender, Stepped, Stepping, place, searches};
 use frame::standard;
-use words::Found;
 
 // The identifier of a DM_RV without its source: priority 6.
 const DM_RV_ID: u32 = 6 * 0x4000000 + DM_RV * 256;
@@ -67,8 +66,8 @@ pub fn step(s: Sender, address: u8) -> Stepped
 {
     let later = all_passed(s);
     match searches::chosen(later) {
-        Found::At(at) => send(later, at, address),
-        Found::Nowhere => bare(later, Stepping::NothingDue),
+        Some(at) => send(later, at, address),
+        None => bare(later, Stepping::NothingDue),
     }
 }
 

@@ -1,6 +1,7 @@
 -- The turns of the loops that look at a line: keys, digits, small letters and leading zeros; and the fields that they
 -- find.
 -- Assumes nothing.
+use Rattle.std.specs.Prelude.{Some, None}
 use mathlib.Core.Path.{◌≡◌, refl, sym, ap, ◌∙◌}
 use mathlib.Core.Bool.{Bool, true, false}
 use mathlib.Core.List.{List, [], ◌∷◌}
@@ -13,7 +14,6 @@ use lib.ListN.{length, get_or, take, drop, drop_of_length-le, length-take, lengt
 use lib.Seq.{drop-cons, drop-drop}
 use Rattle.words.specs.Words.{◌<?◌, ◌≤?◌, ◌=?◌, ◌and◌, ◌or◌, refused, gives}
 use Rattle.words.specs.Lists.{any}
-use Rattle.words.specs.declared.Found.TheVariants.{At, Nowhere}
 use Rattle.words.proofs.Words.{by_test, true_false, both_true}
 use Rattle.text.specs.Text.{digit0}
 use Rattle.capture.specs.Digits.{value_of}
@@ -72,18 +72,18 @@ ahead_take base (c ∷ codes) =
 -- A field.
 
 pub field_missing : (line : List ℕ) (at : ℕ) (key : List ℕ) (base : ℕ) → begins_with key (drop at line) ≡ false
-    → FieldFound line at key base Nowhere
+    → FieldFound line at key base None
 unfolding field_of
 field_missing line at key base e = record { told = rw e; fits = λ to f. let z : ◌≡◌ {A = ℕ} 0 1 = cc in absurd (omega arith) }
 
 pub key_fits : (line : List ℕ) (at : ℕ) (key : List ℕ) → begins_with key (drop at line) ≡ true → at ≤ length line → at + length key ≤ length line
 key_fits line at key e h = let k = begins_long key (drop at line) e in omega (arith, length-drop at line)
 
-at_same : {m n : ℕ} → At m ≡ At n → m ≡ n
+at_same : {m n : ℕ} → Some m ≡ Some n → m ≡ n
 at_same e = cc
 
 pub field_there : (line : List ℕ) (at : ℕ) (key : List ℕ) (base to : ℕ) → begins_with key (drop at line) ≡ true → at ≤ length line
-    → to ≡ at + length key + length (ahead base (drop (at + length key) line)) → FieldFound line at key base (At to)
+    → to ≡ at + length key + length (ahead base (drop (at + length key) line)) → FieldFound line at key base (Some to)
 unfolding field_of
 field_there line at key base to e h q =
     let from = at + length key in
@@ -176,32 +176,32 @@ broken : (line : List ℕ) → parts_in line ≡ refused 19 → FieldsFound line
 broken line e = record { told = sym e; fits = λ p f. let z : ◌≡◌ {A = ℕ} 0 1 = cc in absurd (omega arith) }
 
 module _ (line : List ℕ) where
-  pub no_gap : FieldFound line 0 gap_key 10 Nowhere → FieldsFound line Broken
+  pub no_gap : FieldFound line 0 gap_key 10 None → FieldsFound line Broken
   unfolding parts_in
   no_gap f =
       let e : field_of gap_key 10 line ≡ refused 19 = sym f.told in
       broken line (rw e)
 
-  module _ (g : ℕ) (f₁ : FieldFound line 0 gap_key 10 (At g)) where
+  module _ (g : ℕ) (f₁ : FieldFound line 0 gap_key 10 (Some g)) where
     gap_there : field_of gap_key 10 line ≡ gives (record { digits = part 4 g line; rest = drop g line })
     gap_there = sym f₁.told
 
     pub gap_room : g ≤ length line
     gap_room = (f₁.fits g refl).1
 
-    pub no_id : FieldFound line g id_key 16 Nowhere → FieldsFound line Broken
+    pub no_id : FieldFound line g id_key 16 None → FieldsFound line Broken
     unfolding parts_in
     no_id f = broken line (rw (gap_there, ← f.told))
 
-    module _ (i : ℕ) (f₂ : FieldFound line g id_key 16 (At i)) where
+    module _ (i : ℕ) (f₂ : FieldFound line g id_key 16 (Some i)) where
       pub id_room : i ≤ length line
       id_room = (f₂.fits i refl).1
 
-      pub no_data : FieldFound line i data_key 16 Nowhere → FieldsFound line Broken
+      pub no_data : FieldFound line i data_key 16 None → FieldsFound line Broken
       unfolding parts_in
       no_data f = broken line (rw (gap_there, ← f₂.told, ← f.told))
 
-      module _ (d : ℕ) (f₃ : FieldFound line i data_key 16 (At d)) where
+      module _ (d : ℕ) (f₃ : FieldFound line i data_key 16 (Some d)) where
         pub data_room : d ≤ length line
         data_room = (f₃.fits d refl).1
 

@@ -1,8 +1,7 @@
 -- What the private functions promise of a line, by places in it and in the lent bytes (for RULES 17.3 to 17.12).
+use Rattle.std.specs.Prelude.{Option, Some, None}
 use Rattle.std.specs.Prelude.{◌≡◌, Bool, true, false, List, [], ◌++◌, ℕ, ◌+◌, ◌-◌, ◌≤◌, length, take, drop, if◌then◌else◌}
 use Rattle.words.specs.Words.{Told, refused, gives}
-use Rattle.words.specs.declared.Found.{Found}
-use Rattle.words.specs.declared.Found.TheVariants.{At, Nowhere}
 use Rattle.text.specs.Text.{text}
 use Rattle.text.specs.Pieces.{Wrote}
 use Rattle.mend.specs.Mending.{Parts, Field, field_of, parts_in, mended}
@@ -21,13 +20,13 @@ abbrev pub part : ℕ → ℕ → List ℕ → List ℕ
 part from to line = take (to - from) (drop from line)
 
 -- a field whose digits begin at `from`
-abbrev pub field_at : List ℕ → ℕ → Found → Told Field
-field_at line from (At to) = gives (record { digits = part from to line; rest = drop to line })
-field_at line from Nowhere = refused 19
+abbrev pub field_at : List ℕ → ℕ → Option ℕ → Told Field
+field_at line from (Some to) = gives (record { digits = part from to line; rest = drop to line })
+field_at line from None = refused 19
 
-pub record FieldFound (line : List ℕ) (at : ℕ) (key : List ℕ) (base : ℕ) (r : Found) : Type 0 where
+pub record FieldFound (line : List ℕ) (at : ℕ) (key : List ℕ) (base : ℕ) (r : Option ℕ) : Type 0 where
   pub told : field_at line (at + length key) r ≡ field_of key base (drop at line)
-  pub fits : (to : ℕ) → r ≡ At to → (at + length key ≤ to) × (to ≤ length line)
+  pub fits : (to : ℕ) → r ≡ Some to → (at + length key ≤ to) × (to ≤ length line)
 
 abbrev pub told_tail : Tail → Told Bool
 told_tail Nothing = gives false

@@ -5,7 +5,6 @@ ghost use Rattle.capture.specs.Line.{begins_with};
 ghost use Rattle.mend.specs.Mending.{is_small, capital, ahead, return_in};
 ghost use Rattle.mend.specs.Places.{FieldFound, FieldsFound, told_tail};
 
-use words::Found;
 
 // Where the digits of each field end, and whether a carriage return stands behind the last. The gap's digits begin at
 // 4, those of the identifier 4 behind the gap's end, and those of the data 6 behind the identifier's.
@@ -35,13 +34,13 @@ pub enum Tail {
 pub fn find(line: &[u8]) -> Fields
     ensures { FieldsFound line.now result }
 {
-    let Found::At(gap_to) = field(line, 0, b"gap=", 10) else {
+    let Some(gap_to) = field(line, 0, b"gap=", 10) else {
         return Fields::Broken;
     };
-    let Found::At(id_to) = field(line, gap_to, b" id=", 16) else {
+    let Some(id_to) = field(line, gap_to, b" id=", 16) else {
         return Fields::Broken;
     };
-    let Found::At(data_to) = field(line, id_to, b" data=", 16) else {
+    let Some(data_to) = field(line, id_to, b" data=", 16) else {
         return Fields::Broken;
     };
     let tail = rest(line, data_to);
@@ -63,14 +62,14 @@ pub fn find(line: &[u8]) -> Fields
 }
 
 // Where the digits end that stand behind a key, where the key is at this place of the line.
-fn field(line: &[u8], at: usize, key: &[u8], base: u32) -> Found
+fn field(line: &[u8], at: usize, key: &[u8], base: u32) -> Option<usize>
     requires { at ≤ length line.now }
     ensures { FieldFound line.now at key.now base result }
 {
     if !begins(line, at, key) {
-        return Found::Nowhere;
+        return None;
     }
-    Found::At(digits_to(line, at + key.len(), base))
+    Some(digits_to(line, at + key.len(), base))
 }
 
 // Whether a key stands at a place of the line.

@@ -1,5 +1,6 @@
 -- The statements of specs/Laws.antt, proved.
 -- Assumes nothing.
+use Rattle.std.specs.Prelude.{Option, Some, None}
 use Rattle.std.specs.Prelude.{if◌then◌else◌}
 use mathlib.Core.Path.{◌≡◌, refl, sym, ap, ◌∙◌, subst, subst⁻¹}
 use mathlib.Core.Bool.{true, false}
@@ -20,8 +21,6 @@ use Rattle.frame.specs.declared.BadFrame.TheVariants.{SourceNotAllowed}
 use Rattle.words.proofs.Words.{by_test}
 use Rattle.words.proofs.Tests.{tests}
 use Rattle.frame.proofs.Laws.{bad_back, bad_back_lem}
-use Rattle.words.specs.declared.Found.{Found}
-use Rattle.words.specs.declared.Found.TheVariants.{At, Nowhere}
 use Rattle.frame.specs.Standard.{bytes_in}
 use Rattle.places.specs.Places.{place_count}
 use Rattle.places.proofs.Stretch.{copy_keeps, copy_writes}
@@ -193,11 +192,11 @@ splitting_refusal_only answer r s p q = p.number ∙ sym q.number
 data Left (id : ℕ) (bytes : List ℕ) (ps : List Place) (s : List ℕ) : After → Type 0 where
   refuses : {n : ℕ} → n ≢ 10 → Left id bytes ps s (leaves ps s (refused n))
   passes : Left id bytes ps s (leaves ps s (gives nothing_to_do))
-  opens : (i : ℕ) (p : Place) → Left id bytes ps s (opened_at (At i) p ps s)
-  closes : {p : PacketFrom} {i : ℕ} → meaning_of id bytes ≡ gives (packet p) → first (is_open_by p.sender) ps ≡ At i
+  opens : (i : ℕ) (p : Place) → Left id bytes ps s (opened_at (Some i) p ps s)
+  closes : {p : PacketFrom} {i : ℕ} → meaning_of id bytes ≡ gives (packet p) → first (is_open_by p.sender) ps ≡ Some i
       → p.number ≢ (get_or ps i free_place).expected → Left id bytes ps s (leaves (set ps i free_place) s (refused 10))
   stores : {p : PacketFrom} {i : ℕ} {qs : List Place} {o : Outcome}
-      → meaning_of id bytes ≡ gives (packet p) → first (is_open_by p.sender) ps ≡ At i
+      → meaning_of id bytes ≡ gives (packet p) → first (is_open_by p.sender) ps ≡ Some i
       → OpenRules (get_or ps i free_place) → room ≤ length s → length bytes ≡ frame_bytes
       → Left id bytes ps s (leaves qs (kept_at i (get_or ps i free_place) bytes s) (gives o))
 
@@ -205,9 +204,9 @@ module _ (id : ℕ) (bytes : List ℕ) (ps : List Place) (s : List ℕ) where
   announcing_left : (sender size dgn : ℕ) → Left id bytes ps s (hears_announcement sender size dgn ps s)
   announcing_left sender size dgn = go (place_for sender ps) refl
     where
-      go : (g : Found) → place_for sender ps ≡ g → Left id bytes ps s (hears_announcement sender size dgn ps s)
-      go (At i) e = subst⁻¹ (Left id bytes ps s) (announcing_at sender size dgn ps s i e) (opens i _)
-      go Nowhere e = subst⁻¹ (Left id bytes ps s) (announcing_nowhere sender size dgn ps s e)
+      go : (g : Option ℕ) → place_for sender ps ≡ g → Left id bytes ps s (hears_announcement sender size dgn ps s)
+      go (Some i) e = subst⁻¹ (Left id bytes ps s) (announcing_at sender size dgn ps s i e) (opens i _)
+      go None e = subst⁻¹ (Left id bytes ps s) (announcing_nowhere sender size dgn ps s e)
           (refuses (λ x. omega arith))
 
   carries_left : (sender number : ℕ)
@@ -216,7 +215,7 @@ module _ (id : ℕ) (bytes : List ℕ) (ps : List Place) (s : List ℕ) where
       → Left id bytes ps s (carries sender number bytes ps s)
   carries_left sender number m v enough l = go (first (is_open_by sender) ps) refl
     where
-      at : (i : ℕ) → first (is_open_by sender) ps ≡ At i → Left id bytes ps s (packet_at i (get_or ps i free_place) number bytes ps s)
+      at : (i : ℕ) → first (is_open_by sender) ps ≡ Some i → Left id bytes ps s (packet_at i (get_or ps i free_place) number bytes ps s)
       at i e =
           let p = get_or ps i free_place in
           by_test (number =? p.expected)
@@ -229,9 +228,9 @@ module _ (id : ℕ) (bytes : List ℕ) (ps : List Place) (s : List ℕ) where
           let o = eqb-false number p.expected t in
           subst⁻¹ (Left id bytes ps s) (packet_other i p ps s number bytes o) (closes m e o))
 
-      go : (g : Found) → first (is_open_by sender) ps ≡ g → Left id bytes ps s (carries sender number bytes ps s)
-      go (At i) e = subst⁻¹ (Left id bytes ps s) (carries_at sender number bytes ps s i e) (at i e)
-      go Nowhere e = subst⁻¹ (Left id bytes ps s) (carries_nowhere sender number bytes ps s e) (refuses (λ x. omega arith))
+      go : (g : Option ℕ) → first (is_open_by sender) ps ≡ g → Left id bytes ps s (carries sender number bytes ps s)
+      go (Some i) e = subst⁻¹ (Left id bytes ps s) (carries_at sender number bytes ps s i e) (at i e)
+      go None e = subst⁻¹ (Left id bytes ps s) (carries_nowhere sender number bytes ps s e) (refuses (λ x. omega arith))
 
   meaning_left : (m : Told Meaning) → meaning_of id bytes ≡ m → Known id bytes m → keeps_rules ps ≡ true → room ≤ length s → Left id bytes ps s (by_meaning m bytes ps s)
   meaning_left (refused n) e k v enough = let h : n < 8 = k.1 in let x : n ≡ 10 → ⊥ = λ y. omega arith in refuses x
@@ -314,7 +313,7 @@ packet_holds bytes p b = rw length-drop (omega arith)
 expected_kept : (id : ℕ) (bytes : List ℕ) (ps : List Place) (s : List ℕ) (sender i : ℕ)
     → room ≤ length s → keeps_rules ps ≡ true
     → meaning_of id bytes ≡ gives (packet (record { sender = sender; number = (get_or ps i free_place).expected }))
-    → first (is_open_by sender) ps ≡ At i
+    → first (is_open_by sender) ps ≡ Some i
     → (heard id bytes ps s).storage ≡ kept_at i (get_or ps i free_place) bytes s
 expected_kept id bytes ps s sender i enough v m f =
     let p = get_or ps i free_place in

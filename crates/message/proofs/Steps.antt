@@ -1,6 +1,7 @@
 -- A frame, case by case: what each definition leaves where its tests are known, and that a state with such places and such an answer is left
 -- by it.
 -- Assumes nothing.
+use Rattle.std.specs.Prelude.{Option, Some, None}
 use mathlib.Core.Path.{◌≡◌, refl, sym, ap, ◌∙◌, subst⁻¹}
 use mathlib.Core.Bool.{Bool, true, false, not}
 use mathlib.Core.List.{List}
@@ -15,8 +16,6 @@ use Rattle.frame.specs.Frame.{checked_of}
 use Rattle.frame.specs.declared.Parts.{Parts}
 use Rattle.words.proofs.Words.{both_true, by_test}
 use Rattle.words.proofs.Lists.{found_at, every_at}
-use Rattle.words.specs.declared.Found.{Found}
-use Rattle.words.specs.declared.Found.TheVariants.{At, Nowhere}
 use Rattle.frame.specs.Standard.{greatest_address}
 use Rattle.places.specs.Telling.{Outcome, stored, finished}
 use Rattle.message.specs.LongMessage.{shortest, longest, packets_of, idle_limit, meant, meaning_of}
@@ -46,25 +45,25 @@ left_as {h = h} {s = s} e k = subst⁻¹ (λ (x : After). LeftBy x h s) e k
 
 -- an announcement
 
-pub found_below : (f : Place → Bool) (ps : List Place) (j : ℕ) → length ps ≡ 8 → first f ps ≡ At j → j < 8
+pub found_below : (f : Place → Bool) (ps : List Place) (j : ℕ) → length ps ≡ 8 → first f ps ≡ Some j → j < 8
 found_below f ps j h e = omega (arith, (found_at j f ps free_place e).below)
 
-pub place_for_below : (sender : ℕ) (ps : List Place) (j : ℕ) → length ps ≡ 8 → place_for sender ps ≡ At j → j < 8
+pub place_for_below : (sender : ℕ) (ps : List Place) (j : ℕ) → length ps ≡ 8 → place_for sender ps ≡ Some j → j < 8
 unfolding place_for
 place_for_below sender ps j h e = go (first (is_open_by sender) ps) refl
   where
-    go : (f : Found) → first (is_open_by sender) ps ≡ f → j < 8
-    go (At i) k = let z : At i ≡ At j = rw k at e in found_below (is_open_by sender) ps j h (k ∙ z)
-    go Nowhere k = found_below is_free ps j h (rw k at e)
+    go : (f : Option ℕ) → first (is_open_by sender) ps ≡ f → j < 8
+    go (Some i) k = let z : Some i ≡ Some j = rw k at e in found_below (is_open_by sender) ps j h (k ∙ z)
+    go None k = found_below is_free ps j h (rw k at e)
 
 module _ (sender size dgn : ℕ) (ps : List Place) (s : List ℕ) where
-  pub announcing_at : (i : ℕ) → place_for sender ps ≡ At i
+  pub announcing_at : (i : ℕ) → place_for sender ps ≡ Some i
       → hears_announcement sender size dgn ps s
-      ≡ opened_at (At i) (record { sender = sender; length = size; dgn = dgn; expected = 1; idle = 0 }) ps s
+      ≡ opened_at (Some i) (record { sender = sender; length = size; dgn = dgn; expected = 1; idle = 0 }) ps s
   unfolding hears_announcement
   announcing_at i e = rw e
 
-  pub announcing_nowhere : place_for sender ps ≡ Nowhere
+  pub announcing_nowhere : place_for sender ps ≡ None
       → hears_announcement sender size dgn ps s ≡ leaves ps s (refused 8)
   unfolding hears_announcement
   announcing_nowhere e = rw e
@@ -97,11 +96,11 @@ module _ (i : ℕ) (p : Place) (ps : List Place) (s : List ℕ) where
       (λ t. ap (λ (a : After). a.storage) (advanced_next (eqb-false p.expected (packets_of p.length) t)))
 
 module _ (sender number : ℕ) (bytes : List ℕ) (ps : List Place) (s : List ℕ) where
-  pub carries_at : (i : ℕ) → first (is_open_by sender) ps ≡ At i → carries sender number bytes ps s ≡ packet_at i (get_or ps i free_place) number bytes ps s
+  pub carries_at : (i : ℕ) → first (is_open_by sender) ps ≡ Some i → carries sender number bytes ps s ≡ packet_at i (get_or ps i free_place) number bytes ps s
   unfolding carries
   carries_at i e = rw e
 
-  pub carries_nowhere : first (is_open_by sender) ps ≡ Nowhere → carries sender number bytes ps s ≡ leaves ps s (refused 9)
+  pub carries_nowhere : first (is_open_by sender) ps ≡ None → carries sender number bytes ps s ≡ leaves ps s (refused 9)
   unfolding carries
   carries_nowhere e = rw e
 
@@ -135,7 +134,7 @@ open_rules p f e =
     }
 
 -- the open place of a sender, in a state that keeps its rules
-pub rules_at : (sender j : ℕ) (ps : List Place) → keeps_rules ps ≡ true → first (is_open_by sender) ps ≡ At j → OpenRules (get_or ps j free_place)
+pub rules_at : (sender j : ℕ) (ps : List Place) → keeps_rules ps ≡ true → first (is_open_by sender) ps ≡ Some j → OpenRules (get_or ps j free_place)
 unfolding keeps_rules
 rules_at sender j ps v e =
     let t = found_at j (is_open_by sender) ps free_place e in
@@ -143,7 +142,7 @@ rules_at sender j ps v e =
     let o = both_true (not (is_free p)) _ t.passes in
     open_rules p (not-true (is_free p) o.0) (every_at place_keeps_rules ps j free_place t.below (both_true (every place_keeps_rules ps) _ v).0)
 
-pub live_at : (sender j : ℕ) (ps : List Place) → keeps_rules ps ≡ true → first (is_open_by sender) ps ≡ At j → Live (get_or ps j free_place)
+pub live_at : (sender j : ℕ) (ps : List Place) → keeps_rules ps ≡ true → first (is_open_by sender) ps ≡ Some j → Live (get_or ps j free_place)
 live_at sender j ps v e = let o = rules_at sender j ps v e in record { short = o.short; begun = o.begun; within = o.within }
 
 -- a frame

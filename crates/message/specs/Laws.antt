@@ -1,12 +1,12 @@
 -- The laws of this crate (RULES 4 and 5), each a named statement. proofs/Laws.antt has a proof of each, under the same
 -- name written small. The larger theorems, that a busy bus reads like a quiet one and that what is split is joined,
 -- stand in the crate `demands`.
+use Rattle.std.specs.Prelude.{Some}
 use Rattle.std.specs.Prelude.{◌≡◌, true, false, List, ◌≢◌, ◌⊎◌, ℕ, ◌+◌, ◌-◌, ◌*◌, ◌≤◌, ◌<◌, length, get_or, set}
 use Rattle.words.specs.Words.{refused, gives}
 use Rattle.words.specs.Lists.{first}
 use Rattle.frame.specs.Identifier.{greatest_dgn}
 use Rattle.frame.specs.Frame.{checked_of}
-use Rattle.words.specs.declared.Found.TheVariants.{At}
 use Rattle.places.specs.Places.{place_count}
 use Rattle.message.specs.LongMessage.{shortest, longest, packet_bytes, packets_of, needed, PacketFrom, packet}
 use Rattle.message.specs.LongMessage.{meaning_of}
@@ -94,7 +94,7 @@ RefusedKeeps =
 
 pub record ClosedAt (places : List Place) (storage : List ℕ) (after : List Place) (exit : List ℕ) (sender i : ℕ)
     : Type 0 where
-  pub held : first (is_open_by sender) places ≡ At i
+  pub held : first (is_open_by sender) places ≡ Some i
   pub closed : after ≡ set places i free_place
   pub kept : exit ≡ storage
 
@@ -138,7 +138,7 @@ WritesThePacket =
     → length places ≡ place_count → room ≤ length storage → keeps_rules places ≡ true
     → Hear id bytes places storage r exit
     → meaning_of id bytes ≡ gives (packet (record { sender = sender; number = (get_or places i free_place).expected }))
-    → first (is_open_by sender) places ≡ At i
+    → first (is_open_by sender) places ≡ Some i
     → ItsOwn (get_or places i free_place) i k
     → get_or exit k 0
     ≡ get_or bytes (1 + (k - (longest * i + packet_bytes * ((get_or places i free_place).expected - 1)))) 0
@@ -148,7 +148,7 @@ abbrev pub WritesItsOwn : Type 0
 WritesItsOwn =
     (id : ℕ) (bytes : List ℕ) (places : List Place) (storage : List ℕ) (r : Heard) (exit : List ℕ) (k : ℕ)
     → length places ≡ place_count → Hear id bytes places storage r exit
-    → ((p : PacketFrom) (i : ℕ) → meaning_of id bytes ≡ gives (packet p) → first (is_open_by p.sender) places ≡ At i
+    → ((p : PacketFrom) (i : ℕ) → meaning_of id bytes ≡ gives (packet p) → first (is_open_by p.sender) places ≡ Some i
     → ItsOwn (get_or places i free_place) i k → ⊥)
     → get_or exit k 0 ≡ get_or storage k 0
 

@@ -1,11 +1,10 @@
 -- The receiver: eight places over lent storage (RULES 5.1 to 5.13).
+use Rattle.std.specs.Prelude.{Option, Some, None}
 use Rattle.std.specs.Prelude.{refl, Bool, not, List, map, ℕ, ◌+◌, ◌-◌, ◌*◌, length, take, drop, get_or, set, if◌then◌else◌}
 use Rattle.std.proofs.Math.Seq.{paste}
 use Rattle.words.specs.Words.{◌<?◌, ◌≤?◌, ◌=?◌, ◌and◌, Told, refused, gives}
 use Rattle.words.specs.Lists.{every, count, first, or_else}
 use Rattle.frame.specs.Identifier.{greatest_dgn}
-use Rattle.words.specs.declared.Found.{Found}
-use Rattle.words.specs.declared.Found.TheVariants.{At, Nowhere}
 use Rattle.frame.specs.Standard.{greatest_address}
 use Rattle.places.specs.Layout.{Layout, open_by, one_each}
 use Rattle.places.specs.Places.{place_count}
@@ -86,12 +85,12 @@ leaves places storage answer = record { places = places; storage = storage; answ
 
 -- An announcement: who has a message open stays in its place, anyone else takes the lowest-numbered free one.
 
-unfoldable pub place_for : ℕ → List Place → Found
+unfoldable pub place_for : ℕ → List Place → Option ℕ
 place_for sender places = or_else (first (is_open_by sender) places) (first is_free places)
 
-abbrev pub opened_at : Found → Place → List Place → List ℕ → After
-opened_at (At i) p places storage = leaves (set places i p) storage (gives opened)
-opened_at Nowhere p places storage = leaves places storage (refused 8)
+abbrev pub opened_at : Option ℕ → Place → List Place → List ℕ → After
+opened_at (Some i) p places storage = leaves (set places i p) storage (gives opened)
+opened_at None p places storage = leaves places storage (refused 8)
 
 unfoldable pub hears_announcement : ℕ → ℕ → ℕ → List Place → List ℕ → After
 hears_announcement sender size dgn places storage =
@@ -121,9 +120,9 @@ packet_at i p number bytes places storage =
     then advanced i p places (kept_at i p bytes storage)
     else leaves (set places i free_place) storage (refused 10)
 
-abbrev pub packet_for : Found → ℕ → List ℕ → List Place → List ℕ → After
-packet_for (At i) number bytes places storage = packet_at i (get_or places i free_place) number bytes places storage
-packet_for Nowhere number bytes places storage = leaves places storage (refused 9)
+abbrev pub packet_for : Option ℕ → ℕ → List ℕ → List Place → List ℕ → After
+packet_for (Some i) number bytes places storage = packet_at i (get_or places i free_place) number bytes places storage
+packet_for None number bytes places storage = leaves places storage (refused 9)
 
 unfoldable pub carries : ℕ → ℕ → List ℕ → List Place → List ℕ → After
 carries sender number bytes places storage = packet_for (first (is_open_by sender) places) number bytes places storage

@@ -11,7 +11,6 @@ use crate::limits::{PACKET_BYTES, PLACES};
 use crate::meaning::Meant;
 use crate::{Answer, Heard, Paused, Pausing, Place, Receiver, meaning, one_place, storage};
 use frame::Verdict;
-use words::Found;
 
 // The state as it came, with an answer.
 pub fn keeps(r: Receiver, answer: Answer) -> Heard
@@ -59,7 +58,7 @@ fn announce(r: Receiver, sender: u8, size: u16, dgn: u32) -> Heard
     ensures { (s : List ℕ) → LeftBy (hears_announcement sender size dgn r.places s) result s }
 {
     match place_for(r, sender) {
-        Found::At(at) => {
+        Some(at) => {
             let p = Place {
                 sender,
                 length: size,
@@ -69,22 +68,22 @@ fn announce(r: Receiver, sender: u8, size: u16, dgn: u32) -> Heard
             };
             keeps(replace(r, at, p), Answer::Opened)
         }
-        Found::Nowhere => keeps(r, Answer::NoPlaceFree),
+        None => keeps(r, Answer::NoPlaceFree),
     }
 }
 
 // The place that a sender's announcement takes.
-fn place_for(r: Receiver, sender: u8) -> Found
+fn place_for(r: Receiver, sender: u8) -> Option<usize>
     ensures { result ≡ place_for sender r.places }
 {
     match open_by(r, sender) {
-        Found::At(at) => Found::At(at),
-        Found::Nowhere => lowest_free(r),
+        Some(at) => Some(at),
+        None => lowest_free(r),
     }
 }
 
 // The lowest-numbered free place.
-fn lowest_free(r: Receiver) -> Found
+fn lowest_free(r: Receiver) -> Option<usize>
     ensures { result ≡ first is_free r.places }
 {
     let mut i: usize = 0;
@@ -99,25 +98,25 @@ fn lowest_free(r: Receiver) -> Found
         i += 1;
     };
     if at < PLACES {
-        Found::At(at)
+        Some(at)
     } else {
-        Found::Nowhere
+        None
     }
 }
 
 // The place that is open by this sender.
-fn open_by(r: Receiver, sender: u8) -> Found
+fn open_by(r: Receiver, sender: u8) -> Option<usize>
     ensures { result ≡ first (is_open_by sender) r.places }
 {
     let mut i: usize = 0;
     while i < PLACES {
         let p = r.places[i];
         if one_place::is_open_by(p, sender) {
-            return Found::At(i);
+            return Some(i);
         }
         i += 1;
     }
-    Found::Nowhere
+    None
 }
 
 // One place replaced.
@@ -136,8 +135,8 @@ fn packet(r: Receiver, storage: &mut [u8], sender: u8, number: u8, bytes: [u8; 8
     ensures { LeftBy (carries sender number bytes r.places storage.old) result storage.new }
 {
     match open_by(r, sender) {
-        Found::At(at) => packet_at(r, storage, at, number, bytes),
-        Found::Nowhere => keeps(r, Answer::NoOpenMessage),
+        Some(at) => packet_at(r, storage, at, number, bytes),
+        None => keeps(r, Answer::NoOpenMessage),
     }
 }
 

@@ -1,5 +1,6 @@
 -- Records that are all absent: they keep the rules, and nobody is among them.
 -- Assumes nothing.
+use Rattle.std.specs.Prelude.{None}
 use mathlib.Core.Path.{◌≡◌, refl, ap, ◌∙◌}
 use mathlib.Core.Bool.{true, false}
 use mathlib.Core.List.{List, ◌∷◌, ◌++◌}
@@ -10,7 +11,6 @@ use lib.Dec.{ltb}
 use borrow.Author.Tests.{ltb-true, ltb-false}
 use Rattle.words.specs.Words.{gives}
 use Rattle.words.specs.Lists.{any, no_two, first_from, first}
-use Rattle.words.specs.declared.Found.TheVariants.{Nowhere}
 use Rattle.frame.specs.Standard.{greatest_address}
 use Rattle.words.proofs.Words.{by_test}
 use Rattle.words.proofs.Lists.{every_replicate}
@@ -47,7 +47,7 @@ all_absent zero a = refl
 all_absent (suc k) zero = refl
 all_absent (suc k) (suc a) = all_absent k a
 
-all_nameless : (name k a : ℕ) → first_from (has_name name) a (replicate k absent) ≡ Nowhere
+all_nameless : (name k a : ℕ) → first_from (has_name name) a (replicate k absent) ≡ None
 unfolding has_name
 all_nameless name zero a = refl
 all_nameless name (suc k) a = all_nameless name k (suc a)
@@ -83,7 +83,7 @@ module _ (r behind : List Node) (e : Empty r) where
       (λ t. looked_at (r ++ behind) a long kept (ltb-false _ _ t)
       ∙ ap (λ (n : Node). gives (holder_of n)) (absent_at a) ∙ ap gives nobody_there)
 
-  found : (name : ℕ) → found_of (r ++ behind) name ≡ gives Nowhere
+  found : (name : ℕ) → found_of (r ++ behind) name ≡ gives None
   found name =
       table_passes (r ++ behind) _ long kept
       ∙ ap (λ (ns : List Node). gives (first (has_name name) ns)) front_is ∙ ap gives (all_nameless name addresses 0)

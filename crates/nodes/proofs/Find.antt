@@ -1,5 +1,6 @@
 -- The search for a NAME: what it finds in a table that keeps the rules.
 -- Assumes nothing.
+use Rattle.std.specs.Prelude.{Option, Some, None}
 use mathlib.Core.Path.{◌≡◌, refl, sym, ap, ◌∙◌}
 use mathlib.Core.Bool.{true}
 use mathlib.Core.List.{List}
@@ -11,8 +12,6 @@ use lib.Seq.{get_or-take}
 use borrow.Author.Tests.{ltb-true, ltb-false}
 use Rattle.words.specs.Words.{Told, gives}
 use Rattle.words.specs.Lists.{first}
-use Rattle.words.specs.declared.Found.{Found}
-use Rattle.words.specs.declared.Found.TheVariants.{At, Nowhere}
 use Rattle.frame.specs.Standard.{greatest_address}
 use Rattle.words.proofs.Words.{gives_same, true_false, by_test}
 use Rattle.words.proofs.Lists.{found_at as first_at, found_nowhere as first_none}
@@ -29,26 +28,26 @@ module _ (name : ℕ) (rs : List Node) where
   abbrev In : ℕ → Type 0
   In a = (a < length rs) × ((get_or rs a absent).present ≡ true) × ((get_or rs a absent).name ≡ name)
 
-  in_of : (a : ℕ) → first (has_name name) rs ≡ At a → In a
+  in_of : (a : ℕ) → first (has_name name) rs ≡ Some a → In a
   in_of a e =
       let f = first_at a (has_name name) rs absent e in
       let p = name_of name (get_or rs a absent) f.passes in
       (f.below, p.0, p.1)
 
-  none_in : first (has_name name) rs ≡ Nowhere → (a : ℕ) → In a → ⊥
+  none_in : first (has_name name) rs ≡ None → (a : ℕ) → In a → ⊥
   none_in e a i =
       let has = has_name_of name (get_or rs a absent) i.1 i.2 in
       true_false (sym has ∙ first_none (has_name name) rs absent e a i.0)
 
-  of_none : ((a : ℕ) → In a → ⊥) → (w : Found) → first (has_name name) rs ≡ w → w ≡ Nowhere
-  of_none h Nowhere e = refl
-  of_none h (At b) e = absurd (h b (in_of b e))
+  of_none : ((a : ℕ) → In a → ⊥) → (w : Option ℕ) → first (has_name name) rs ≡ w → w ≡ None
+  of_none h None e = refl
+  of_none h (Some b) e = absurd (h b (in_of b e))
 
-  of_in : Rules rs → (a : ℕ) → In a → (w : Found) → first (has_name name) rs ≡ w → w ≡ At a
-  of_in rules a i Nowhere e = absurd (none_in e a i)
-  of_in rules a i (At b) e =
+  of_in : Rules rs → (a : ℕ) → In a → (w : Option ℕ) → first (has_name name) rs ≡ w → w ≡ Some a
+  of_in rules a i None e = absurd (none_in e a i)
+  of_in rules a i (Some b) e =
       let j = in_of b e in
-      ap At (rules.one_each name b a j.0 i.0 (standing b j) (standing a i))
+      ap Some (rules.one_each name b a j.0 i.0 (standing b j) (standing a i))
     where
       standing : (x : ℕ) → In x → stands name (get_or rs x absent) ≡ true
       standing x k =
@@ -83,23 +82,23 @@ module _ (table : List Node) (name : ℕ) (enough : addresses ≤ length table)
   abbrev rs : List Node
   rs = take addresses table
 
-  abbrev sought : Found
+  abbrev sought : Option ℕ
   sought = first (has_name name) rs
 
   found_is : found_of table name ≡ gives sought
   found_is = table_passes table (gives sought) enough keeps
 
-  there_holds : (a : ℕ) → found_of table name ≡ gives (At a) → Holds table name a
+  there_holds : (a : ℕ) → found_of table name ≡ gives (Some a) → Holds table name a
   there_holds a e = of_front addresses table name enough a (in_of name rs a (gives_same (sym found_is ∙ e)))
 
-  holds_there : (a : ℕ) → Holds table name a → found_of table name ≡ gives (At a)
+  holds_there : (a : ℕ) → Holds table name a → found_of table name ≡ gives (Some a)
   holds_there a h =
       found_is ∙ ap gives (of_in name rs (rules_of rs keeps) a (in_front addresses table name enough a h) sought refl)
 
-  nowhere_none : found_of table name ≡ gives Nowhere → (a : ℕ) → Holds table name a → ⊥
+  nowhere_none : found_of table name ≡ gives None → (a : ℕ) → Holds table name a → ⊥
   nowhere_none e a h = none_in name rs (gives_same (sym found_is ∙ e)) a (in_front addresses table name enough a h)
 
-  none_nowhere : ((a : ℕ) → Holds table name a → ⊥) → found_of table name ≡ gives Nowhere
+  none_nowhere : ((a : ℕ) → Holds table name a → ⊥) → found_of table name ≡ gives None
   none_nowhere h =
       found_is ∙ ap gives (of_none name rs (λ a i. h a (of_front addresses table name enough a i)) sought refl)
 
@@ -138,7 +137,7 @@ module _ (table : List Node) (name a : ℕ) where
   abbrev looked_in : Told Holder
   looked_in = looked_up_of table a
 
-  shown : found_of table name ≡ gives (At a) → looked_in ≡ gives (holder name)
+  shown : found_of table name ≡ gives (Some a) → looked_in ≡ gives (holder name)
   shown e =
       let s = table_sound table _ e in
       let h = there_holds table name s.0 s.1 a (found_is table name s.0 s.1 ∙ s.2) in
@@ -147,7 +146,7 @@ module _ (table : List Node) (name a : ℕ) where
       ∙ ap (λ (n : Node). gives (holder_of n)) (get_d_front addresses a table h.0)
       ∙ ap gives (holder_held (get_or table a absent) h.1 ∙ ap holder h.2)
 
-  refound : looked_in ≡ gives (holder name) → found_of table name ≡ gives (At a)
+  refound : looked_in ≡ gives (holder name) → found_of table name ≡ gives (Some a)
   refound e =
       let s = table_sound table _ e in
       by_test (ltb greatest_address a)

@@ -1,5 +1,6 @@
 -- The statements of specs/Laws.antt, proved.
 -- Assumes nothing.
+use Rattle.std.specs.Prelude.{Option, Some, None}
 use Rattle.std.specs.Prelude.{if◌then◌else◌}
 use mathlib.Core.Path.{◌≡◌, refl, sym, ap, ◌∙◌}
 use mathlib.Core.Bool.{Bool, true}
@@ -11,8 +12,6 @@ use lib.Dec.{ltb}
 use borrow.Author.Tests.{lt-ltb, le-ltb, eq-eqb, ne_eqb}
 use Rattle.words.specs.Words.{given◌then◌, ◌=?◌, Told, refused, gives}
 use Rattle.words.specs.Lists.{first}
-use Rattle.words.specs.declared.Found.{Found}
-use Rattle.words.specs.declared.Found.TheVariants.{At, Nowhere}
 use Rattle.frame.specs.Bytes.{number_of}
 use Rattle.frame.specs.Frame.{checked_of}
 use Rattle.frame.specs.Standard.{greatest_address, claim_dgn}
@@ -117,9 +116,9 @@ looked_back_lem LookedUp.BrokenState = refl
 pub told_looked_up_same : ToldLookedUpSame
 told_looked_up_same r s e = sym (looked_back_lem r) ∙ ap looked_back e ∙ looked_back_lem s
 
-found_back : Told Found → FoundAddress
-found_back (gives Nowhere) = FoundAddress.NoAddress
-found_back (gives (At address)) = FoundAddress.At address
+found_back : Told Option ℕ → FoundAddress
+found_back (gives None) = FoundAddress.NoAddress
+found_back (gives (Some address)) = FoundAddress.At address
 found_back (refused n) = if n =? 1 then FoundAddress.TableTooShort else FoundAddress.BrokenState
 
 found_back_lem : (r : FoundAddress) → found_back (told_found_address r) ≡ r

@@ -1,8 +1,8 @@
 -- The laws of this crate (RULES 9), each a named statement. proofs/Laws.antt has a proof of each, under the same name
 -- written small.
+use Rattle.std.specs.Prelude.{Some, None}
 use Rattle.std.specs.Prelude.{◌≡◌, true, false, List, ◌++◌, map, ◌⊎◌, ℕ, ◌≤◌, ◌<◌, ◌%◌, ◌^◌, length, get_or, set, take, drop, if◌then◌else◌}
 use Rattle.words.specs.Words.{◌≤?◌, Told, refused, gives}
-use Rattle.words.specs.declared.Found.TheVariants.{At, Nowhere}
 use Rattle.frame.specs.Bytes.{number_of}
 use Rattle.frame.specs.Identifier.{identifiers}
 use Rattle.frame.specs.Frame.{checked_of}
@@ -203,7 +203,7 @@ EmptyHasNobody =
 abbrev pub EmptyHasNoName : Type 0
 EmptyHasNoName =
     (r behind : List Node) (name : ℕ) → Empty r
-    → found_of (r ++ behind) name ≡ gives Nowhere
+    → found_of (r ++ behind) name ≡ gives None
 
 abbrev pub EmptyHasNoChallenger : Type 0
 EmptyHasNoChallenger =
@@ -331,24 +331,24 @@ Holds table name a = (a < addresses) × ((get_or table a absent).present ≡ tru
 abbrev pub FoundThere : Type 0
 FoundThere =
     (table : List Node) (name a : ℕ) → addresses ≤ length table → keeps_rules (take addresses table) ≡ true
-    → (found_of table name ≡ gives (At a) → Holds table name a)
-    × (Holds table name a → found_of table name ≡ gives (At a))
+    → (found_of table name ≡ gives (Some a) → Holds table name a)
+    × (Holds table name a → found_of table name ≡ gives (Some a))
 
 abbrev pub FoundNowhere : Type 0
 FoundNowhere =
     (table : List Node) (name : ℕ) → addresses ≤ length table → keeps_rules (take addresses table) ≡ true
-    → (found_of table name ≡ gives Nowhere → (a : ℕ) → Holds table name a → ⊥)
-    × (((a : ℕ) → Holds table name a → ⊥) → found_of table name ≡ gives Nowhere)
+    → (found_of table name ≡ gives None → (a : ℕ) → Holds table name a → ⊥)
+    × (((a : ℕ) → Holds table name a → ⊥) → found_of table name ≡ gives None)
 
 -- `look_up` of the address found gives the NAME, and a NAME that is looked up is found there.
 abbrev pub FoundShown : Type 0
 FoundShown =
     (table : List Node) (name a : ℕ)
-    → (found_of table name ≡ gives (At a) → looked_up_of table a ≡ gives (holder name))
-    × (looked_up_of table a ≡ gives (holder name) → found_of table name ≡ gives (At a))
+    → (found_of table name ≡ gives (Some a) → looked_up_of table a ≡ gives (holder name))
+    × (looked_up_of table a ≡ gives (holder name) → found_of table name ≡ gives (Some a))
 
 -- After `taken` the claim's NAME is found at its address.
 abbrev pub TakenFound : Type 0
 TakenFound =
     (table : List Node) (id : ℕ) (bytes : List ℕ) (a : ℕ)
-    → heard_of table id bytes ≡ gives (taken a) → found_of (table_after table id bytes) (number_of bytes) ≡ gives (At a)
+    → heard_of table id bytes ≡ gives (taken a) → found_of (table_after table id bytes) (number_of bytes) ≡ gives (Some a)

@@ -1,9 +1,8 @@
 -- What each public call of this crate promises (RULES 9 and 13.7): one proposition over its answer and the whole table
 -- at exit. The answers are read as numbers and values (RULES 2.10).
+use Rattle.std.specs.Prelude.{Option, Some, None}
 use Rattle.std.specs.Prelude.{◌≡◌, List, ℕ}
 use Rattle.words.specs.Words.{Told, refused, gives, number_in}
-use Rattle.words.specs.declared.Found.{Found}
-use Rattle.words.specs.declared.Found.TheVariants.{At, Nowhere}
 use Rattle.frame.specs.Promises.{refusal_of}
 use Rattle.nodes.specs.Table.{empty_table}
 use Rattle.nodes.specs.Call.{Outcome, nothing_to_do, taken, challenges, held_by_lower, silent, heard_of, table_after}
@@ -70,9 +69,9 @@ pub record LookedUpRefusal (answer : LookedUp) (r : ℕ) : Type 0 where
 
 -- find_address; the table is only read
 
-abbrev pub told_found_address : FoundAddress → Told Found
-told_found_address (FoundAddress.At address) = gives (At address)
-told_found_address FoundAddress.NoAddress = gives Nowhere
+abbrev pub told_found_address : FoundAddress → Told Option ℕ
+told_found_address (FoundAddress.At address) = gives (Some address)
+told_found_address FoundAddress.NoAddress = gives None
 told_found_address FoundAddress.TableTooShort = refused 1
 told_found_address FoundAddress.BrokenState = refused 2
 

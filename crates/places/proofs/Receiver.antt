@@ -1,13 +1,13 @@
 -- One step of a receiver on its place structs and its storage (RULES 5.1 to 5.12): what it has to do with the places of
 -- its format, case by case, for every format and every layout.
 -- Assumes nothing.
+use Rattle.std.specs.Prelude.{Some, None}
 use mathlib.Core.Path.{◌≡◌, sym, ap, ◌∙◌}
 use mathlib.Core.Bool.{true}
 use mathlib.Core.List.{List, [], map}
 use Prim.Native.Nat.{ℕ}
 use lib.ListN.{length, get_or, set}
 use Rattle.words.specs.Lists.{first}
-use Rattle.words.specs.declared.Found.TheVariants.{At, Nowhere}
 use Rattle.places.specs.Format.{fixed, opens, finishes, feeds, goes, ends, Format}
 use Rattle.places.specs.Places.{Out, full, said, hear, rest}
 use Rattle.places.specs.Statements.{is_opening}
@@ -31,7 +31,7 @@ module _ {P : Type 0} (𝓕 : Format) (L : Layout P 𝓕.Session) (f : 𝓕.Fram
   -- an opening: in the key's place, or in the lowest free one
 
   pub shows_opens_held : (x : 𝓕.Session) (a : 𝓕.Answer) (j : ℕ) (q : P) (t : List ℕ) → 𝓕.asks f ≡ opens x a
-      → first (open_by L (𝓕.key f)) ps ≡ At j
+      → first (open_by L (𝓕.key f)) ps ≡ Some j
       → open_by L (𝓕.key f) q ≡ true → L.session q (stretch L.stride j t) ≡ x → AgreeBut L.stride j s t
       → Shows 𝓕 L f ps s (set ps j q) t (said a)
   shows_opens_held x a j q t e h o i g =
@@ -40,8 +40,8 @@ module _ {P : Type 0} (𝓕 : Format) (L : Layout P 𝓕.Session) (f : 𝓕.Fram
       record { places = rw e (rw l (u ∙ rw i)); answer = rw e (rw l) }
 
   pub shows_opens_free : (x : 𝓕.Session) (a : 𝓕.Answer) (j : ℕ) (q : P) (t : List ℕ) → 𝓕.asks f ≡ opens x a
-      → first (open_by L (𝓕.key f)) ps ≡ Nowhere
-      → first L.is_free ps ≡ At j → open_by L (𝓕.key f) q ≡ true → L.session q (stretch L.stride j t) ≡ x
+      → first (open_by L (𝓕.key f)) ps ≡ None
+      → first L.is_free ps ≡ Some j → open_by L (𝓕.key f) q ≡ true → L.session q (stretch L.stride j t) ≡ x
       → AgreeBut L.stride j s t
       → Shows 𝓕 L f ps s (set ps j q) t (said a)
   shows_opens_free x a j q t e n h o i g =
@@ -53,15 +53,15 @@ module _ {P : Type 0} (𝓕 : Format) (L : Layout P 𝓕.Session) (f : 𝓕.Fram
   -- one that finishes at once: the key's place is freed, or a free one stays free, whatever its stretch now has
 
   pub shows_finishes_held : (a : 𝓕.Answer) (j : ℕ) (q : P) (t : List ℕ) → 𝓕.asks f ≡ finishes a
-      → first (open_by L (𝓕.key f)) ps ≡ At j
+      → first (open_by L (𝓕.key f)) ps ≡ Some j
       → L.is_free q ≡ true → AgreeBut L.stride j s t → Shows 𝓕 L f ps s (set ps j q) t (said a)
   shows_finishes_held a j q t e h o g =
       let l = lookup_at L (𝓕.key f) j ps s L.blank h in
       record { places = rw e (rw l (close_at L (𝓕.key f) j ps s t q h o g)); answer = rw e (rw l) }
 
   pub shows_finishes_free : (a : 𝓕.Answer) (j : ℕ) (t : List ℕ) → 𝓕.asks f ≡ finishes a
-      → first (open_by L (𝓕.key f)) ps ≡ Nowhere
-      → first L.is_free ps ≡ At j
+      → first (open_by L (𝓕.key f)) ps ≡ None
+      → first L.is_free ps ≡ Some j
       → AgreeBut L.stride j s t → Shows 𝓕 L f ps s ps t (said a)
   shows_finishes_free a j t e n h g =
       let l = lookup_nowhere L (𝓕.key f) ps s n in
@@ -69,8 +69,8 @@ module _ {P : Type 0} (𝓕 : Format) (L : Layout P 𝓕.Session) (f : 𝓕.Fram
       record { places = rw e (rw l (rw y (free_write L j ps s t h g))); answer = rw e (rw l (rw y)) }
 
   -- either, where no place is free
-  pub shows_full : is_opening (𝓕.asks f) ≡ true → first (open_by L (𝓕.key f)) ps ≡ Nowhere
-      → first L.is_free ps ≡ Nowhere → Shows 𝓕 L f ps s ps s full
+  pub shows_full : is_opening (𝓕.asks f) ≡ true → first (open_by L (𝓕.key f)) ps ≡ None
+      → first L.is_free ps ≡ None → Shows 𝓕 L f ps s ps s full
   shows_full o n h =
       let r = no_place 𝓕 (𝓕.key f) (𝓕.asks f) (view L ps s) o (lookup_nowhere L (𝓕.key f) ps s n) ((free_nowhere L ps s).0 h) in
       record { places = sym (ap (λ t. t.next) r); answer = sym (ap (λ t. t.answer) r) }
@@ -78,14 +78,14 @@ module _ {P : Type 0} (𝓕 : Format) (L : Layout P 𝓕.Session) (f : 𝓕.Fram
   -- a packet: of no open session, of one that goes on, of one that ends
 
   pub shows_feeds_nowhere : (d : 𝓕.Data) (a : 𝓕.Answer) → 𝓕.asks f ≡ feeds d a
-      → first (open_by L (𝓕.key f)) ps ≡ Nowhere
+      → first (open_by L (𝓕.key f)) ps ≡ None
       → Shows 𝓕 L f ps s ps s (said a)
   shows_feeds_nowhere d a e n =
       let l = lookup_nowhere L (𝓕.key f) ps s n in
       record { places = rw e (rw l); answer = rw e (rw l) }
 
   pub shows_feeds_goes : (d : 𝓕.Data) (a b : 𝓕.Answer) (x : 𝓕.Session) (j : ℕ) (e q : P) (t : List ℕ)
-      → 𝓕.asks f ≡ feeds d a → first (open_by L (𝓕.key f)) ps ≡ At j
+      → 𝓕.asks f ≡ feeds d a → first (open_by L (𝓕.key f)) ps ≡ Some j
       → 𝓕.feed (L.session (get_or ps j e) (stretch L.stride j s)) d ≡ goes x b
       → open_by L (𝓕.key f) q ≡ true → L.session q (stretch L.stride j t) ≡ x → AgreeBut L.stride j s t
       → Shows 𝓕 L f ps s (set ps j q) t (said b)
@@ -95,7 +95,7 @@ module _ {P : Type 0} (𝓕 : Format) (L : Layout P 𝓕.Session) (f : 𝓕.Fram
       record { places = rw e (rw l (rw w (u ∙ rw i))); answer = rw e (rw l (rw w)) }
 
   pub shows_feeds_ends : (d : 𝓕.Data) (a b : 𝓕.Answer) (j : ℕ) (e q : P) (t : List ℕ)
-      → 𝓕.asks f ≡ feeds d a → first (open_by L (𝓕.key f)) ps ≡ At j
+      → 𝓕.asks f ≡ feeds d a → first (open_by L (𝓕.key f)) ps ≡ Some j
       → 𝓕.feed (L.session (get_or ps j e) (stretch L.stride j s)) d ≡ ends b
       → L.is_free q ≡ true → AgreeBut L.stride j s t → Shows 𝓕 L f ps s (set ps j q) t (said b)
   shows_feeds_ends d a b j z q t e h w o g =

@@ -1,5 +1,6 @@
 -- The receiver of the made-up format keeps to its places.
 -- Assumes nothing.
+use Rattle.std.specs.Prelude.{Option, Some, None}
 use mathlib.Core.Path.{◌≡◌, refl, ap, ◌∙◌, subst⁻¹}
 use mathlib.Core.Bool.{Bool, true, false, not}
 use mathlib.Core.List.{List, [], ◌∷◌, ◌++◌, map}
@@ -22,8 +23,6 @@ use Rattle.places.specs.TinyReceiver.{Slot, free_slot, is_free_slot, pile_in, ti
 use Rattle.places.specs.TinyReceiver.{TinyKeeps, TinyAfter, written, handed, tiny_finishes, new_slot}
 use Rattle.places.specs.TinyReceiver.{tiny_opens, next_slot, tiny_stores, tiny_feeds, tiny_heard, slot_closes}
 use Rattle.places.specs.TinyReceiver.{slot_idled, TinyStarts, TinyKeepsPlaces}
-use Rattle.words.specs.declared.Found.{Found}
-use Rattle.words.specs.declared.Found.TheVariants.{At, Nowhere}
 use Rattle.words.proofs.Lists.{found_at, every_at, every_set, every_map}
 use Rattle.places.proofs.Stretch.{stretch_same, stretch_other}
 use Rattle.places.proofs.View.{one_each_view, length_view, blank_view, view_pass, view_closes}
@@ -76,7 +75,7 @@ module _ (c : Card) (ps : List Slot) (s : List ℕ) (eight : length ps ≡ place
     rules : every slot_keeps_rules a.held.slots ≡ true
     long : length a.held.storage ≡ length s
 
-  found_below : (f : Slot → Bool) (j : ℕ) → first f ps ≡ At j → j < place_count
+  found_below : (f : Slot → Bool) (j : ℕ) → first f ps ≡ Some j → j < place_count
   found_below f j e = omega (arith, (found_at j f ps free_slot e).below)
 
   freed : (j : ℕ) → every slot_keeps_rules (set ps j free_slot) ≡ true
@@ -87,10 +86,10 @@ module _ (c : Card) (ps : List Slot) (s : List ℕ) (eight : length ps ≡ place
     handed_byte : (j : ℕ) → j < place_count → handed j 1 (written j 0 c.byte s) ≡ said (finished (c.byte ∷ []))
     handed_byte j b = ap (λ (l : List ℕ). said (finished l)) (written_own s j 0 c.byte enough b (omega arith))
 
-    finishing : (place free : Found) → first (open_by tiny_layout c.key) ps ≡ place → first is_free_slot ps ≡ free
+    finishing : (place free : Option ℕ) → first (open_by tiny_layout c.key) ps ≡ place → first is_free_slot ps ≡ free
         → TinyAgrees (tiny_finishes c.byte place free ps s)
     unfolding tiny_finishes
-    finishing (At j) free e g =
+    finishing (Some j) free e g =
         let b = found_below (open_by tiny_layout c.key) j e in
         record {
           shows =
@@ -99,7 +98,7 @@ module _ (c : Card) (ps : List Slot) (s : List ℕ) (eight : length ps ≡ place
           rules = freed j;
           long = written_long s j 0 c.byte enough b (omega arith);
         }
-    finishing Nowhere (At j) e g =
+    finishing None (Some j) e g =
         let b = found_below is_free_slot j g in
         record {
           shows =
@@ -108,7 +107,7 @@ module _ (c : Card) (ps : List Slot) (s : List ℕ) (eight : length ps ≡ place
           rules = ok;
           long = written_long s j 0 c.byte enough b (omega arith);
         }
-    finishing Nowhere Nowhere e g = record { shows = shows_full tiny tiny_layout c ps s (rw asks) e g; rules = ok; long = refl }
+    finishing None None e g = record { shows = shows_full tiny tiny_layout c ps s (rw asks) e g; rules = ok; long = refl }
 
   -- an opening of a message of several packets
   module _ (n : ℕ) (some : 1 ≤ n) (most : n ≤ most_packets) (asks : tiny.asks c ≡ opens (new_pile n) opened) where
@@ -124,26 +123,26 @@ module _ (c : Card) (ps : List Slot) (s : List ℕ) (eight : length ps ≡ place
     new_session : (bytes : List ℕ) → pile_in new bytes ≡ new_pile n
     new_session bytes = rw (sub_self n)
 
-    opening : (place free : Found) → first (open_by tiny_layout c.key) ps ≡ place → first is_free_slot ps ≡ free
+    opening : (place free : Option ℕ) → first (open_by tiny_layout c.key) ps ≡ place → first is_free_slot ps ≡ free
         → TinyAgrees (tiny_opens c.key n place free ps s)
     unfolding tiny_opens
-    opening (At j) free e g =
+    opening (Some j) free e g =
         record {
           shows = shows_opens_held tiny tiny_layout c ps s (new_pile n) opened j new s asks e new_open (new_session (stretch most_packets j s)) (λ i x. refl);
           rules = every_set slot_keeps_rules ps j new ok new_rules;
           long = refl;
         }
-    opening Nowhere (At j) e g =
+    opening None (Some j) e g =
         record {
           shows = shows_opens_free tiny tiny_layout c ps s (new_pile n) opened j new s asks e g new_open (new_session (stretch most_packets j s)) (λ i x. refl);
           rules = every_set slot_keeps_rules ps j new ok new_rules;
           long = refl;
         }
-    opening Nowhere Nowhere e g = record { shows = shows_full tiny tiny_layout c ps s (rw asks) e g; rules = ok; long = refl }
+    opening None None e g = record { shows = shows_full tiny tiny_layout c ps s (rw asks) e g; rules = ok; long = refl }
 
   -- a packet
   module _ (asks : tiny.asks c ≡ feeds c.byte unknown) where
-    module _ (j : ℕ) (e : first (open_by tiny_layout c.key) ps ≡ At j) where
+    module _ (j : ℕ) (e : first (open_by tiny_layout c.key) ps ≡ Some j) where
       abbrev p : Slot
       p = get_or ps j free_slot
 
@@ -218,10 +217,10 @@ module _ (c : Card) (ps : List Slot) (s : List ℕ) (eight : length ps ≡ place
       storing : TinyAgrees (tiny_stores c.byte j p ps t)
       storing = by_test (p.missing ≤? 1) (λ f. last (leb-true _ _ f)) (λ f. next (leb-false _ _ f))
 
-    feeding : (place : Found) → first (open_by tiny_layout c.key) ps ≡ place → TinyAgrees (tiny_feeds c.byte place ps s)
+    feeding : (place : Option ℕ) → first (open_by tiny_layout c.key) ps ≡ place → TinyAgrees (tiny_feeds c.byte place ps s)
     unfolding tiny_feeds
-    feeding (At j) e = storing j e
-    feeding Nowhere e = record { shows = shows_feeds_nowhere tiny tiny_layout c ps s c.byte unknown asks e; rules = ok; long = refl }
+    feeding (Some j) e = storing j e
+    feeding None e = record { shows = shows_feeds_nowhere tiny tiny_layout c ps s c.byte unknown asks e; rules = ok; long = refl }
 
   asks_finishes : c.number ≡ 0 → tiny.asks c ≡ finishes (finished (c.byte ∷ []))
   unfolding tiny_asks

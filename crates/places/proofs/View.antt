@@ -1,5 +1,6 @@
 -- Places and storage seen as places: what a search, one place replaced and a pause are there.
 -- Assumes nothing.
+use Rattle.std.specs.Prelude.{Some, None}
 use Rattle.std.specs.Prelude.{if◌then◌else◌}
 use mathlib.Core.Path.{◌≡◌, refl, sym, ap, ap₂, ◌∙◌}
 use mathlib.Core.Bool.{Bool, true, false, not}
@@ -12,7 +13,6 @@ use borrow.Author.Tests.{eq-eqb, ne_eqb, eqb-true, eqb-false, not-true}
 use lib.Dec.{eqb}
 use lib.ListN.{length, get_or, set, replicate}
 use Rattle.words.specs.Lists.{any, count, first, Absent}
-use Rattle.words.specs.declared.Found.TheVariants.{At, Nowhere}
 use Rattle.words.proofs.Words.{by_test, both_true, true_false}
 use Rattle.words.proofs.Lists.{absent_cons, absent_head, absent_tail, distinct_cons, distinct_head, distinct_tail}
 use Rattle.places.specs.Format.{Format}
@@ -77,11 +77,11 @@ module _ {P S : Type 0} (L : Layout P S) where
 
   -- what it finds is what the places have
 
-  pub lookup_nowhere : (k : ℕ) (ps : List P) (storage : List ℕ) → first (open_by L k) ps ≡ Nowhere
+  pub lookup_nowhere : (k : ℕ) (ps : List P) (storage : List ℕ) → first (open_by L k) ps ≡ None
       → lookup k (view L ps storage) ≡ none
   lookup_nowhere k ps s e = miss_lookup k 0 ps s (miss_at (open_by L k) ps e)
 
-  pub lookup_at : (k j : ℕ) (ps : List P) (storage : List ℕ) (d : P) → first (open_by L k) ps ≡ At j
+  pub lookup_at : (k j : ℕ) (ps : List P) (storage : List ℕ) (d : P) → first (open_by L k) ps ≡ Some j
       → lookup k (view L ps storage) ≡ some (L.session (get_or ps j d) (stretch L.stride j storage))
   lookup_at k j ps s d e = hit_lookup k 0 j j ps s d (omega arith) (hit_at (open_by L k) ps e)
 
@@ -102,14 +102,14 @@ module _ {P S : Type 0} (L : Layout P S) where
       ∙ sym (update_apart k m (seat L p (own i s)) (view_from L (suc i) qs s) (seat_apart k p (own i s) e))
 
   -- where the storage t agrees with s but in the stretch of the place that is set, k's place goes on
-  pub update_at : (k j : ℕ) (ps : List P) (s t : List ℕ) (q : P) → first (open_by L k) ps ≡ At j → open_by L k q ≡ true
+  pub update_at : (k j : ℕ) (ps : List P) (s t : List ℕ) (q : P) → first (open_by L k) ps ≡ Some j → open_by L k q ≡ true
       → AgreeBut L.stride j s t
       → view L (set ps j q) t ≡ update k (some (L.session q (stretch L.stride j t))) (view L ps s)
   update_at k j ps s t q e o a =
       hit_update k 0 j j ps s t q (some (L.session q (own j t))) (omega arith) (hit_at (open_by L k) ps e) (seat_open k q (own j t) o) a
 
   -- or closes
-  pub close_at : (k j : ℕ) (ps : List P) (s t : List ℕ) (q : P) → first (open_by L k) ps ≡ At j → L.is_free q ≡ true
+  pub close_at : (k j : ℕ) (ps : List P) (s t : List ℕ) (q : P) → first (open_by L k) ps ≡ Some j → L.is_free q ≡ true
       → AgreeBut L.stride j s t
       → view L (set ps j q) t ≡ update k none (view L ps s)
   close_at k j ps s t q e o a = hit_update k 0 j j ps s t q none (omega arith) (hit_at (open_by L k) ps e) (seat_free q (own j t) o) a
@@ -134,13 +134,13 @@ module _ {P S : Type 0} (L : Layout P S) where
   -- a search for it
 
   pub free_nowhere : (ps : List P) (storage : List ℕ)
-      → (first L.is_free ps ≡ Nowhere) ↔ (any_free (view L ps storage) ≡ false)
+      → (first L.is_free ps ≡ None) ↔ (any_free (view L ps storage) ≡ false)
   free_nowhere ps s = (
     (λ e. miss_free 0 ps s (miss_at L.is_free ps e)),
     (λ h. miss_nowhere L.is_free 0 ps (free_miss 0 ps s h)),
   )
 
-  pub free_at : (j : ℕ) (ps : List P) (storage : List ℕ) → first L.is_free ps ≡ At j
+  pub free_at : (j : ℕ) (ps : List P) (storage : List ℕ) → first L.is_free ps ≡ Some j
       → any_free (view L ps storage) ≡ true
   free_at j ps s e = hit_free 0 j ps s (hit_at L.is_free ps e)
 
@@ -153,7 +153,7 @@ module _ {P S : Type 0} (L : Layout P S) where
       rw e (ap₂ (λ o v. held (L.key_of p) (L.session p o) ∷ v) (a i (λ w. omega arith)) (hit_take k (suc i) j m qs s t q x (omega arith) h g a))
 
   -- k takes it
-  pub take_at : (k j : ℕ) (ps : List P) (s t : List ℕ) (q : P) → first L.is_free ps ≡ At j → open_by L k q ≡ true
+  pub take_at : (k j : ℕ) (ps : List P) (s t : List ℕ) (q : P) → first L.is_free ps ≡ Some j → open_by L k q ≡ true
       → AgreeBut L.stride j s t
       → view L (set ps j q) t ≡ take_lowest k (L.session q (stretch L.stride j t)) (view L ps s)
   take_at k j ps s t q e o a =
@@ -166,7 +166,7 @@ module _ {P S : Type 0} (L : Layout P S) where
       ap₂ (λ x v. x ∷ v) (ap (seat L p) (a i (λ w. omega arith))) (hit_write (suc i) j m qs s t (omega arith) h a)
 
   -- what is written into its stretch changes nothing
-  pub free_write : (j : ℕ) (ps : List P) (s t : List ℕ) → first L.is_free ps ≡ At j → AgreeBut L.stride j s t
+  pub free_write : (j : ℕ) (ps : List P) (s t : List ℕ) → first L.is_free ps ≡ Some j → AgreeBut L.stride j s t
       → view L ps t ≡ view L ps s
   free_write j ps s t e a = hit_write 0 j j ps s t (omega arith) (hit_at L.is_free ps e) a
 

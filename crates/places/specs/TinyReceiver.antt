@@ -1,6 +1,7 @@
 -- A receiver of the made-up format, as a definition (RULES 13.5): eight slots over lent storage, nine bytes a slot. An
 -- opening that finishes at once is stored in its key's slot, or in the first free one, and handed over from there; the
 -- slot is free afterwards.
+use Rattle.std.specs.Prelude.{Option, Some, None}
 use Rattle.std.specs.Prelude.{◌≡◌, refl, Bool, true, not, List, [], ◌∷◌, map, ℕ, ◌+◌, ◌-◌, ◌*◌, ◌≤◌, length, take, get_or, set, replicate, if◌then◌else◌}
 use Rattle.std.proofs.Math.Seq.{paste}
 use Rattle.words.specs.Words.{◌<?◌, ◌≤?◌, ◌=?◌, ◌and◌, Told, gives}
@@ -10,8 +11,6 @@ use Rattle.places.specs.Layout.{stretch, Layout, open_by, view, one_each}
 use Rattle.places.specs.Calls.{Calls, KeepsPlaces}
 use Rattle.places.specs.Tiny.{Card, Pile, Word, opened, stored, unknown, finished}
 use Rattle.places.specs.Tiny.{most_packets, tiny_idle_limit, tiny}
-use Rattle.words.specs.declared.Found.{Found}
-use Rattle.words.specs.declared.Found.TheVariants.{At, Nowhere}
 
 pub record Slot : Type 0 where
   pub key : ℕ
@@ -75,20 +74,20 @@ written j at byte storage = paste storage (most_packets * j + at) (byte ∷ []) 
 abbrev pub handed : ℕ → ℕ → List ℕ → Out Word
 handed j size storage = said (finished (take size (stretch most_packets j storage)))
 
-unfoldable pub tiny_finishes : ℕ → Found → Found → List Slot → List ℕ → TinyAfter
-tiny_finishes byte (At j) free slots storage =
+unfoldable pub tiny_finishes : ℕ → Option ℕ → Option ℕ → List Slot → List ℕ → TinyAfter
+tiny_finishes byte (Some j) free slots storage =
     tiny_leaves (set slots j free_slot) (written j 0 byte storage) (handed j 1 (written j 0 byte storage))
-tiny_finishes byte Nowhere (At j) slots storage =
+tiny_finishes byte None (Some j) slots storage =
     tiny_leaves slots (written j 0 byte storage) (handed j 1 (written j 0 byte storage))
-tiny_finishes byte Nowhere Nowhere slots storage = tiny_leaves slots storage full
+tiny_finishes byte None None slots storage = tiny_leaves slots storage full
 
 abbrev pub new_slot : ℕ → ℕ → Slot
 new_slot key n = record { key = key; size = n; missing = n; idle = 0 }
 
-unfoldable pub tiny_opens : ℕ → ℕ → Found → Found → List Slot → List ℕ → TinyAfter
-tiny_opens key n (At j) free slots storage = tiny_leaves (set slots j (new_slot key n)) storage (said opened)
-tiny_opens key n Nowhere (At j) slots storage = tiny_leaves (set slots j (new_slot key n)) storage (said opened)
-tiny_opens key n Nowhere Nowhere slots storage = tiny_leaves slots storage full
+unfoldable pub tiny_opens : ℕ → ℕ → Option ℕ → Option ℕ → List Slot → List ℕ → TinyAfter
+tiny_opens key n (Some j) free slots storage = tiny_leaves (set slots j (new_slot key n)) storage (said opened)
+tiny_opens key n None (Some j) slots storage = tiny_leaves (set slots j (new_slot key n)) storage (said opened)
+tiny_opens key n None None slots storage = tiny_leaves slots storage full
 
 abbrev pub next_slot : Slot → Slot
 next_slot s = record { key = s.key; size = s.size; missing = s.missing - 1; idle = 0 }
@@ -99,11 +98,11 @@ tiny_stores byte j s slots storage =
     then tiny_leaves (set slots j free_slot) storage (handed j s.size storage)
     else tiny_leaves (set slots j (next_slot s)) storage (said stored)
 
-unfoldable pub tiny_feeds : ℕ → Found → List Slot → List ℕ → TinyAfter
-tiny_feeds byte (At j) slots storage =
+unfoldable pub tiny_feeds : ℕ → Option ℕ → List Slot → List ℕ → TinyAfter
+tiny_feeds byte (Some j) slots storage =
     let s = get_or slots j free_slot in
     tiny_stores byte j s slots (written j (s.size - s.missing) byte storage)
-tiny_feeds byte Nowhere slots storage = tiny_leaves slots storage (said unknown)
+tiny_feeds byte None slots storage = tiny_leaves slots storage (said unknown)
 
 unfoldable pub tiny_heard : Card → TinyHeld → TinyAfter
 tiny_heard c h =

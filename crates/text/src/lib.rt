@@ -82,10 +82,7 @@ pub fn decimal_width(number: u64) -> usize
 fn fits(room: usize, at: usize, size: usize) -> bool
     ensures { result ≡ (at + size ≤? room) }
 {
-    if room < at {
-        return false;
-    }
-    size <= room - at
+    at <= room && size <= room - at
 }
 
 // A word that fits.
@@ -94,12 +91,9 @@ fn put_word(out: &mut [u8], at: usize, word: &[u8]) -> usize
     ensures { (out.new ≡ placed out.old at word.now)
         × (result ≡ at + length word.now) }
 {
-    let mut i: usize = 0;
-    while i < word.len() {
-        out[at + i] = word[i];
-        i += 1;
-    }
-    at + i
+    let end = at + word.len();
+    out[at..end].copy_from_slice(word);
+    end
 }
 
 // The last `count` digits of a number, from the last to the first.
@@ -107,14 +101,13 @@ fn put_digits(out: &mut [u8], at: usize, base: u64, number: u64, count: usize) -
     requires { (0 < base) × (base ≤ 16) × (at + count ≤ length out.old) }
     ensures { (out.new ≡ placed out.old at (digits base count number)) × (result ≡ at + count) }
 {
+    let end = at + count;
     let mut rest = number;
-    let mut i = count;
-    while i > 0 {
-        i -= 1;
-        out[at + i] = glyph_of(rest % base);
-        rest = rest / base;
+    for place in (at..end).rev() {
+        out[place] = glyph_of(rest % base);
+        rest /= base;
     }
-    at + count
+    end
 }
 
 // Two digits for each byte.
@@ -124,28 +117,21 @@ fn put_pairs(out: &mut [u8], at: usize, bytes: &[u8]) -> usize
         × (result ≡ at + 2 * length bytes.now) }
 {
     let mut end = at;
-    let mut i: usize = 0;
-    while i < bytes.len() {
-        let byte = wide(bytes[i]);
-        end = put_digits(out, end, 16, byte, 2);
-        i += 1;
+    for byte in bytes {
+        end = put_digits(out, end, 16, u64::from(*byte), 2);
     }
     end
 }
 
-fn wide(byte: u8) -> u64
-    ensures { result ≡ byte }
-{
-    byte as u64
-}
-
 // The code of a digit.
+#[tactic(auto, unfolding(crate::specs::Text::glyph))]
 fn glyph_of(digit: u64) -> u8
     requires { digit < 16 }
     ensures { result ≡ glyph digit }
 {
     if digit < 10 {
-        return b'0' + digit as u8;
+        b'0' + digit as u8
+    } else {
+        b'A' + (digit as u8 - 10)
     }
-    b'A' + (digit as u8 - 10)
 }

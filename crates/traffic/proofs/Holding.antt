@@ -1,5 +1,6 @@
 -- The counters with one line more: they hold its figures too.
 -- Assumes nothing.
+use Rattle.std.specs.Prelude.{Option, Some, None}
 use mathlib.Core.Path.{◌≡◌, refl, sym, ap, ◌∙◌}
 use mathlib.Core.Bool.{Bool, true, false}
 use mathlib.Core.List.{List, [], ◌∷◌, ◌++◌, append-nil}
@@ -11,8 +12,6 @@ use lib.Seq.{drop-append-le, take_all, take-append-le, get_or-set_same, get_or-s
 use lib.Seq.{take-suc-set, take-nil, get_or_at}
 use Rattle.words.specs.Words.{◌=?◌, Told, refused, gives}
 use Rattle.words.specs.Lists.{any, count, first, Absent, Distinct}
-use Rattle.words.specs.declared.Found.{Found}
-use Rattle.words.specs.declared.Found.TheVariants.{At, Nowhere}
 use Rattle.words.proofs.Words.{by_test, true_false}
 use Rattle.words.proofs.Lists.{found_at, found_nowhere, miss_at, Miss, end, on, distinct_head, distinct_tail, absent_head, absent_tail}
 use Rattle.capture.specs.Line.{greatest_gap}
@@ -327,8 +326,8 @@ pub record Known (t : Totals) (table : List ℕ) (i : ℕ) : Type 0 where
   pub last : (row_at table i).last ≤ t.clock
   pub sum : (row_at table i).sum ≤ t.clock
 
-pub known : {t : Totals} {table : List ℕ} {r : Found} (pair i : ℕ) → Held t table
-    → r ≡ first (◌=?◌ pair) (take t.pairs table) → r ≡ At i → Known t table i
+pub known : {t : Totals} {table : List ℕ} {r : Option ℕ} (pair i : ℕ) → Held t table
+    → r ≡ first (◌=?◌ pair) (take t.pairs table) → r ≡ Some i → Known t table i
 known {t} {table} pair i held f e =
     let h = held.holds in
     let at = found_at i (◌=?◌ pair) (named held.lines) 0 (rw h.pairs at (sym f ∙ e)) in
@@ -391,7 +390,7 @@ module _ {lines : List Seen} {t : Totals} {table : List ℕ} (pair pause clock :
 
   -- a further frame of a named pair
 
-  pub holds_known : {after : List ℕ} (i : ℕ) → first (◌=?◌ pair) (take t.pairs table) ≡ At i
+  pub holds_known : {after : List ℕ} (i : ℕ) → first (◌=?◌ pair) (take t.pairs table) ≡ Some i
       → PutRow table i (next_frame (row_at table i) clock) after
       → Holds (lines ++ (frame_line pause pair ∷ [])) (one_line t clock) after
   holds_known {after} i f p =
@@ -430,7 +429,7 @@ module _ {lines : List Seen} {t : Totals} {table : List ℕ} (pair pause clock :
 
   -- a pair that is not named: it is the next, or one of the others
 
-  pub holds_new : {after : List ℕ} → first (◌=?◌ pair) (take t.pairs table) ≡ Nowhere → t.pairs < 64
+  pub holds_new : {after : List ℕ} → first (◌=?◌ pair) (take t.pairs table) ≡ None → t.pairs < 64
       → PutRow (set table t.pairs pair) t.pairs (first_frame clock) after
       → Holds (lines ++ (frame_line pause pair ∷ []))
       (record { lines = t.lines + 1; refused = t.refused; other = t.other; pairs = t.pairs + 1; clock = clock }) after
@@ -469,7 +468,7 @@ module _ {lines : List Seen} {t : Totals} {table : List ℕ} (pair pause clock :
       }
     where
       row : {after : List ℕ} → t.pairs < 64 → PutRow (set table t.pairs pair) t.pairs (first_frame clock) after
-          → first (◌=?◌ pair) (named lines) ≡ Nowhere → frames_of pair lines ≡ 0 → (j : ℕ) → j < length (named lines) + 1
+          → first (◌=?◌ pair) (named lines) ≡ None → frames_of pair lines ≡ 0 → (j : ℕ) → j < length (named lines) + 1
           → RowHolds (lines ++ (frame_line pause pair ∷ [])) (get_or (named lines ++ (pair ∷ [])) j 0) (row_at after j)
       row {after} b p g z j l =
           by_test (j =? t.pairs)
@@ -490,7 +489,7 @@ module _ {lines : List Seen} {t : Totals} {table : List ℕ} (pair pause clock :
           below : (j ≡ t.pairs → ⊥) → j < length (named lines) + 1 → j < length (named lines)
           below n l = omega (arith, h.count, n)
 
-  pub holds_other : first (◌=?◌ pair) (take t.pairs table) ≡ Nowhere → 64 ≤ t.pairs
+  pub holds_other : first (◌=?◌ pair) (take t.pairs table) ≡ None → 64 ≤ t.pairs
       → Holds (lines ++ (frame_line pause pair ∷ []))
       (other_one t clock) table
   holds_other f b =
@@ -510,7 +509,7 @@ module _ {lines : List Seen} {t : Totals} {table : List ℕ} (pair pause clock :
         room = h.room;
       }
     where
-      row : first (◌=?◌ pair) (named lines) ≡ Nowhere → (j : ℕ) → j < length (named lines)
+      row : first (◌=?◌ pair) (named lines) ≡ None → (j : ℕ) → j < length (named lines)
           → RowHolds (lines ++ (frame_line pause pair ∷ [])) (get_or (named lines) j 0) (row_at table j)
       row g j m =
           let d : (get_or (named lines) j 0 =? pair) ≡ false =

@@ -2,14 +2,13 @@
 ghost use Rattle.std.specs.Prelude.{◌≡◌, ◌*◌, ◌≤◌, ◌<◌, max, length, take};
 ghost use Rattle.words.specs.Words.{◌=?◌};
 ghost use Rattle.words.specs.Lists.{first};
-ghost use Rattle.words.specs.declared.Found.TheVariants.{Nowhere};
+ghost use Rattle.std.specs.Prelude.{None};
 ghost use Rattle.capture.specs.Line.{greatest_gap};
 ghost use Rattle.capture.specs.Stream.{most_lines};
 ghost use Rattle.traffic.specs.Counters.{seen_by, table_size, row_at, PutRow, first_frame, least_with, next_frame};
 ghost use Rattle.traffic.specs.Counters.{OneMore, InTime, Counted, CountedFrame, refused_one, other_one};
 
 use crate::seen::{Says, Seen};
-use words::Found;
 
 // So many pairs have counters. The table has six columns of that many numbers: the pairs, their frames, the time of the
 // last frame, the least gap, the greatest, and the sum of the gaps.
@@ -49,18 +48,18 @@ pub struct Row {
 }
 
 // Which of the first `count` pairs it is.
-fn find(table: &[u64], count: usize, pair: u64) -> Found
+fn find(table: &[u64], count: usize, pair: u64) -> Option<usize>
     requires { count ≤ length table.now }
     ensures { result ≡ first (◌=?◌ pair) (take count table.now) }
 {
     let mut i: usize = 0;
     while i < count {
         if pair == table[i] {
-            return Found::At(i);
+            return Some(i);
         }
         i += 1;
     }
-    Found::Nowhere
+    None
 }
 
 // The counters of the pair with this number.
@@ -172,7 +171,7 @@ fn count_frame(totals: Totals, pair: u64, clock: u64, table: &mut [u64]) -> Tota
 {
     let found = find(table, totals.pairs, pair);
     match found {
-        Found::At(i) => {
+        Some(i) => {
             let row = row_at(table, i);
             put_row(table, i, next_frame(row, clock));
             Totals {
@@ -183,14 +182,14 @@ fn count_frame(totals: Totals, pair: u64, clock: u64, table: &mut [u64]) -> Tota
                 clock,
             }
         }
-        Found::Nowhere => count_new(totals, pair, clock, table),
+        None => count_new(totals, pair, clock, table),
     }
 }
 
 // A frame of a pair that has no counters: it gets them, or is one of the others.
 fn count_new(totals: Totals, pair: u64, clock: u64, table: &mut [u64]) -> Totals
     requires { OneMore totals table.old × InTime totals clock
-        × (first (◌=?◌ pair) (take totals.pairs table.old) ≡ Nowhere) }
+        × (first (◌=?◌ pair) (take totals.pairs table.old) ≡ None) }
     ensures { CountedFrame totals table.old pair clock result table.new }
 {
     let at = totals.pairs;

@@ -16,8 +16,7 @@ use lib.Seq.{take_all, take-suc, take-append-le, take-append-add, drop-cons, set
 use Rattle.words.specs.Words.{◌≤?◌, ◌=?◌}
 use Rattle.words.specs.Lists.{any, every, count, first_from, first}
 use Rattle.words.specs.Lists.{no_two, Absent, Distinct, filled_to}
-use Rattle.words.specs.declared.Found.{Found}
-use Rattle.words.specs.declared.Found.TheVariants.{At, Nowhere}
+use Rattle.std.specs.Prelude.{Option, Some, None}
 use Rattle.words.proofs.Words.{by_test, both_true, true_false}
 
 -- what owning a struct tells of an array of structs in it: how many elements it has
@@ -28,14 +27,14 @@ module _ {P : Type 0} where
   -- a turn of a search that passes the element at i
   pub search_pass : (f : P → Bool) (ps : List P) (i : ℕ) (d : P) → i < length ps → f (get_or ps i d) ≡ false
       → first_from f i (drop i ps) ≡ first_from f (i + 1) (drop (i + 1) ps)
-  search_pass f ps i d h e = rw (add-one, drop-cons ps i d h, e)
+  search_pass f ps i d h e = rw (drop-cons ps i d h, e, add-one)
 
   -- one that stops there
-  pub search_stop : (f : P → Bool) (ps : List P) (i : ℕ) (d : P) → i < length ps → f (get_or ps i d) ≡ true → first_from f i (drop i ps) ≡ At i
+  pub search_stop : (f : P → Bool) (ps : List P) (i : ℕ) (d : P) → i < length ps → f (get_or ps i d) ≡ true → first_from f i (drop i ps) ≡ Some i
   search_stop f ps i d h e = rw (drop-cons ps i d h, e)
 
   -- and the end of one that finds none
-  pub search_end : (f : P → Bool) (ps : List P) (i : ℕ) → length ps ≤ i → first_from f i (drop i ps) ≡ Nowhere
+  pub search_end : (f : P → Bool) (ps : List P) (i : ℕ) → length ps ≤ i → first_from f i (drop i ps) ≡ None
   search_end f ps i h = rw (drop_of_length-le ps h)
 
   -- a turn of a loop that asks whether any element passes
@@ -133,34 +132,34 @@ module _ {P : Type 0} where
     end : Miss f []
     on : {p : P} {ps : List P} → f p ≡ false → Miss f ps → Miss f (p ∷ ps)
 
-  abbrev Hits : (P → Bool) → ℕ → List P → Found → Type 0
-  Hits f i ps (At j) = (n : ℕ) × (j ≡ i + n) × Hit f ps n
-  Hits f i ps Nowhere = Miss f ps
+  abbrev Hits : (P → Bool) → ℕ → List P → Option ℕ → Type 0
+  Hits f i ps (Some j) = (n : ℕ) × (j ≡ i + n) × Hit f ps n
+  Hits f i ps None = Miss f ps
 
-  hits_on : (f : P → Bool) (i : ℕ) (p : P) (ps : List P) (r : Found) → f p ≡ false → Hits f (suc i) ps r → Hits f i (p ∷ ps) r
-  hits_on f i p ps (At j) e h = (suc h.0, omega (arith, h.1), there e h.2)
-  hits_on f i p ps Nowhere e h = on e h
+  hits_on : (f : P → Bool) (i : ℕ) (p : P) (ps : List P) (r : Option ℕ) → f p ≡ false → Hits f (i + 1) ps r → Hits f i (p ∷ ps) r
+  hits_on f i p ps (Some j) e h = (suc h.0, omega (arith, h.1), there e h.2)
+  hits_on f i p ps None e h = on e h
 
   hits : (f : P → Bool) (i : ℕ) (ps : List P) → Hits f i ps (first_from f i ps)
   hits f i [] = end
   hits f i (p ∷ ps) =
       by_test (f p)
       (λ e. rw e (0, omega arith, here e))
-      (λ e. rw e (hits_on f i p ps (first_from f (suc i) ps) e (hits f (suc i) ps)))
+      (λ e. rw e (hits_on f i p ps (first_from f (i + 1) ps) e (hits f (i + 1) ps)))
 
-  pub hit_at : {j : ℕ} (f : P → Bool) (ps : List P) → first f ps ≡ At j → Hit f ps j
+  pub hit_at : {j : ℕ} (f : P → Bool) (ps : List P) → first f ps ≡ Some j → Hit f ps j
   hit_at {j} f ps e =
       let h = rw e at (hits f 0 ps) in
       let y : j ≡ h.0 = omega (arith, h.1) in
       rw y h.2
 
-  pub miss_at : (f : P → Bool) (ps : List P) → first f ps ≡ Nowhere → Miss f ps
+  pub miss_at : (f : P → Bool) (ps : List P) → first f ps ≡ None → Miss f ps
   miss_at f ps e = rw e at (hits f 0 ps)
 
   -- a miss is found nowhere
-  pub miss_nowhere : (f : P → Bool) (i : ℕ) (ps : List P) → Miss f ps → first_from f i ps ≡ Nowhere
+  pub miss_nowhere : (f : P → Bool) (i : ℕ) (ps : List P) → Miss f ps → first_from f i ps ≡ None
   miss_nowhere f i ps end = refl
-  miss_nowhere f i ps (on {ps = qs} e h) = rw (e, miss_nowhere f (suc i) qs h)
+  miss_nowhere f i ps (on {ps = qs} e h) = rw (e, miss_nowhere f (i + 1) qs h)
 
   hit_below : (f : P → Bool) (ps : List P) (j : ℕ) → Hit f ps j → j < length ps
   hit_below f ps j (here e) = omega arith
@@ -186,12 +185,12 @@ module _ {P : Type 0} where
     pub passes : f (get_or ps j d) ≡ true
     pub lowest : (i : ℕ) → i < j → f (get_or ps i d) ≡ false
 
-  pub found_at : (j : ℕ) (f : P → Bool) (ps : List P) (d : P) → first f ps ≡ At j → FirstAt f ps d j
+  pub found_at : (j : ℕ) (f : P → Bool) (ps : List P) (d : P) → first f ps ≡ Some j → FirstAt f ps d j
   found_at j f ps d e =
       let h = hit_at f ps e in
       record { below = hit_below f ps j h; passes = hit_passes f ps j d h; lowest = hit_lowest f ps j d h }
 
-  pub found_nowhere : (f : P → Bool) (ps : List P) (d : P) → first f ps ≡ Nowhere
+  pub found_nowhere : (f : P → Bool) (ps : List P) (d : P) → first f ps ≡ None
       → (i : ℕ) → i < length ps → f (get_or ps i d) ≡ false
   found_nowhere f ps d e = miss_all f ps d (miss_at f ps e)
 

@@ -1,17 +1,14 @@
 -- Tests on lists: whether any element passes, whether every one does, how many do, which is the first, and whether no
 -- two are alike; and a list filled up to a length.
-use Rattle.std.specs.Prelude.{◌≡◌, Bool, true, false, not, List, [], ◌∷◌, ◌++◌, ℕ, suc, ◌+◌, ◌-◌, length, replicate, if◌then◌else◌}
-use Rattle.words.specs.Words.{◌=?◌, ◌and◌, ◌or◌}
-use Rattle.words.specs.declared.Found.{Found}
-use Rattle.words.specs.declared.Found.TheVariants.{At, Nowhere}
+use Rattle.std.specs.Prelude.{◌≡◌, Bool, true, false, not, List, [], ◌∷◌, ◌++◌, ℕ, ◌+◌, ◌-◌, length, replicate, Option, Some, None, if◌then◌else◌}
+use Rattle.std.specs.List.{list_any, list_all, position_from}
+use Rattle.words.specs.Words.{◌=?◌, ◌and◌}
 
 abbrev pub any : {P : Type 0} → (P → Bool) → List P → Bool
-any f [] = false
-any f (p ∷ ps) = f p or any f ps
+any f ps = list_any f ps
 
 abbrev pub every : {P : Type 0} → (P → Bool) → List P → Bool
-every f [] = true
-every f (p ∷ ps) = f p and every f ps
+every f ps = list_all f ps
 
 -- how many pass
 abbrev pub count : {P : Type 0} → (P → Bool) → List P → ℕ
@@ -19,17 +16,16 @@ count f [] = 0
 count f (p ∷ ps) = (if f p then 1 else 0) + count f ps
 
 -- the first position, counted from i, at which the test holds
-abbrev pub first_from : {P : Type 0} → (P → Bool) → ℕ → List P → Found
-first_from f i [] = Nowhere
-first_from f i (p ∷ ps) = if f p then At i else first_from f (suc i) ps
+abbrev pub first_from : {P : Type 0} → (P → Bool) → ℕ → List P → Option ℕ
+first_from f i ps = position_from f i ps
 
-abbrev pub first : {P : Type 0} → (P → Bool) → List P → Found
+abbrev pub first : {P : Type 0} → (P → Bool) → List P → Option ℕ
 first f ps = first_from f 0 ps
 
 -- what the one search found, or else the other
-abbrev pub or_else : Found → Found → Found
-or_else (At i) found = At i
-or_else Nowhere found = found
+abbrev pub or_else : Option ℕ → Option ℕ → Option ℕ
+or_else (Some i) found = Some i
+or_else None found = found
 
 -- no two are alike: each is compared with all that come after it
 abbrev pub no_two : {P : Type 0} → (P → P → Bool) → List P → Bool

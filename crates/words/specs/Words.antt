@@ -1,6 +1,6 @@
 -- The words that every definition of this library is written in: tests on numbers that read as they stand, and an
 -- answer as RULES 2 has it.
-use Rattle.std.specs.Prelude.{Bool, true, false, ℕ, ◌+◌, ◌-◌, ◌/◌, ◌%◌, ◌^◌, ltb, leb, eqb}
+use Rattle.std.specs.Prelude.{Bool, ℕ, ◌+◌, ◌-◌, ◌/◌, ◌%◌, ◌^◌, ◌&&◌, ◌||◌, ltb, leb, eqb, Result, Ok, Err}
 
 infixr 5 given◌then◌
 infixr 20 ◌or◌
@@ -18,12 +18,10 @@ abbrev pub ◌=?◌ : ℕ → ℕ → Bool
 a =? b = eqb a b
 
 abbrev pub ◌and◌ : Bool → Bool → Bool
-true and b = b
-false and b = false
+a and b = a && b
 
 abbrev pub ◌or◌ : Bool → Bool → Bool
-true or b = true
-false or b = b
+a or b = a || b
 
 -- bits `high` down to `low` of a number
 abbrev pub bits : ℕ → ℕ → ℕ → ℕ
@@ -47,3 +45,8 @@ given gives a then f = f a
 -- what a call gives that only does its work
 pub data Done : Type 0 where
   done : Done
+
+-- the number of a refusal in what a call answers, and 0 where it does not refuse
+abbrev pub number_of_answer : {A E : Type 0} → (E → ℕ) → Result A E → ℕ
+number_of_answer number (Ok a) = 0
+number_of_answer number (Err why) = number why

@@ -13,21 +13,21 @@ pub enters_at-requires : goal.enters_at-requires
 enters_at-requires c =
     let a = c.args in
     let e = ap (λ (n : ℕ). place_for n a.r.places) (sym c.pair_of.ensures) ∙ sym c.place_for.ensures
-    ∙ c.in-At.is in
+    ∙ c.in-Some.is in
     let n : length a.r.places ≡ 8 = search length_field in
     (place_for_below (pair_of a.p.sender a.p.dgn) a.r.places _ n e, c.requires)
 
-pub returns-in-At : goal.returns-in-At
-returns-in-At c =
+pub returns-in-Some : goal.returns-in-Some
+returns-in-Some c =
     let a = c.args in
     let e = ap (λ (n : ℕ). place_for n a.r.places) (sym c.pair_of.ensures) ∙ sym c.place_for.ensures
-    ∙ c.in-At.is in
+    ∙ c.in-Some.is in
     left_as (begins_at a.p a.bytes a.r a.storage.now _ e) c.enters_at.ensures
 
-pub returns-in-Nowhere : goal.returns-in-Nowhere
-returns-in-Nowhere c =
+pub returns-in-None : goal.returns-in-None
+returns-in-None c =
     let a = c.args in
     let e = ap (λ (n : ℕ). place_for n a.r.places) (sym c.pair_of.ensures) ∙ sym c.place_for.ensures
-    ∙ c.in-Nowhere.is in
+    ∙ c.in-None.is in
     left _ a.storage.now _ (begins_nowhere a.p a.bytes a.r a.storage.now e) c.keeps.result a.r
     NoPlaceFree c.keeps.ensures refl refl

@@ -10,22 +10,22 @@ use Rattle.fast.proofs.eight_places.continues.Goals as goal
 pub frame_at-requires : goal.frame_at-requires
 frame_at-requires c =
     let a = c.args in
-    let e = sym c.open_by.ensures ∙ c.in-At.is in
+    let e = sym c.open_by.ensures ∙ c.in-Some.is in
     let n : length a.r.places ≡ 8 = search length_field in
     let q = c.requires in
     (found_below (is_open_by a.pair) a.r.places _ n e, q.1, live_at a.pair _ a.r q.0 e)
 
-pub returns-in-At : goal.returns-in-At
-returns-in-At c =
+pub returns-in-Some : goal.returns-in-Some
+returns-in-Some c =
     let a = c.args in
-    let e = sym c.open_by.ensures ∙ c.in-At.is in
+    let e = sym c.open_by.ensures ∙ c.in-Some.is in
     left_as (continues_at a.pair a.sequence a.number a.bytes a.r a.storage.now _ e)
     c.frame_at.ensures
 
-pub returns-in-Nowhere : goal.returns-in-Nowhere
-returns-in-Nowhere c =
+pub returns-in-None : goal.returns-in-None
+returns-in-None c =
     let a = c.args in
-    let e = sym c.open_by.ensures ∙ c.in-Nowhere.is in
+    let e = sym c.open_by.ensures ∙ c.in-None.is in
     left _ a.storage.now _
     (continues_nowhere a.pair a.sequence a.number a.bytes a.r a.storage.now e) c.keeps.result
     a.r NoOpenMessage c.keeps.ensures refl refl

@@ -1,7 +1,7 @@
 -- `faults::Sender::add` meets its contract. Assumes nothing.
+use Rattle.std.specs.Prelude.{Some, None}
 use mathlib.Core.Path.{◌≡◌, refl, sym, ◌∙◌}
 use lib.ListN.{length}
-use Rattle.words.specs.declared.Found.TheVariants.{At, Nowhere}
 use Rattle.words.proofs.Lists.{length_field}
 use Rattle.faults.specs.Fault.{is_empty}
 use Rattle.faults.proofs.Steps.{found_below, added_broken, added_found}
@@ -17,17 +17,17 @@ pub add-requires : goal.add-requires
 add-requires c =
     let fs = c.args.self.faults in
     let n : length fs ≡ 32 = search length_field in
-    found_below is_empty fs _ n (sym c.lowest_empty.ensures ∙ c.in-At.is)
+    found_below is_empty fs _ n (sym c.lowest_empty.ensures ∙ c.in-Some.is)
 
-pub returns-in-At : goal.returns-in-At
-returns-in-At c =
+pub returns-in-Some : goal.returns-in-Some
+returns-in-Some c =
     let a = c.args in
     let k = sym c.keep_rules.ensures ∙ c.if-not-keep_rules.false in
-    rw (added_found a.period a.self (At c.in-At.at) k (sym c.lowest_empty.ensures ∙ c.in-At.is)) c.add.ensures
+    rw (added_found a.period a.self (Some c.in-Some.at) k (sym c.lowest_empty.ensures ∙ c.in-Some.is)) c.add.ensures
 
-pub returns-in-Nowhere : goal.returns-in-Nowhere
-returns-in-Nowhere c =
+pub returns-in-None : goal.returns-in-None
+returns-in-None c =
     let a = c.args in
     let k = sym c.keep_rules.ensures ∙ c.if-not-keep_rules.false in
-    rw (added_found a.period a.self Nowhere k (sym c.lowest_empty.ensures ∙ c.in-Nowhere.is))
+    rw (added_found a.period a.self None k (sym c.lowest_empty.ensures ∙ c.in-None.is))
     (record { answer = refl; state = refl })

@@ -11,16 +11,16 @@ pub bytes_at-requires : goal.bytes_at-requires
 bytes_at-requires c =
     let fs = c.args.s.faults in
     let n : length fs ≡ 32 = search length_field in
-    found_below is_active fs _ n (sym c.lowest_active.ensures ∙ c.in-At.is)
+    found_below is_active fs _ n (sym c.lowest_active.ensures ∙ c.in-Some.is)
 
-pub returns-in-At : goal.returns-in-At
+pub returns-in-Some : goal.returns-in-Some
 unfolding reply_bytes
-returns-in-At c =
-    let e = sym c.lowest_active.ensures ∙ c.in-At.is in
+returns-in-Some c =
+    let e = sym c.lowest_active.ensures ∙ c.in-Some.is in
     c.bytes_at.ensures ∙ sym (rw e)
 
-pub returns-in-Nowhere : goal.returns-in-Nowhere
+pub returns-in-None : goal.returns-in-None
 unfolding reply_bytes
-returns-in-Nowhere c =
-    let e = sym c.lowest_active.ensures ∙ c.in-Nowhere.is in
+returns-in-None c =
+    let e = sym c.lowest_active.ensures ∙ c.in-None.is in
     c.none_active.ensures ∙ sym (rw e)

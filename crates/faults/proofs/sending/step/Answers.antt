@@ -16,20 +16,20 @@ send-requires c =
     let n : length s.faults ≡ 32 = search length_field in
     let p = c.all_passed-later.ensures in
     let m = ap (λ (x : Sender). length x.faults) p ∙ length-map s.faults passed ∙ n in
-    chosen_below _ _ m (sym c.chosen.ensures ∙ c.in-At.is)
+    chosen_below _ _ m (sym c.chosen.ensures ∙ c.in-Some.is)
 
-pub returns-in-At : goal.returns-in-At
-returns-in-At c =
+pub returns-in-Some : goal.returns-in-Some
+returns-in-Some c =
     let a = c.args in
     let p = c.all_passed-later.ensures in
-    let g = c.in-At.is in
+    let g = c.in-Some.is in
     let e = sym (ap (λ (x : Sender). chosen x.faults) p) ∙ sym c.chosen.ensures ∙ g in
     step_sends a.address a.s _ _ e (c.send.ensures ∙ ap (sent_at _ a.address) p)
 
-pub returns-in-Nowhere : goal.returns-in-Nowhere
-returns-in-Nowhere c =
+pub returns-in-None : goal.returns-in-None
+returns-in-None c =
     let a = c.args in
     let p = c.all_passed-later.ensures in
-    let g = c.in-Nowhere.is in
+    let g = c.in-None.is in
     let e = sym (ap (λ (x : Sender). chosen x.faults) p) ∙ sym c.chosen.ensures ∙ g in
     step_quiet a.address a.s _ e (c.bare.ensures ∙ ap (λ (x : Sender). bare_stepped x NothingDue) p)

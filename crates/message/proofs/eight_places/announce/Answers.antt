@@ -10,18 +10,18 @@ pub replace-requires : goal.replace-requires
 replace-requires c =
     let a = c.args in
     let n : length a.r.places ≡ 8 = search length_field in
-    place_for_below a.sender a.r.places _ n (sym c.place_for.ensures ∙ c.in-At.is)
+    place_for_below a.sender a.r.places _ n (sym c.place_for.ensures ∙ c.in-Some.is)
 
-pub returns-in-At : goal.returns-in-At
-returns-in-At c =
+pub returns-in-Some : goal.returns-in-Some
+returns-in-Some c =
     let a = c.args in
-    let e = sym c.place_for.ensures ∙ c.in-At.is in
+    let e = sym c.place_for.ensures ∙ c.in-Some.is in
     λ s. left _ s _ (announcing_at a.sender a.size a.dgn a.r.places s _ e) c.keeps.result
     c.replace.result _ c.keeps.ensures c.replace.ensures refl
 
-pub returns-in-Nowhere : goal.returns-in-Nowhere
-returns-in-Nowhere c =
+pub returns-in-None : goal.returns-in-None
+returns-in-None c =
     let a = c.args in
-    let e = sym c.place_for.ensures ∙ c.in-Nowhere.is in
+    let e = sym c.place_for.ensures ∙ c.in-None.is in
     λ s. left _ s _ (announcing_nowhere a.sender a.size a.dgn a.r.places s e)
-    c.keeps-in-Nowhere.result a.r NoPlaceFree c.keeps-in-Nowhere.ensures refl refl
+    c.keeps-in-None.result a.r NoPlaceFree c.keeps-in-None.ensures refl refl

@@ -1,11 +1,11 @@
 -- `message::eight_places::lowest_free` meets its contract. Assumes nothing.
+use Rattle.std.specs.Prelude.{Some}
 use mathlib.Core.Path.{refl, sym, ap, ◌∙◌}
 use Prim.Native.Nat.{◌<◌}
 use native.Mathlib.Omega.{arith}
 use borrow.Author.Tests.{eq-eqb, ne_eqb}
 use borrow.Author.Rules.{rules}
 use lib.ListN.{length}
-use Rattle.words.specs.declared.Found.TheVariants.{At}
 use Rattle.message.specs.Receiver.{free_place, is_free}
 use Rattle.words.proofs.Lists.{length_field, search_pass, search_stop, search_end}
 use Rattle.message.proofs.eight_places.lowest_free.Goals as goal
@@ -28,7 +28,7 @@ returns-then-at-lt-PLACES c =
     elim c.if-i-ge-PLACES.branch [
       | then-i-ge-PLACES w ↦ absurd (omega arith)
       | else-i-ge-PLACES+then-p-eq0 w ↦
-          (let h : l.i < length ps = omega arith in ap At w.at-is ∙ sym (l.invariant.2 ∙ search_stop is_free ps l.i free_place h (eq-eqb _ _ w.if-p-eq0.true)))
+          (let h : l.i < length ps = omega arith in ap Some w.at-is ∙ sym (l.invariant.2 ∙ search_stop is_free ps l.i free_place h (eq-eqb _ _ w.if-p-eq0.true)))
     ]
 
 pub returns-else-at-lt-PLACES : goal.returns-else-at-lt-PLACES

@@ -3,10 +3,10 @@ use mathlib.Core.Path.{sym, ◌∙◌}
 use Rattle.message.specs.Receiver.{place_for}
 use Rattle.message.proofs.eight_places.place_for.Goals as goal
 
-pub returns-in-At : goal.returns-in-At
+pub returns-in-Some : goal.returns-in-Some
 unfolding place_for
-returns-in-At c = rw (sym c.open_by.ensures ∙ c.in-At.is)
+returns-in-Some c = rw (sym c.open_by.ensures ∙ c.in-Some.is)
 
-pub returns-in-Nowhere : goal.returns-in-Nowhere
+pub returns-in-None : goal.returns-in-None
 unfolding place_for
-returns-in-Nowhere c = rw (sym c.open_by.ensures ∙ c.in-Nowhere.is) c.lowest_free.ensures
+returns-in-None c = rw (sym c.open_by.ensures ∙ c.in-None.is) c.lowest_free.ensures

@@ -1,10 +1,10 @@
 -- `nodes::flat::address_in` meets its contract. Assumes nothing.
+use Rattle.std.specs.Prelude.{Option}
 use mathlib.Core.Path.{◌≡◌, refl, sym, ap, ◌∙◌}
 use Prim.Native.Nat.{◌≤◌, ◌<◌}
 use native.Mathlib.Omega.{arith}
 use lib.ListN.{length}
 use Rattle.words.specs.Words.{gives}
-use Rattle.words.specs.declared.Found.{Found}
 use Rattle.nodes.specs.Table.{addresses, absent}
 use Rattle.words.proofs.Lists.{length_field, search_pass, search_stop, search_end}
 use Rattle.nodes.proofs.flat.address_in.Goals as goal
@@ -19,7 +19,7 @@ returns-then-has_name c =
     let l = c.loop-i in
     let h : l.i < length c.args.records = omega arith in
     let e = search_stop _ _ l.i absent h (sym c.has_name.ensures ∙ c.if-has_name.true) in
-    ap (λ (w : Found). gives w) (sym e ∙ l.invariant.2)
+    ap (λ (w : Option ℕ). gives w) (sym e ∙ l.invariant.2)
 
 pub loop-i-preserved : goal.loop-i-preserved
 loop-i-preserved c =
@@ -32,4 +32,4 @@ pub returns : goal.returns
 returns c =
     let l = c.loop-i in
     let h : length c.args.records ≤ l.i = omega arith in
-    ap (λ (w : Found). gives w) (sym (search_end _ c.args.records l.i h) ∙ l.invariant.2)
+    ap (λ (w : Option ℕ). gives w) (sym (search_end _ c.args.records l.i h) ∙ l.invariant.2)
