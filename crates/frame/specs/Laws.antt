@@ -1,21 +1,18 @@
 -- The laws of this crate (RULES 3), each a named statement. proofs/Laws.antt has a proof of each, under the same name
 -- written small.
-use Rattle.std.specs.Prelude.{◌≡◌, true, false, List, ℕ, ◌≤◌, ◌<◌, ◌%◌, ◌^◌, length, replicate}
+use Rattle.std.specs.Prelude.{◌≡◌, true, false, List, ℕ, ◌≤◌, ◌<◌, ◌%◌, ◌^◌, length, replicate, Err}
 use Rattle.words.specs.Words.{Told, refused, gives}
 use Rattle.frame.specs.Bytes.{number_of, bytes_of, AreBytes}
 use Rattle.frame.specs.Identifier.{reserved_of, dgn_of, source_of, parts_of, identifiers, greatest_dgn}
 use Rattle.frame.specs.Frame.{frame_bytes, source_allowed, apart_of, formed_of, checked_of}
 use Rattle.frame.specs.Standard.{no_frame, dgn_bytes}
-use Rattle.frame.specs.Promises.{refusal_of, told_apart, told_formed, told_verdict, TakeApart, Form, Check}
+use Rattle.frame.specs.Promises.{Apart, Formed, Verdict, refusal_of, told_apart, told_formed, told_verdict}
+use Rattle.frame.specs.Promises.{TakeApart, Form, Check}
 use Rattle.frame.specs.Promises.{DestinationOf}
 use Rattle.frame.specs.Promises.{CatalogueForm, NumberOf, BytesOf, DgnBytes, DgnOf, ApartRefusal, FormedRefusal}
 use Rattle.frame.specs.Promises.{BadFrameRefusal, VerdictRefusal}
 use Rattle.frame.specs.declared.Parts.{Parts}
-use Rattle.frame.specs.declared.Apart.{Apart}
-use Rattle.frame.specs.declared.Formed.{Formed}
 use Rattle.frame.specs.declared.BadFrame.{BadFrame}
-use Rattle.frame.specs.declared.Verdict.{Verdict}
-use Rattle.frame.specs.declared.Verdict.TheVariants.{Bad}
 use Rattle.frame.specs.declared.Checked.{Checked}
 use Rattle.frame.specs.declared.Destination.{Destination}
 
@@ -74,7 +71,7 @@ VerdictRefusalOnly = (answer : Verdict) (r s : ℕ) → VerdictRefusal answer r 
 -- A refusal gives nothing (RULES 2.4 and 2.6): the bytes beside it are zeros.
 abbrev pub RefusedKeeps : Type 0
 RefusedKeeps =
-    (id : ℕ) (bytes : List ℕ) (r : Checked) (why : BadFrame) → Check id bytes r → r.verdict ≡ Bad why
+    (id : ℕ) (bytes : List ℕ) (r : Checked) (why : BadFrame) → Check id bytes r → r.verdict ≡ Err why
     → r.bytes ≡ replicate frame_bytes 0
 
 -- Taking apart what was formed gives the parts back.

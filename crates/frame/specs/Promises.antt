@@ -1,30 +1,33 @@
 -- What each public call of this crate promises (RULES 3.9 to 3.12 and 13.7): one proposition over all that it answers.
 -- The answers are read as numbers and values (RULES 2.10).
-use Rattle.std.specs.Prelude.{◌≡◌, List, [], ◌∷◌, ℕ, length, replicate, if◌then◌else◌}
-use Rattle.words.specs.Words.{◌=?◌, Told, refused, gives, number_in}
+use Rattle.std.specs.Prelude.{◌≡◌, List, [], ◌∷◌, ℕ, length, replicate, Result, if◌then◌else◌}
+use Rattle.words.specs.Words.{◌=?◌, Told, refused, gives, number_in, told}
 use Rattle.frame.specs.Bytes.{number_of, bytes_of}
 use Rattle.frame.specs.Identifier.{is_addressed, destination_of, catalogue_form}
 use Rattle.frame.specs.Frame.{apart_of, formed_of, checked_of, frame_bytes}
 use Rattle.frame.specs.Standard.{everyone, dgn_bytes}
 use Rattle.frame.specs.declared.Parts.{Parts}
-use Rattle.frame.specs.declared.Apart.{Apart}
-use Rattle.frame.specs.declared.Formed.{Formed}
-use Rattle.frame.specs.declared.Formed.TheVariants.{Identifier, NoCode}
+use Rattle.frame.specs.declared.BadIdentifier.{BadIdentifier}
+use Rattle.frame.specs.declared.NotFormed.{NotFormed}
+use Rattle.frame.specs.declared.NotFormed.TheVariants.{NoCode}
 use Rattle.frame.specs.declared.BadFrame.{BadFrame}
 use Rattle.frame.specs.declared.BadFrame.TheVariants.{IdentifierTooLarge, NotEightBytes, ReservedBitSet}
 use Rattle.frame.specs.declared.BadFrame.TheVariants.{SourceNotAllowed}
-use Rattle.frame.specs.declared.Verdict.{Verdict}
-use Rattle.frame.specs.declared.Verdict.TheVariants.{Sound, Bad}
 use Rattle.frame.specs.declared.Checked.{Checked}
 use Rattle.frame.specs.declared.Destination.{Destination}
 use Rattle.frame.specs.declared.Destination.TheVariants.{NotAddressed, All, One}
 
 -- take_apart
 
+abbrev pub Apart : Type 0
+Apart = Result Parts BadIdentifier
+
+abbrev pub number_of_bad_identifier : BadIdentifier → ℕ
+number_of_bad_identifier BadIdentifier.IdentifierTooLarge = 3
+number_of_bad_identifier BadIdentifier.ReservedBitSet = 5
+
 abbrev pub told_apart : Apart → Told Parts
-told_apart (Apart.Into parts) = gives parts
-told_apart Apart.IdentifierTooLarge = refused 3
-told_apart Apart.ReservedBitSet = refused 5
+told_apart r = told number_of_bad_identifier r
 
 pub record TakeApart (id : ℕ) (r : Apart) : Type 0 where
   pub answer : told_apart r ≡ apart_of id
@@ -34,9 +37,14 @@ pub record ApartRefusal (answer : Apart) (r : ℕ) : Type 0 where
 
 -- form
 
+abbrev pub Formed : Type 0
+Formed = Result ℕ NotFormed
+
+abbrev pub number_of_not_formed : NotFormed → ℕ
+number_of_not_formed NoCode = 12
+
 abbrev pub told_formed : Formed → Told ℕ
-told_formed (Identifier id) = gives id
-told_formed NoCode = refused 12
+told_formed r = told number_of_not_formed r
 
 pub record Form (priority dgn source : ℕ) (r : Formed) : Type 0 where
   pub answer : told_formed r ≡ formed_of priority dgn source
@@ -52,9 +60,11 @@ refusal_of NotEightBytes = 4
 refusal_of ReservedBitSet = 5
 refusal_of SourceNotAllowed = 6
 
+abbrev pub Verdict : Type 0
+Verdict = Result Parts BadFrame
+
 abbrev pub told_verdict : Verdict → Told Parts
-told_verdict (Sound parts) = gives parts
-told_verdict (Bad why) = refused (refusal_of why)
+told_verdict r = told refusal_of r
 
 pub record BadFrameRefusal (why : BadFrame) (r : ℕ) : Type 0 where
   pub number : r ≡ refusal_of why

@@ -4,12 +4,14 @@
 
 pub mod standard;
 
-ghost use Rattle.std.specs.Prelude.{◌≡◌, ◌<◌, ◌%◌, length};
+ghost use Rattle.std.specs.Prelude.{◌≡◌};
 ghost use Rattle.frame.specs.Identifier.{reserved_of, parts_of};
 ghost use Rattle.frame.specs.Frame.{source_allowed, checked_of};
 ghost use Rattle.frame.specs.Promises.{TakeApart, Form, Check, DestinationOf, CatalogueForm, NumberOf, BytesOf};
-ghost use Rattle.frame.specs.Promises.{DgnBytes, DgnOf, ApartRefusal, FormedRefusal, BadFrameRefusal};
-ghost use Rattle.frame.specs.Promises.{VerdictRefusal, told_verdict};
+ghost use Rattle.frame.specs.Promises.{DgnBytes, DgnOf, number_of_bad_identifier, number_of_not_formed, refusal_of};
+ghost use Rattle.frame.specs.Promises.{told_verdict};
+
+use words::Refusal;
 
 // The parts of an identifier: bits 28-26, 24-8 and 7-0.
 #[derive(Clone, Copy)]
@@ -19,20 +21,24 @@ pub struct Parts {
     pub source: u8,
 }
 
-// An identifier taken apart, or refusal 3 or 5.
+// Why an identifier is not taken apart: refusals 3 and 5.
 #[derive(Clone, Copy)]
-pub enum Apart {
-    Into(Parts),
+pub enum BadIdentifier {
     IdentifierTooLarge,
     ReservedBitSet,
 }
 
-// An identifier formed, or refusal 12.
+// An identifier taken apart, or why not.
+pub type Apart = Result<Parts, BadIdentifier>;
+
+// Why an identifier is not formed: refusal 12.
 #[derive(Clone, Copy)]
-pub enum Formed {
-    Identifier(u32),
+pub enum NotFormed {
     NoCode,
 }
+
+// An identifier formed, or why not.
+pub type Formed = Result<u32, NotFormed>;
 
 // What a frame alone is refused for: 3, 4, 5, 6.
 #[derive(Clone, Copy)]
@@ -43,11 +49,8 @@ pub enum BadFrame {
     SourceNotAllowed,
 }
 
-#[derive(Clone, Copy)]
-pub enum Verdict {
-    Sound(Parts),
-    Bad(BadFrame),
-}
+// The parts of a frame's identifier, or what the frame is refused for.
+pub type Verdict = Result<Parts, BadFrame>;
 
 // A frame's verdict, with its eight bytes beside it; zeros where it is bad.
 #[derive(Clone, Copy)]
@@ -64,57 +67,36 @@ pub enum Destination {
     One(u8),
 }
 
-impl Apart {
-    // The number of the refusal; 0 where the identifier is taken apart.
-    pub fn refusal(self) -> u8
-        ensures { ApartRefusal self result }
-    {
-        let answer = self;
-        match answer {
-            Apart::Into(_) => 0,
-            Apart::IdentifierTooLarge => 3,
-            Apart::ReservedBitSet => 5,
+impl Refusal for BadIdentifier {
+    ghost number = { number_of_bad_identifier };
+
+    fn refusal(self) -> u8 {
+        match self {
+            BadIdentifier::IdentifierTooLarge => 3,
+            BadIdentifier::ReservedBitSet => 5,
         }
     }
 }
 
-impl Formed {
-    // The number of the refusal; 0 where the identifier is formed.
-    pub fn refusal(self) -> u8
-        ensures { FormedRefusal self result }
-    {
-        let answer = self;
-        match answer {
-            Formed::Identifier(_) => 0,
-            Formed::NoCode => 12,
+impl Refusal for NotFormed {
+    ghost number = { number_of_not_formed };
+
+    fn refusal(self) -> u8 {
+        match self {
+            NotFormed::NoCode => 12,
         }
     }
 }
 
-impl BadFrame {
-    // The number of the refusal.
-    pub fn refusal(self) -> u8
-        ensures { BadFrameRefusal self result }
-    {
-        let why = self;
-        match why {
+impl Refusal for BadFrame {
+    ghost number = { refusal_of };
+
+    fn refusal(self) -> u8 {
+        match self {
             BadFrame::IdentifierTooLarge => 3,
             BadFrame::NotEightBytes => 4,
             BadFrame::ReservedBitSet => 5,
             BadFrame::SourceNotAllowed => 6,
-        }
-    }
-}
-
-impl Verdict {
-    // The number of the refusal; 0 where the frame is sound.
-    pub fn refusal(self) -> u8
-        ensures { VerdictRefusal self result }
-    {
-        let answer = self;
-        match answer {
-            Verdict::Sound(_) => 0,
-            Verdict::Bad(why) => why.refusal(),
         }
     }
 }
@@ -125,12 +107,12 @@ pub fn take_apart(id: u32) -> Apart
     ensures { TakeApart id result }
 {
     if standard::IDENTIFIERS <= id {
-        return Apart::IdentifierTooLarge;
+        return Err(BadIdentifier::IdentifierTooLarge);
     }
     if reserved_bit(id) == 1 {
-        return Apart::ReservedBitSet;
+        return Err(BadIdentifier::ReservedBitSet);
     }
-    Apart::Into(parts_of(id))
+    Ok(parts_of(id))
 }
 
 // Forms an identifier from its parts; the reserved bit is 0. Refusal 12 where the priority is above 7 or the DGN has
@@ -138,13 +120,10 @@ pub fn take_apart(id: u32) -> Apart
 pub fn form(priority: u8, dgn: u32, source: u8) -> Formed
     ensures { Form priority dgn source result }
 {
-    if standard::LOWEST_PRIORITY < priority {
-        return Formed::NoCode;
+    if standard::LOWEST_PRIORITY < priority || standard::GREATEST_DGN < dgn {
+        return Err(NotFormed::NoCode);
     }
-    if standard::GREATEST_DGN < dgn {
-        return Formed::NoCode;
-    }
-    Formed::Identifier((priority as u32) * 0x4000000 + dgn * 256 + source as u32)
+    Ok(u32::from(priority) * 0x4000000 + dgn * 256 + u32::from(source))
 }
 
 // Checks a frame by itself, and hands its parts and its eight bytes on. Refusals 3, 4, 5 and 6, the lowest that
@@ -153,15 +132,13 @@ pub fn check(id: u32, bytes: &[u8]) -> Checked
     ensures { Check id bytes.now result }
 {
     let verdict = judge(id, bytes.len());
-    match verdict {
-        Verdict::Bad(_) => Checked {
-            verdict,
-            bytes: [0u8; 8],
-        },
-        Verdict::Sound(_) => Checked {
-            verdict,
-            bytes: eight(bytes),
-        },
+    let mut data = [0; 8];
+    if verdict.is_ok() {
+        data.copy_from_slice(bytes);
+    }
+    Checked {
+        verdict,
+        bytes: data,
     }
 }
 
@@ -194,29 +171,14 @@ pub fn catalogue_form(dgn: u32) -> u32
 pub fn number_of(bytes: [u8; 8]) -> u64
     ensures { NumberOf bytes result }
 {
-    let mut n: u64 = 0;
-    let mut i: usize = 8;
-    while i > 0 {
-        i -= 1;
-        let b = wide(bytes[i]);
-        n = n * 256 + b;
-    }
-    n
+    u64::from_le_bytes(bytes)
 }
 
 // A number as eight bytes, low byte first. `number_of` is its way back.
 pub fn bytes_of(number: u64) -> [u8; 8]
     ensures { BytesOf number result }
 {
-    let mut bytes = [0u8; 8];
-    let mut rest = number;
-    let mut i: usize = 0;
-    while i < 8 {
-        bytes[i] = low(rest);
-        rest = rest / 256;
-        i += 1;
-    }
-    bytes
+    number.to_le_bytes()
 }
 
 // A DGN as three bytes, low byte first; of a larger number its three lowest.
@@ -235,7 +197,7 @@ pub fn dgn_bytes(dgn: u32) -> [u8; 3]
 pub fn dgn_of(low: u8, middle: u8, high: u8) -> u32
     ensures { DgnOf low middle high result }
 {
-    low as u32 + 256 * middle as u32 + 65536 * high as u32
+    u32::from(low) + 256 * u32::from(middle) + 65536 * u32::from(high)
 }
 
 fn reserved_bit(id: u32) -> u32
@@ -260,59 +222,29 @@ fn parts_of(id: u32) -> Parts
 fn source_allowed(source: u8, dgn: u32) -> bool
     ensures { result ≡ source_allowed source dgn }
 {
-    if source == standard::EVERYONE {
-        return false;
+    let upper = dgn / 256 % 512;
+    match source {
+        standard::EVERYONE => false,
+        standard::NO_ADDRESS => upper == standard::REQUEST / 256 || upper == standard::CLAIM / 256,
+        _ => true,
     }
-    if source != standard::NO_ADDRESS {
-        return true;
-    }
-    if dgn / 256 % 512 == standard::REQUEST / 256 {
-        return true;
-    }
-    dgn / 256 % 512 == standard::CLAIM / 256
 }
 
 fn judge(id: u32, size: usize) -> Verdict
     ensures { told_verdict result ≡ checked_of id size }
 {
     if standard::IDENTIFIERS <= id {
-        return Verdict::Bad(BadFrame::IdentifierTooLarge);
+        return Err(BadFrame::IdentifierTooLarge);
     }
     if size != 8 {
-        return Verdict::Bad(BadFrame::NotEightBytes);
+        return Err(BadFrame::NotEightBytes);
     }
     if reserved_bit(id) == 1 {
-        return Verdict::Bad(BadFrame::ReservedBitSet);
+        return Err(BadFrame::ReservedBitSet);
     }
     let parts = parts_of(id);
     if !source_allowed(parts.source, parts.dgn) {
-        return Verdict::Bad(BadFrame::SourceNotAllowed);
+        return Err(BadFrame::SourceNotAllowed);
     }
-    Verdict::Sound(parts)
-}
-
-// The bytes of a frame that has eight.
-fn eight(bytes: &[u8]) -> [u8; 8]
-    requires { length bytes.now ≡ 8 }
-    ensures { result ≡ bytes.now }
-{
-    let mut out = [0u8; 8];
-    let mut i: usize = 0;
-    while i < 8 {
-        out[i] = bytes[i];
-        i += 1;
-    }
-    out
-}
-
-fn wide(byte: u8) -> u64
-    ensures { (result ≡ byte) × (result < 256) }
-{
-    byte as u64
-}
-
-fn low(number: u64) -> u8
-    ensures { result ≡ number % 256 }
-{
-    (number % 256) as u8
+    Ok(parts)
 }

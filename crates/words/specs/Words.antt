@@ -46,7 +46,11 @@ given gives a then f = f a
 pub data Done : Type 0 where
   done : Done
 
--- the number of a refusal in what a call answers, and 0 where it does not refuse
+-- What a call answers, read as the number of its refusal or what it gives, by the numbers of its refusals.
+abbrev pub told : {A E : Type 0} → (E → ℕ) → Result A E → Told A
+told number (Ok a) = gives a
+told number (Err why) = refused (number why)
+
+-- the number of a refusal in what a call answers, and 0 where there is none
 abbrev pub number_of_answer : {A E : Type 0} → (E → ℕ) → Result A E → ℕ
-number_of_answer number (Ok a) = 0
-number_of_answer number (Err why) = number why
+number_of_answer number r = number_in (told number r)
