@@ -12,7 +12,8 @@ use Rattle.words.specs.Words.{◌≤?◌, ◌<?◌, ◌=?◌, Told, refused, giv
 use Rattle.frame.specs.Identifier.{priority_of, reserved_of, dgn_of, source_of, parts_of, identifier_of, identifiers}
 use Rattle.frame.specs.Identifier.{greatest_dgn, lowest_priority}
 use Rattle.frame.specs.Frame.{frame_bytes, source_allowed, apart_of, formed_of, checked_of}
-use Rattle.frame.specs.Promises.{told_apart, told_formed, told_verdict, refusal_of, bytes_if}
+use Rattle.frame.specs.Promises.{number_of_bad_identifier, number_of_not_formed, told_apart, told_formed, told_verdict}
+use Rattle.frame.specs.Promises.{refusal_of, bytes_if}
 use Rattle.frame.specs.Laws.{ToldApartSame, ToldFormedSame, ToldVerdictSame, TakeApartOnly, FormOnly, CheckOnly}
 use Rattle.frame.specs.Laws.{DestinationOfOnly, CatalogueFormOnly, NumberOfOnly, BytesOfOnly, DgnBytesOnly}
 use Rattle.frame.specs.Laws.{DgnOfOnly, ApartRefusalOnly, FormedRefusalOnly, BadFrameRefusalOnly}
@@ -20,43 +21,33 @@ use Rattle.frame.specs.Laws.{VerdictRefusalOnly, DgnBack, NoFrameRefused, Refuse
 use Rattle.frame.specs.Laws.{LowestWins, RefusedForReason, told_but_priority, PriorityIgnored, NumberBack}
 use Rattle.frame.specs.Laws.{BytesBack, ExampleOne}
 use Rattle.frame.specs.declared.Parts.{Parts}
-use Rattle.frame.specs.declared.Apart.{Apart}
-use Rattle.frame.specs.declared.Formed.{Formed}
-use Rattle.frame.specs.declared.Formed.TheVariants.{Identifier, NoCode}
+use Rattle.words.proofs.Words.{told_same}
+use Rattle.frame.specs.declared.BadIdentifier.{BadIdentifier}
+use Rattle.frame.specs.declared.NotFormed.TheVariants.{NoCode}
 use Rattle.frame.specs.declared.BadFrame.{BadFrame}
 use Rattle.frame.specs.declared.BadFrame.TheVariants.{IdentifierTooLarge, NotEightBytes, ReservedBitSet}
 use Rattle.frame.specs.declared.BadFrame.TheVariants.{SourceNotAllowed}
-use Rattle.frame.specs.declared.Verdict.{Verdict}
-use Rattle.frame.specs.declared.Verdict.TheVariants.{Sound, Bad}
 use Rattle.words.proofs.Words.{by_test, past_refusal, gives_same, refused_same, refused_gives}
 use Rattle.frame.proofs.Bytes.{number_of_bytes, bytes_of_number}
 
 -- an answer is read back from what it tells
 
-apart_back : Told Parts → Apart
-apart_back (gives parts) = Apart.Into parts
-apart_back (refused n) = if n =? 3 then Apart.IdentifierTooLarge else Apart.ReservedBitSet
+bad_identifier_back : ℕ → BadIdentifier
+bad_identifier_back n = if n =? 3 then BadIdentifier.IdentifierTooLarge else BadIdentifier.ReservedBitSet
 
-apart_back_lem : (r : Apart) → apart_back (told_apart r) ≡ r
-unfolding apart_back
-apart_back_lem (Apart.Into parts) = refl
-apart_back_lem Apart.IdentifierTooLarge = refl
-apart_back_lem Apart.ReservedBitSet = refl
+bad_identifier_back_lem : (w : BadIdentifier) → bad_identifier_back (number_of_bad_identifier w) ≡ w
+unfolding bad_identifier_back
+bad_identifier_back_lem BadIdentifier.IdentifierTooLarge = refl
+bad_identifier_back_lem BadIdentifier.ReservedBitSet = refl
+
+bad_identifier_same : (v w : BadIdentifier) → number_of_bad_identifier v ≡ number_of_bad_identifier w → v ≡ w
+bad_identifier_same v w e = sym (bad_identifier_back_lem v) ∙ ap bad_identifier_back e ∙ bad_identifier_back_lem w
 
 pub told_apart_same : ToldApartSame
-told_apart_same r s e = sym (apart_back_lem r) ∙ ap apart_back e ∙ apart_back_lem s
-
-formed_back : Told ℕ → Formed
-formed_back (gives id) = Identifier id
-formed_back (refused n) = NoCode
-
-formed_back_lem : (r : Formed) → formed_back (told_formed r) ≡ r
-unfolding formed_back
-formed_back_lem (Identifier id) = refl
-formed_back_lem NoCode = refl
+told_apart_same = told_same number_of_bad_identifier bad_identifier_same
 
 pub told_formed_same : ToldFormedSame
-told_formed_same r s e = sym (formed_back_lem r) ∙ ap formed_back e ∙ formed_back_lem s
+told_formed_same = told_same number_of_not_formed (elim [ NoCode ↦ elim [ NoCode ↦ λ e. refl ] ])
 
 pub bad_back : ℕ → BadFrame
 bad_back n = if n =? 3 then IdentifierTooLarge else if n =? 4 then NotEightBytes else if n =? 5 then ReservedBitSet else SourceNotAllowed
@@ -69,17 +60,12 @@ bad_back_lem NotEightBytes = refl
 bad_back_lem ReservedBitSet = refl
 bad_back_lem SourceNotAllowed = refl
 
-verdict_back : Told Parts → Verdict
-verdict_back (gives parts) = Sound parts
-verdict_back (refused n) = Bad (bad_back n)
-
-verdict_back_lem : (r : Verdict) → verdict_back (told_verdict r) ≡ r
-unfolding verdict_back
-verdict_back_lem (Sound parts) = refl
-verdict_back_lem (Bad w) = ap Bad (bad_back_lem w)
+-- no two of them have one number
+pub bad_frame_same : (v w : BadFrame) → refusal_of v ≡ refusal_of w → v ≡ w
+bad_frame_same v w e = sym (bad_back_lem v) ∙ ap bad_back e ∙ bad_back_lem w
 
 pub told_verdict_same : ToldVerdictSame
-told_verdict_same r s e = sym (verdict_back_lem r) ∙ ap verdict_back e ∙ verdict_back_lem s
+told_verdict_same = told_same refusal_of bad_frame_same
 
 -- no second answer
 

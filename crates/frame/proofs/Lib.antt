@@ -1,4 +1,5 @@
 pub mod Bytes
+pub mod Library
 pub mod Frame
 pub mod Laws
 pub mod Sent

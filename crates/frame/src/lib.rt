@@ -225,7 +225,9 @@ fn source_allowed(source: u8, dgn: u32) -> bool
     let upper = dgn / 256 % 512;
     match source {
         standard::EVERYONE => false,
-        standard::NO_ADDRESS => upper == standard::REQUEST / 256 || upper == standard::CLAIM / 256,
+        standard::NO_ADDRESS => {
+            upper == standard::REQUEST / 256 || upper == standard::CLAIM / 256
+        }
         _ => true,
     }
 }

@@ -1,11 +1,12 @@
 -- Laws of the words: what an `if` shows that gives, or refuses.
 -- Assumes nothing.
 use Rattle.std.specs.Prelude.{if◌then◌else◌}
-use mathlib.Core.Path.{◌≡◌, refl, sym}
+use mathlib.Core.Path.{◌≡◌, refl, sym, ap}
 use mathlib.Core.Bool.{Bool, true, false, not}
 use Prim.Native.Nat.{ℕ}
 use native.Mathlib.Omega.{arith}
-use Rattle.words.specs.Words.{Told, refused, gives, ◌and◌}
+use Rattle.std.specs.Prelude.{Result, Ok, Err}
+use Rattle.words.specs.Words.{Told, refused, gives, told, ◌and◌}
 
 module _ {A : Type 0} where
   -- a refusal gives nothing
@@ -27,6 +28,14 @@ module _ {A : Type 0} where
   pub before_refusal : (b : Bool) (n : ℕ) (t : Told A) {a : A} → (if b then t else refused n) ≡ gives a → (b ≡ true) × (t ≡ gives a)
   before_refusal true n t e = (refl, e)
   before_refusal false n t e = refused_gives e
+
+-- an answer read as number and value loses nothing, where no two of its refusals have one number
+pub told_same : {A E : Type 0} (number : E → ℕ) → ((a b : E) → number a ≡ number b → a ≡ b)
+    → (r s : Result A E) → told number r ≡ told number s → r ≡ s
+told_same number same (Ok a) (Ok b) e = ap Ok (gives_same e)
+told_same number same (Ok a) (Err w) e = refused_gives (sym e)
+told_same number same (Err v) (Ok b) e = refused_gives e
+told_same number same (Err v) (Err w) e = ap Err (same v w (refused_same e))
 
 pub not_flips : (b : Bool) → not b ≡ false → b ≡ true
 not_flips true e = refl
