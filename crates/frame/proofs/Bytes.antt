@@ -1,4 +1,4 @@
--- Bytes and the number that they spell: each gives the other back. Then the turns of the loops that join and split them.
+-- Bytes and the number that they spell: each gives the other back. Then the turns of a loop that splits them.
 -- Assumes nothing.
 use mathlib.Core.Path.{◌≡◌, refl, sym, ap, ◌∙◌}
 use mathlib.Core.List.{List, [], ◌∷◌, ◌++◌, append_assoc, append-nil}
@@ -42,25 +42,6 @@ bytes_small zero n i = lit< tt
 bytes_small (suc k) n zero = mod-lt n (lit< tt)
 bytes_small (suc k) n (suc i) = bytes_small k (n / 256) i
 
--- a turn of the loop that joins, from the last byte down
-pub number_turn : (bs : List ℕ) (i n b : ℕ) → 0 < i → i ≤ length bs → n ≡ number_of (drop i bs) → b ≡ get_or bs (i - 1) 0
-    → n * 256 + b ≡ number_of (drop (i - 1) bs)
-unfolding number_of
-number_turn bs i n b p h e k =
-    let j : i - 1 < length bs = omega arith in
-    let s : suc (i - 1) ≡ i = omega arith in
-    let e' : n ≡ number_of (drop (suc (i - 1)) bs) = e ∙ ap (λ (m : ℕ). number_of (drop m bs)) (sym s) in
-    rw (drop-cons bs (i - 1) 0 j, e', k)
-
--- and its number fits 64 bits
-pub number_room : (bs : List ℕ) (i n b : ℕ) → 0 < i → length bs ≡ 8 → AreBytes bs → n ≡ number_of (drop i bs) → b < 256
-    → n * 256 + b < 2 ^ 64
-number_room bs i n b p l a e h =
-    let len : length (drop i bs) ≤ 7 = rw length-drop (omega arith) in
-    let x : n < 256 ^ length (drop i bs) = rw e (number_below (drop i bs) (λ k. rw (get_or-drop i bs k 0) (a (i + k)))) in
-    let y : n < 256 ^ 7 = lt_of_lt_of_le x (pow-le-pow_right (lit< tt) len) in
-    omega arith
-
 -- a turn of the loop that splits
 pub bytes_turn : (bs out : List ℕ) (i r : ℕ) → i < 8 → length bs ≡ 8 → take i bs ++ bytes_of (8 - i) r ≡ out
     → take (i + 1) (set bs i (r % 256)) ++ bytes_of (8 - (i + 1)) (r / 256) ≡ out
@@ -78,8 +59,3 @@ bytes_end bs out i r h g l e =
     let z : 8 - i ≡ 0 = omega arith in
     let t = take_all i bs (omega arith) in
     sym (append-nil bs) ∙ (rw (z, t) at e)
-
--- a turn of the loop that copies
-pub copy_turn : (bs out : List ℕ) (i : ℕ) → i < length bs → i < length out → take i out ≡ take i bs
-    → take (i + 1) (set out i (get_or bs i 0)) ≡ take (i + 1) bs
-copy_turn bs out i h k e = rw (add-one, take-suc-set out i (get_or bs i 0) k, take-suc bs i 0 h, e)

@@ -12,7 +12,7 @@ use Rattle.words.specs.Words.{◌≤?◌, ◌<?◌, ◌=?◌, Told, refused, giv
 use Rattle.frame.specs.Identifier.{priority_of, reserved_of, dgn_of, source_of, parts_of, identifier_of, identifiers}
 use Rattle.frame.specs.Identifier.{greatest_dgn, lowest_priority}
 use Rattle.frame.specs.Frame.{frame_bytes, source_allowed, apart_of, formed_of, checked_of}
-use Rattle.frame.specs.Promises.{number_of_bad_identifier, number_of_not_formed, told_apart, told_formed, told_verdict}
+use Rattle.frame.specs.Promises.{number_of_bad_identifier, number_of_not_formed, told_verdict}
 use Rattle.frame.specs.Promises.{refusal_of, bytes_if}
 use Rattle.frame.specs.Laws.{ToldApartSame, ToldFormedSame, ToldVerdictSame, TakeApartOnly, FormOnly, CheckOnly}
 use Rattle.frame.specs.Laws.{DestinationOfOnly, CatalogueFormOnly, NumberOfOnly, BytesOfOnly, DgnBytesOnly}

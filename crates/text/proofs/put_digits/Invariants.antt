@@ -9,5 +9,5 @@ invariant-loop-place l = record {
   room : length l.out ≡ length l.initial.out;
   behind : l.at ≤ l.place;
   within : l.place ≤ l.end;
-  put : put_down l.base l.at (l.place - l.at) l.rest l.out ≡ put_down l.base l.at l.count l.number l.initial.out
+  put : put_down l.base l.at (l.place - l.at) l.rest l.out ≡ put_down l.base l.at l.count l.number l.initial.out;
 }

@@ -8,5 +8,5 @@ abbrev pub invariant-loop-byte : goal.invariant-loop-byte
 invariant-loop-byte l = record {
   next : l.end ≡ l.at + 2 * l.byte-index;
   room : length l.out ≡ length l.initial.out;
-  put : l.out ≡ placed l.initial.out l.at (byte_pairs (take l.byte-index l.bytes))
+  put : l.out ≡ placed l.initial.out l.at (byte_pairs (take l.byte-index l.bytes));
 }
