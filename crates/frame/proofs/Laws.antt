@@ -17,6 +17,7 @@ use Rattle.frame.specs.Promises.{refusal_of, bytes_if}
 use Rattle.frame.specs.Laws.{ToldApartSame, ToldFormedSame, ToldVerdictSame, TakeApartOnly, FormOnly, CheckOnly}
 use Rattle.frame.specs.Laws.{DestinationOfOnly, CatalogueFormOnly, NumberOfOnly, BytesOfOnly, DgnBytesOnly}
 use Rattle.frame.specs.Laws.{DgnOfOnly, ApartRefusalOnly, FormedRefusalOnly, BadFrameRefusalOnly}
+use Rattle.frame.specs.Laws.{BadIdentifierRefusalOnly, NotFormedRefusalOnly}
 use Rattle.frame.specs.Laws.{VerdictRefusalOnly, DgnBack, NoFrameRefused, RefusedKeeps, PartsBack, IdentifierBack}
 use Rattle.frame.specs.Laws.{LowestWins, RefusedForReason, told_but_priority, PriorityIgnored, NumberBack}
 use Rattle.frame.specs.Laws.{BytesBack, ExampleOne}
@@ -99,8 +100,14 @@ dgn_bytes_only dgn r s p q = p.answer ∙ sym q.answer
 pub dgn_of_only : DgnOfOnly
 dgn_of_only low middle high r s p q = p.answer ∙ sym q.answer
 
+pub bad_identifier_refusal_only : BadIdentifierRefusalOnly
+bad_identifier_refusal_only why r s p q = p.number ∙ sym q.number
+
 pub apart_refusal_only : ApartRefusalOnly
 apart_refusal_only answer r s p q = p.number ∙ sym q.number
+
+pub not_formed_refusal_only : NotFormedRefusalOnly
+not_formed_refusal_only why r s p q = p.number ∙ sym q.number
 
 pub formed_refusal_only : FormedRefusalOnly
 formed_refusal_only answer r s p q = p.number ∙ sym q.number

@@ -10,8 +10,10 @@ use Rattle.frame.specs.Promises.{Apart, Formed, Verdict, refusal_of, told_apart,
 use Rattle.frame.specs.Promises.{TakeApart, Form, Check}
 use Rattle.frame.specs.Promises.{DestinationOf}
 use Rattle.frame.specs.Promises.{CatalogueForm, NumberOf, BytesOf, DgnBytes, DgnOf, ApartRefusal, FormedRefusal}
-use Rattle.frame.specs.Promises.{BadFrameRefusal, VerdictRefusal}
+use Rattle.frame.specs.Promises.{BadIdentifierRefusal, NotFormedRefusal, BadFrameRefusal, VerdictRefusal}
 use Rattle.frame.specs.declared.Parts.{Parts}
+use Rattle.frame.specs.declared.BadIdentifier.{BadIdentifier}
+use Rattle.frame.specs.declared.NotFormed.{NotFormed}
 use Rattle.frame.specs.declared.BadFrame.{BadFrame}
 use Rattle.frame.specs.declared.Checked.{Checked}
 use Rattle.frame.specs.declared.Destination.{Destination}
@@ -56,8 +58,15 @@ DgnBytesOnly = (dgn : ℕ) (r s : List ℕ) → DgnBytes dgn r → DgnBytes dgn 
 abbrev pub DgnOfOnly : Type 0
 DgnOfOnly = (low middle high r s : ℕ) → DgnOf low middle high r → DgnOf low middle high s → r ≡ s
 
+abbrev pub BadIdentifierRefusalOnly : Type 0
+BadIdentifierRefusalOnly =
+    (why : BadIdentifier) (r s : ℕ) → BadIdentifierRefusal why r → BadIdentifierRefusal why s → r ≡ s
+
 abbrev pub ApartRefusalOnly : Type 0
 ApartRefusalOnly = (answer : Apart) (r s : ℕ) → ApartRefusal answer r → ApartRefusal answer s → r ≡ s
+
+abbrev pub NotFormedRefusalOnly : Type 0
+NotFormedRefusalOnly = (why : NotFormed) (r s : ℕ) → NotFormedRefusal why r → NotFormedRefusal why s → r ≡ s
 
 abbrev pub FormedRefusalOnly : Type 0
 FormedRefusalOnly = (answer : Formed) (r s : ℕ) → FormedRefusal answer r → FormedRefusal answer s → r ≡ s

@@ -32,6 +32,9 @@ told_apart r = told number_of_bad_identifier r
 pub record TakeApart (id : ℕ) (r : Apart) : Type 0 where
   pub answer : told_apart r ≡ apart_of id
 
+pub record BadIdentifierRefusal (why : BadIdentifier) (r : ℕ) : Type 0 where
+  pub number : r ≡ number_of_bad_identifier why
+
 pub record ApartRefusal (answer : Apart) (r : ℕ) : Type 0 where
   pub number : r ≡ number_in (told_apart answer)
 
@@ -48,6 +51,9 @@ told_formed r = told number_of_not_formed r
 
 pub record Form (priority dgn source : ℕ) (r : Formed) : Type 0 where
   pub answer : told_formed r ≡ formed_of priority dgn source
+
+pub record NotFormedRefusal (why : NotFormed) (r : ℕ) : Type 0 where
+  pub number : r ≡ number_of_not_formed why
 
 pub record FormedRefusal (answer : Formed) (r : ℕ) : Type 0 where
   pub number : r ≡ number_in (told_formed answer)
