@@ -1,5 +1,6 @@
 -- What the answers of the calls show of the state that was handed in, and of the one that is handed back.
 -- Assumes nothing.
+use Rattle.std.specs.Prelude.{Ok, Err}
 use mathlib.Core.Path.{◌≡◌, refl, sym, ap, ◌∙◌}
 use mathlib.Core.Bool.{true, false, not}
 use mathlib.Core.List.{List}
@@ -11,11 +12,9 @@ use Rattle.words.specs.Words.{◌=?◌, Told, refused, gives, given◌then◌, d
 use Rattle.frame.specs.Bytes.{number_of}
 use Rattle.frame.specs.Frame.{checked_of}
 use Rattle.frame.specs.Standard.{claim_dgn, no_frame}
-use Rattle.frame.specs.Promises.{told_verdict, refusal_of, bytes_if}
+use Rattle.frame.specs.Promises.{Verdict, told_verdict, refusal_of, bytes_if}
 use Rattle.frame.specs.declared.Parts.{Parts}
 use Rattle.frame.specs.declared.BadFrame.{BadFrame}
-use Rattle.frame.specs.declared.Verdict.{Verdict}
-use Rattle.frame.specs.declared.Verdict.TheVariants.{Sound, Bad}
 use Rattle.words.proofs.Words.{past_refusal, refused_gives, gives_same, not_flips, by_test}
 use Rattle.claim.specs.Candidates.{padded}
 use Rattle.claim.specs.Claim.{keeps_rules, holds_list, claim_id, claim_bytes, begun, Outcome, nothing_to_do, own_name}
@@ -109,13 +108,13 @@ heard_given id bytes c o e =
 -- a verdict on the frame, as the code has it
 
 pub heard_bad : (id : ℕ) (bytes : List ℕ) (c : Claim) (v : Verdict) (why : BadFrame) → keeps_rules c ≡ true
-    → told_verdict v ≡ checked_of id (length bytes) → v ≡ Bad why → refused (refusal_of why) ≡ heard_of id bytes c
+    → told_verdict v ≡ checked_of id (length bytes) → v ≡ Err why → refused (refusal_of why) ≡ heard_of id bytes c
 heard_bad id bytes c v why k t e =
     let b : checked_of id (length bytes) ≡ refused (refusal_of why) = sym t ∙ ap told_verdict e in
     sym (heard_past id bytes c k ∙ rw b)
 
 pub heard_sound : (id : ℕ) (bytes eight : List ℕ) (c : Claim) (v : Verdict) (parts : Parts) → keeps_rules c ≡ true
-    → told_verdict v ≡ checked_of id (length bytes) → eight ≡ bytes_if (checked_of id (length bytes)) bytes → v ≡ Sound parts
+    → told_verdict v ≡ checked_of id (length bytes) → eight ≡ bytes_if (checked_of id (length bytes)) bytes → v ≡ Ok parts
     → met_of parts eight c ≡ heard_of id bytes c
 heard_sound id bytes eight c v parts k t b e =
     let g : checked_of id (length bytes) ≡ gives parts = sym t ∙ ap told_verdict e in

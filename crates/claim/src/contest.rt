@@ -7,7 +7,7 @@ ghost use Rattle.claim.specs.Promises.{told_hearing, heard_of};
 ghost use Rattle.claim.specs.Private.{met_of};
 
 use crate::{Claim, Heard, Hearing, state};
-use frame::{Parts, Verdict, standard};
+use frame::{Parts, standard};
 
 // The answer to a frame: 2, then 3 to 6, then 16, then what it leads to.
 pub fn answer_to(claim: Claim, id: u32, bytes: &[u8]) -> Hearing
@@ -20,8 +20,8 @@ pub fn answer_to(claim: Claim, id: u32, bytes: &[u8]) -> Hearing
     let verdict = checked.verdict;
     let eight = checked.bytes;
     match verdict {
-        Verdict::Bad(why) => Hearing::BadFrame(why),
-        Verdict::Sound(parts) => meet(claim, parts, eight),
+        Err(why) => Hearing::BadFrame(why),
+        Ok(parts) => meet(claim, parts, eight),
     }
 }
 

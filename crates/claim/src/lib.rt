@@ -10,6 +10,7 @@ ghost use Rattle.claim.specs.Promises.{StartingRefusal, HearingRefusal, PausingR
 ghost use Rattle.claim.specs.Promises.{SendingRefusal};
 
 use frame::{BadFrame, standard};
+use words::Refusal;
 
 // A candidate list has at most 16 addresses.
 pub const CANDIDATES: usize = 16;

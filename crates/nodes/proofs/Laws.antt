@@ -116,7 +116,7 @@ looked_back_lem LookedUp.BrokenState = refl
 pub told_looked_up_same : ToldLookedUpSame
 told_looked_up_same r s e = sym (looked_back_lem r) ∙ ap looked_back e ∙ looked_back_lem s
 
-found_back : Told Option ℕ → FoundAddress
+found_back : Told (Option ℕ) → FoundAddress
 found_back (gives None) = FoundAddress.NoAddress
 found_back (gives (Some address)) = FoundAddress.At address
 found_back (refused n) = if n =? 1 then FoundAddress.TableTooShort else FoundAddress.BrokenState

@@ -102,7 +102,7 @@ looked_up_of table address = table_or table (gives (holder_at address (take addr
 
 -- ---- find_address: where a NAME is, at the address of the first record that has it
 
-abbrev pub found_of : List Node → ℕ → Told Option ℕ
+abbrev pub found_of : List Node → ℕ → Told (Option ℕ)
 found_of table name = table_or table (gives (first (has_name name) (take addresses table)))
 
 -- ---- find_challenger: who challenges the holder of an address, and for how long it has; above 253 nobody does

@@ -69,7 +69,7 @@ pub record LookedUpRefusal (answer : LookedUp) (r : ℕ) : Type 0 where
 
 -- find_address; the table is only read
 
-abbrev pub told_found_address : FoundAddress → Told Option ℕ
+abbrev pub told_found_address : FoundAddress → Told (Option ℕ)
 told_found_address (FoundAddress.At address) = gives (Some address)
 told_found_address FoundAddress.NoAddress = gives None
 told_found_address FoundAddress.TableTooShort = refused 1

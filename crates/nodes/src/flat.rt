@@ -16,7 +16,6 @@ use crate::{
     Change, Claim, FoundAddress, FoundChallenger, Hearing, Judged, JudgedPause, LookedUp, Node,
     Pausing, RECORDS, TAKES_AFTER,
 };
-use frame::Verdict;
 use frame::standard::{CLAIM, GREATEST_ADDRESS};
 
 // How many records are read of a table with `size`: those of all the addresses, or none.
@@ -42,8 +41,8 @@ pub fn judge(size: usize, records: [Node; RECORDS], id: u32, bytes: &[u8]) -> Ju
     let checked = frame::check(id, bytes);
     let verdict = checked.verdict;
     match verdict {
-        Verdict::Bad(why) => unasked(Hearing::BadFrame(why)),
-        Verdict::Sound(parts) => {
+        Err(why) => unasked(Hearing::BadFrame(why)),
+        Ok(parts) => {
             let eight = checked.bytes;
             asked(records, parts, eight)
         }

@@ -12,6 +12,7 @@ ghost use Rattle.nodes.specs.Promises.{FoundChallengerRefusal};
 ghost use Rattle.nodes.specs.Private.{after_of, records_of};
 
 use frame::BadFrame;
+use words::Refusal;
 
 // A table has a record for each of the addresses 0 to 253; what stands past them is neither read nor written.
 pub const RECORDS: usize = 254;

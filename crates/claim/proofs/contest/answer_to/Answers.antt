@@ -10,8 +10,8 @@ returns-then-not-keeps_rules c = sym (heard_broken _ _ _ (sym c.keeps_rules.ensu
 pub meet-requires : goal.meet-requires
 meet-requires c = (rules_of _ (sym c.keeps_rules.ensures.answer ∙ c.if-not-keeps_rules.false)).inside
 
-pub returns-in-Bad : goal.returns-in-Bad
-returns-in-Bad c = heard_bad _ _ _ _ _ (sym c.keeps_rules.ensures.answer ∙ c.if-not-keeps_rules.false) c.check-checked.ensures.answer c.in-Bad.is
+pub returns-in-Err : goal.returns-in-Err
+returns-in-Err c = heard_bad _ _ _ _ _ (sym c.keeps_rules.ensures.answer ∙ c.if-not-keeps_rules.false) c.check-checked.ensures.answer c.in-Err.is
 
-pub returns-in-Sound : goal.returns-in-Sound
-returns-in-Sound c = c.meet.ensures ∙ heard_sound _ _ _ _ _ _ (sym c.keeps_rules.ensures.answer ∙ c.if-not-keeps_rules.false) c.check-checked.ensures.answer c.check-checked.ensures.data_bytes c.in-Sound.is
+pub returns-in-Ok : goal.returns-in-Ok
+returns-in-Ok c = c.meet.ensures ∙ heard_sound _ _ _ _ _ _ (sym c.keeps_rules.ensures.answer ∙ c.if-not-keeps_rules.false) c.check-checked.ensures.answer c.check-checked.ensures.data_bytes c.in-Ok.is

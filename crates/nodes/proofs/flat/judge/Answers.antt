@@ -18,17 +18,17 @@ returns-then-not-keeps_rules c =
     let t = asked_broken _ _ _ _ c.if-size-lt-RECORDS.false e in
     judged_unasked _ _ _ _ (sym t.0) (ap change_of t.1) c.unasked-then-not-keeps_rules.ensures
 
-pub returns-in-Bad : goal.returns-in-Bad
-returns-in-Bad c =
-    let v = sym c.check-checked.ensures.answer ∙ ap told_verdict c.in-Bad.is in
+pub returns-in-Err : goal.returns-in-Err
+returns-in-Err c =
+    let v = sym c.check-checked.ensures.answer ∙ ap told_verdict c.in-Err.is in
     let e = sym c.keeps_rules.ensures ∙ c.if-not-keeps_rules.false in
     let t = asked_bad _ _ _ _ c.if-size-lt-RECORDS.false e _ v in
-    judged_unasked _ _ _ _ (sym t.0) (ap change_of t.1) c.unasked-in-Bad.ensures
+    judged_unasked _ _ _ _ (sym t.0) (ap change_of t.1) c.unasked-in-Err.ensures
 
-pub returns-in-Sound : goal.returns-in-Sound
-returns-in-Sound c =
+pub returns-in-Ok : goal.returns-in-Ok
+returns-in-Ok c =
     let b = c.args.bytes.now in
-    let v = sym c.check-checked.ensures.answer ∙ ap told_verdict c.in-Sound.is in
+    let v = sym c.check-checked.ensures.answer ∙ ap told_verdict c.in-Ok.is in
     let d = c.check-checked.ensures.data_bytes ∙ ap (λ (t : Told Parts). bytes_if t b) v in
     let e = sym c.keeps_rules.ensures ∙ c.if-not-keeps_rules.false in
     let t = asked_sound _ _ _ b c.if-size-lt-RECORDS.false e _ v in
