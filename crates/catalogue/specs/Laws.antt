@@ -20,6 +20,7 @@ use Rattle.catalogue.specs.Codes.{code_of}
 use Rattle.catalogue.specs.Catalogue.{field_in}
 use Rattle.catalogue.specs.Catalogue.{matching, opened_for, read_row_of, scaled_row_of, written_row_of, row_of_dgn, row_for}
 use Rattle.catalogue.specs.Catalogue.{read_of, scaled_read_of, replaced, written_of}
+use Rattle.catalogue.specs.Promises.{Looked, Reading, ScaledReading, Writing}
 use Rattle.catalogue.specs.Promises.{told_looked, told_reading, told_scaled, told_writing, Rows, RowAt, RowsOf, RowOf}
 use Rattle.catalogue.specs.Promises.{PackedRows, RowIn, RowsIn, RowOfIn, Classify, ReadField, ReadScaled}
 use Rattle.catalogue.specs.Promises.{WriteField, ReadRow, ReadRowScaled, WriteRow, LookedRefusal, ReadingRefusal}
@@ -32,10 +33,6 @@ use Rattle.catalogue.specs.declared.Field.{Field}
 use Rattle.catalogue.specs.declared.Class.{Class}
 use Rattle.catalogue.specs.declared.Class.TheVariants.{Number, NoData, OutOfRange, Reserved}
 use Rattle.catalogue.specs.declared.Value.{Value}
-use Rattle.catalogue.specs.declared.Looked.{Looked}
-use Rattle.catalogue.specs.declared.Reading.{Reading}
-use Rattle.catalogue.specs.declared.ScaledReading.{ScaledReading}
-use Rattle.catalogue.specs.declared.Writing.{Writing}
 
 -- An answer read as number and values loses nothing (RULES 2.10).
 
