@@ -160,6 +160,15 @@ pub write_row_only : Laws.WriteRowOnly
 write_row_only row id bytes value r s after after' p q =
     (told_writing_same r s (p.answer ∙ sym q.answer), p.data_bytes ∙ sym q.data_bytes)
 
+pub not_found_refusal_only : Laws.NotFoundRefusalOnly
+not_found_refusal_only why r s p q = p.number ∙ sym q.number
+
+pub not_read_refusal_only : Laws.NotReadRefusalOnly
+not_read_refusal_only why r s p q = p.number ∙ sym q.number
+
+pub not_written_refusal_only : Laws.NotWrittenRefusalOnly
+not_written_refusal_only why r s p q = p.number ∙ sym q.number
+
 pub looked_refusal_only : Laws.LookedRefusalOnly
 looked_refusal_only answer r s p q = p.number ∙ sym q.number
 

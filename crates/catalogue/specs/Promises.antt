@@ -40,6 +40,9 @@ told_looked r = told number_of_not_found r
 pub record RowAt (n : ℕ) (r : Looked) : Type 0 where
   pub answer : told_looked r ≡ row_of n
 
+pub record NotFoundRefusal (why : NotFound) (r : ℕ) : Type 0 where
+  pub number : r ≡ number_of_not_found why
+
 pub record LookedRefusal (answer : Looked) (r : ℕ) : Type 0 where
   pub number : r ≡ number_in (told_looked answer)
 
@@ -94,6 +97,9 @@ number_of_not_read NotRead.NoSuchRow = 11
 abbrev pub told_reading : Reading → Told Field
 told_reading r = told number_of_not_read r
 
+pub record NotReadRefusal (why : NotRead) (r : ℕ) : Type 0 where
+  pub number : r ≡ number_of_not_read why
+
 pub record ReadField (n id : ℕ) (bytes : List ℕ) (r : Reading) : Type 0 where
   pub answer : told_reading r ≡ read_of n id bytes
 
@@ -133,6 +139,9 @@ number_of_not_written NotWritten.NoCode = 12
 abbrev pub told_writing : Writing → Told Done
 told_writing (Ok nothing) = gives done
 told_writing (Err why) = refused (number_of_not_written why)
+
+pub record NotWrittenRefusal (why : NotWritten) (r : ℕ) : Type 0 where
+  pub number : r ≡ number_of_not_written why
 
 abbrev pub done_if : Told (List ℕ) → Told Done
 done_if (gives bytes) = gives done

@@ -60,12 +60,12 @@ fn class_at(width: u8, code: u64) -> Class
         return Class::Number;
     }
     if code == greatest - 1 {
-        Class::OutOfRange
-    } else if code == greatest - 2 {
-        Class::Reserved
-    } else {
-        Class::Number
+        return Class::OutOfRange;
     }
+    if code == greatest - 2 {
+        return Class::Reserved;
+    }
+    Class::Number
 }
 
 // All ones.

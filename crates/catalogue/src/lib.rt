@@ -238,7 +238,8 @@ pub fn has_instance(dgn: u32) -> bool
 }
 
 // How many steps of a scaled value make one of a unit, at a width: 2 halves of a percent, 32 of a °C, 20 of a volt or
-// an ampere, 128 of a hertz. 0 where the width has no scale, and a scaled value is the code.
+// an ampere, 128 of a hertz. 0 where the width has no scale, and a scaled value is the code: the promise `StepsInOne` has
+// this 0, so it is no `Option`.
 pub fn steps_in_one(unit: Unit, width: u8) -> u8
     ensures { StepsInOne unit width result }
 {

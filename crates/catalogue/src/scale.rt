@@ -2,7 +2,7 @@
 ghost use Rattle.std.specs.Prelude.{◌≡◌, ◌^◌, ◌<◌};
 ghost use Rattle.std.proofs.Math.IntN.{sub_ℕ};
 ghost use Rattle.catalogue.specs.Field.{InFrame};
-ghost use Rattle.catalogue.specs.Scale.{steps_of, celsius_steps, ampere_steps, scaled_of, value_of};
+ghost use Rattle.catalogue.specs.Scale.{steps_of, scaled_of, value_of};
 ghost use Rattle.catalogue.specs.Scale.{steps_in_one};
 ghost use Rattle.catalogue.specs.Private.{told_coded};
 ghost use Rattle.catalogue.specs.Codes.{code_where, stepped_code, scaled_code, class_code, code_of};
@@ -25,9 +25,6 @@ struct Steps {
     step: u64,
     offset: u64,
 }
-
-// Where the value is the code.
-const UNSCALED: Steps = Steps { step: 1, offset: 0 };
 
 // A field's value.
 #[tactic(auto, unfolding(crate::specs::Scale::value_of))]
@@ -109,44 +106,24 @@ fn scaled(unit: Unit, width: u8, code: u64) -> i64
     minus(steps.step * code, steps.offset)
 }
 
-#[tactic(auto, unfolding(crate::specs::Scale::steps_of))]
+#[tactic(auto, unfolding(crate::specs::Scale::steps_of, crate::specs::Scale::celsius_steps, crate::specs::Scale::ampere_steps))]
 fn steps_of(unit: Unit, width: u8) -> Steps
     ensures { result ≡ steps_of unit width }
 {
-    match unit {
-        Unit::Celsius => celsius_steps(width),
-        Unit::Ampere => ampere_steps(width),
-        Unit::Percent | Unit::Volt | Unit::Hertz | Unit::Other => UNSCALED,
-    }
-}
-
-#[tactic(auto, unfolding(crate::specs::Scale::celsius_steps))]
-fn celsius_steps(width: u8) -> Steps
-    ensures { result ≡ celsius_steps width }
-{
-    match width {
-        fields::UINT8 => Steps {
+    match (unit, width) {
+        (Unit::Celsius, fields::UINT8) => Steps {
             step: CELSIUS_8_STEP,
             offset: CELSIUS_8_OFFSET,
         },
-        fields::UINT16 => Steps {
+        (Unit::Celsius, fields::UINT16) => Steps {
             step: 1,
             offset: CELSIUS_16_OFFSET,
         },
-        _ => UNSCALED,
-    }
-}
-
-#[tactic(auto, unfolding(crate::specs::Scale::ampere_steps))]
-fn ampere_steps(width: u8) -> Steps
-    ensures { result ≡ ampere_steps width }
-{
-    match width {
-        fields::UINT16 => Steps {
+        (Unit::Ampere, fields::UINT16) => Steps {
             step: 1,
             offset: AMPERE_OFFSET,
         },
-        _ => UNSCALED,
+        _ => Steps { step: 1, offset: 0 },
     }
 }
 

@@ -43,7 +43,7 @@ returns-then-code-greatest-3 c =
     let a = c.args in
     rw (counted a.width a.code _ _ c.if-width-lt-LEAST_CLASSED.false c.greatest_code-greatest.ensures c.has_three.ensures) (search (tests, c.if-not-has_three.false-raw))
 
-pub returns-else-code-greatest-3 : goal.returns-else-code-greatest-3
-returns-else-code-greatest-3 c =
+pub returns : goal.returns
+returns c =
     let a = c.args in
     rw (counted a.width a.code _ _ c.if-width-lt-LEAST_CLASSED.false c.greatest_code-greatest.ensures c.has_three.ensures) (search (tests, c.if-not-has_three.false-raw))
