@@ -1,15 +1,12 @@
--- `capture::take_apart` meets its contract. Assumes nothing.
-use Rattle.std.proofs.Common.{List, ◌≡◌, refl, sym, ◌∙◌, ap, ℕ, ◌+◌, ◌-◌, arith, rules, length, take, drop}
+-- `capture::spelled` meets its contract. Assumes nothing.
+use Rattle.std.proofs.Common.{List, ◌≡◌, sym, ◌∙◌, ap, ℕ, ◌+◌, ◌-◌, arith, rules, length, take, drop}
 use lib.ListN.{length-take, length-drop}
 use lib.Seq.{take_all}
-use borrow.Author.Tests.{not-true, not-false}
-use Rattle.capture.specs.Private.{told_spelled, told_eight}
+use Rattle.capture.specs.Private.{told_spelled}
 use Rattle.capture.specs.Line.{gap_read, bytes_read, gap_in, id_in, data_in}
 use Rattle.capture.specs.Digits.{number_read}
-use Rattle.words.specs.Words.{refused, gives}
-use Rattle.capture.proofs.Lines.{no_shape, no_gap, no_id, no_data, a_frame, blank_line, sound_line, shape_length}
-use Rattle.capture.proofs.Lines.{gap_below}
-use Rattle.capture.proofs.take_apart.Goals as goal
+use Rattle.capture.proofs.Lines.{no_shape, no_gap, no_id, no_data, a_frame, shape_length}
+use Rattle.capture.proofs.spelled.Goals as goal
 
 -- the three parts of a line, as the code cuts them and as the definitions do
 
@@ -31,7 +28,7 @@ data_whole line =
 pub returns-then-not-has_shape : goal.returns-then-not-has_shape
 returns-then-not-has_shape c =
     let line = c.args.line.now in
-    rw c.malformed.ensures (blank_line line (no_shape line (sym c.has_shape.ensures ∙ c.if-not-has_shape.true)))
+    record { read = sym (no_shape line (sym c.has_shape.ensures ∙ c.if-not-has_shape.true)); answer = search rules }
 
 pub overflow_sub-width : goal.overflow_sub-width
 overflow_sub-width c =
@@ -48,25 +45,17 @@ gap-requires c =
     let h = shape_length c.args.line.now (sym c.has_shape.ensures ∙ c.if-not-has_shape.false) in
     rw length-take (omega arith)
 
-pub returns-in_default : goal.returns-in_default
-returns-in_default c =
+pub returns-in_err-gap-clause-read : goal.returns-in_err-gap-clause-read
+returns-in_err-gap-clause-read c =
     let line = c.args.line.now in
     let s = sym c.has_shape.ensures ∙ c.if-not-has_shape.false in
     let g = c.gap.ensures ∙ gap_whole line in
-    rw c.malformed-in_default.ensures (blank_line line (no_gap line s (sym g ∙ ap told_spelled c.in_default.is)))
+    rw c.from_residual.ensures (sym (no_gap line s (sym g ∙ ap told_spelled c.in_err-gap.was)))
 
 pub slice_bounds-number-end : goal.slice_bounds-number-end
 slice_bounds-number-end c =
     let h = shape_length c.args.line.now (sym c.has_shape.ensures ∙ c.if-not-has_shape.false) in
     search rules
-
-pub returns-in_default-number : goal.returns-in_default-number
-returns-in_default-number c =
-    let line = c.args.line.now in
-    let s = sym c.has_shape.ensures ∙ c.if-not-has_shape.false in
-    let g = sym (c.gap.ensures ∙ gap_whole line) ∙ ap told_spelled c.in-Number.is in
-    let n = c.number.ensures ∙ id_whole line in
-    rw c.malformed-in_default-number.ensures (blank_line line (no_id line c.in-Number.gap s g (sym n ∙ ap told_spelled c.in_default-number.is)))
 
 pub slice_bounds-eight_bytes-count : goal.slice_bounds-eight_bytes-count
 slice_bounds-eight_bytes-count c =
@@ -78,34 +67,34 @@ slice_bounds-eight_bytes-start c =
     let h = shape_length c.args.line.now (sym c.has_shape.ensures ∙ c.if-not-has_shape.false) in
     search rules
 
-pub eight_bytes-data_read-requires : goal.eight_bytes-data_read-requires
-eight_bytes-data_read-requires c =
+pub eight_bytes-requires : goal.eight_bytes-requires
+eight_bytes-requires c =
     let h = shape_length c.args.line.now (sym c.has_shape.ensures ∙ c.if-not-has_shape.false) in
     rw (length-take, length-drop) (omega arith)
 
-pub returns-then-not-data_read : goal.returns-then-not-data_read
-returns-then-not-data_read c =
+pub returns-in_err-id-clause-read : goal.returns-in_err-id-clause-read
+returns-in_err-id-clause-read c =
     let line = c.args.line.now in
-    let d = c.eight_bytes-data_read in
     let s = sym c.has_shape.ensures ∙ c.if-not-has_shape.false in
-    let g = sym (c.gap.ensures ∙ gap_whole line) ∙ ap told_spelled c.in-Number.is in
-    let n = sym (c.number.ensures ∙ id_whole line) ∙ ap told_spelled c.in-Number-number.is in
-    let e : told_eight d.result ≡ refused 19 = rw (not-true d.result.sound c.if-not-data_read.true) in
-    rw c.malformed-then-not-data_read.ensures (blank_line line (no_data line c.in-Number.gap c.in-Number-number.id s g n (sym (d.ensures ∙ data_whole line) ∙ e)))
+    let g = sym (c.gap.ensures ∙ gap_whole line) ∙ ap told_spelled c.in_ok-gap.was in
+    let n = c.number.ensures ∙ id_whole line in
+    rw c.from_residual-in_err-id.ensures (sym (no_id line c.in_ok-gap.gap s g (sym n ∙ ap told_spelled c.in_err-id.was)))
 
-pub overflow_cast-result : goal.overflow_cast-result
-overflow_cast-result c =
+pub returns-in_err-bytes-clause-read : goal.returns-in_err-bytes-clause-read
+returns-in_err-bytes-clause-read c =
     let line = c.args.line.now in
-    let g = sym (c.gap.ensures ∙ gap_whole line) ∙ ap told_spelled c.in-Number.is in
-    let h = gap_below _ c.in-Number.gap g in
-    search rules
-
-pub returns : goal.returns
-returns c =
-    let line = c.args.line.now in
-    let d = c.eight_bytes-data_read in
     let s = sym c.has_shape.ensures ∙ c.if-not-has_shape.false in
-    let g = sym (c.gap.ensures ∙ gap_whole line) ∙ ap told_spelled c.in-Number.is in
-    let n = sym (c.number.ensures ∙ id_whole line) ∙ ap told_spelled c.in-Number-number.is in
-    let e : told_eight d.result ≡ gives d.result.bytes = rw (not-false d.result.sound c.if-not-data_read.false) in
-    sound_line line _ refl (a_frame line c.in-Number.gap c.in-Number-number.id d.result.bytes s g n (sym (d.ensures ∙ data_whole line) ∙ e))
+    let g = sym (c.gap.ensures ∙ gap_whole line) ∙ ap told_spelled c.in_ok-gap.was in
+    let n = sym (c.number.ensures ∙ id_whole line) ∙ ap told_spelled c.in_ok-id.was in
+    let d = c.eight_bytes.ensures ∙ data_whole line in
+    rw c.from_residual-in_err-bytes.ensures
+    (sym (no_data line c.in_ok-gap.gap c.in_ok-id.id s g n (sym d ∙ ap told_spelled c.in_err-bytes.was)))
+
+pub returns-clause-read : goal.returns-clause-read
+returns-clause-read c =
+    let line = c.args.line.now in
+    let s = sym c.has_shape.ensures ∙ c.if-not-has_shape.false in
+    let g = sym (c.gap.ensures ∙ gap_whole line) ∙ ap told_spelled c.in_ok-gap.was in
+    let n = sym (c.number.ensures ∙ id_whole line) ∙ ap told_spelled c.in_ok-id.was in
+    let d = sym (c.eight_bytes.ensures ∙ data_whole line) ∙ ap told_spelled c.in_ok-bytes.was in
+    sym (a_frame line c.in_ok-gap.gap c.in_ok-id.id c.in_ok-bytes.bytes s g n d)
