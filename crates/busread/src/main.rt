@@ -10,7 +10,6 @@ ghost use Rattle.busread.specs.Reader.{out_room, Ready};
 mod reader;
 mod report;
 mod step;
-mod streams;
 
 use message::limits::STORAGE_BYTES;
 use reader::{Going, Reader};

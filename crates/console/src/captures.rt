@@ -1,7 +1,7 @@
 // The words of crate `capture`: one cutter of lines, and the block that it was given last.
 use crate::frames::first_eight;
 use crate::notes::{bounded, byte_at, field_u8, field_u32, get, get_u16, get_u32, put};
-use crate::streams::Streams;
+use streams::Streams;
 use crate::{notes, say};
 use capture::{Cutter, Cutting, Ending, LONGEST_LINE, Reading};
 use std::num::wrapping_add_usize;

@@ -1,6 +1,6 @@
 // The words of crate `claim`: one claim.
 use crate::notes::{field, field_u8, field_u16, get, get_u16, get_u32, put, put_all};
-use crate::streams::Streams;
+use streams::Streams;
 use crate::{frames, notes, say};
 use claim::{CANDIDATES, Claim, Hearing, Pausing, Sending, Standing, Starting};
 use std::num::wrapping_add_usize;

@@ -1,7 +1,7 @@
 // Exercises: a message split and joined again, a row written and read back, as a class would do it by many lines.
 use crate::fields::number_of_class;
 use crate::notes::{get, get_u8};
-use crate::streams::Streams;
+use streams::Streams;
 use crate::{notes, say};
 use catalogue::{Looked, Reading, Row, ScaledReading, Writing};
 

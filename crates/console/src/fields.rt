@@ -2,7 +2,7 @@
 ghost use Rattle.io.specs.Counts.{IsPrefixLen};
 
 use crate::notes::{field, field_u8, get, get_i64, get_u8, get_u32, put, put_all};
-use crate::streams::Streams;
+use streams::Streams;
 use crate::{claims, frames, notes, say};
 use catalogue::{Class, Field, Looked, Reading, Row, ScaledReading, Span, Unit, Value, Writing};
 

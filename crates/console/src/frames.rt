@@ -1,6 +1,6 @@
 // The words of crate `frame`.
 use crate::notes::{byte_at, get, get_u8, get_u32};
-use crate::streams::Streams;
+use streams::Streams;
 use crate::{notes, say};
 use frame::{Apart, BadFrame, Destination, Formed, Parts, Verdict};
 

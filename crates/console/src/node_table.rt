@@ -3,7 +3,7 @@ ghost use Rattle.std.specs.Prelude.{◌≡◌, ◌≤◌, take};
 ghost use Rattle.nodes.specs.Promises.{Hear, Pause, LookUp, FindAddress, FindChallenger};
 
 use crate::notes::{field, field_u16, get, get_u8, get_u16, get_u32, put_all, record};
-use crate::streams::Streams;
+use streams::Streams;
 use crate::{frames, notes, say, state};
 use nodes::{FoundAddress, FoundChallenger, Hearing, LookedUp, Node, Pausing, RECORDS};
 

@@ -10,7 +10,6 @@ mod own_faults;
 mod replies;
 mod show;
 mod state;
-mod streams;
 
 ghost use Rattle.std.specs.Prelude.{◌≡◌, ◌<◌, length};
 

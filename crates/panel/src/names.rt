@@ -4,7 +4,7 @@ ghost use Rattle.std.specs.Prelude.{◌≡◌};
 ghost use Rattle.nodes.specs.Promises.{Hear, LookUp, Pause};
 
 use crate::show;
-use crate::streams::Streams;
+use streams::Streams;
 use rvc::identifiers::standard::NO_ADDRESS;
 use rvc::node_table::{Hearing, LookedUp, Node, Pausing, RECORDS};
 

@@ -1,6 +1,6 @@
 // The panel as a node of the network: its address, and the long messages that it joins.
 use crate::state::Panel;
-use crate::streams::Streams;
+use streams::Streams;
 use crate::{names, own_faults, replies, show, state};
 use rvc::claims::{Claim, Heard, Hearing, Standing, Starting};
 use rvc::messages::{Answer, Receiver};

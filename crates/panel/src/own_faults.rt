@@ -1,7 +1,7 @@
 // The panel's own fault: one of the two tanks that are wired to it (replies.rt) gives no data. The panel broadcasts
 // this once a second as DM_RV (3.2.5), and answers it to a request.
 use crate::show;
-use crate::streams::Streams;
+use streams::Streams;
 use rvc::claims::Claim;
 use rvc::diagnostics::{DM_RV, Requested, Requesting, STEP, Sender, Stepping, names};
 use rvc::fields::Value;

@@ -1,6 +1,6 @@
 // What the panel answers for two tanks whose senders are wired to the panel itself: requests for their status, and
 // commands.
-use crate::streams::Streams;
+use streams::Streams;
 use crate::{own_faults, show};
 use rvc::claims::{Claim, Standing};
 use rvc::commands::{

@@ -1,6 +1,6 @@
 // What the panel prints: a line for each thing that changes, for each refusal, and for each frame that it would send.
 use crate::state::{Charger, Missing, Panel, Shown, Slide, Tank};
-use crate::streams::Streams;
+use streams::Streams;
 use crate::{names, state};
 use rvc::claims::{Claim, Standing};
 use rvc::texts;

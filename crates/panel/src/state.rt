@@ -1,7 +1,7 @@
 // What the panel keeps, and how the status of a tank, a charger or a slide changes it.
 use crate::own_faults::Faults;
 use crate::show;
-use crate::streams::Streams;
+use streams::Streams;
 use rvc::claims::Claim;
 use rvc::commands::Host;
 use rvc::fields::dgns::{CHARGER_STATUS, SLIDE_STATUS, TANK_STATUS};

@@ -1,5 +1,7 @@
 // Standard input and standard output, and the first error of a call of them. After it nothing more is read or written:
 // the input counts as ended, and the program returns the error at its end.
+#![tactic(auto)]
+
 ghost use Rattle.std.specs.Prelude.{◌≡◌, ◌≤◌, length, take};
 
 use std::io;

@@ -1,8 +1,8 @@
--- `mend::fields::rest` meets its contract. Assumes nothing.
+-- `mend::fields::return_in` meets its contract. Assumes nothing.
 use mathlib.Core.Path.{sym}
 use native.Mathlib.Omega.{arith}
 use Rattle.mend.proofs.Finding.{tail_none, tail_more, tail_return, tail_other}
-use Rattle.mend.proofs.fields.rest.Goals as goal
+use Rattle.mend.proofs.fields.return_in.Goals as goal
 
 pub returns-then-count-eq0 : goal.returns-then-count-eq0
 returns-then-count-eq0 c =
