@@ -1,6 +1,6 @@
 -- What the private functions promise of a line, by places in it and in the lent bytes (for RULES 17.3 to 17.12).
 use Rattle.std.specs.Prelude.{Option, Some, None}
-use Rattle.std.specs.Prelude.{◌≡◌, Bool, true, false, List, [], ◌++◌, ℕ, ◌+◌, ◌-◌, ◌≤◌, length, take, drop, if◌then◌else◌}
+use Rattle.std.specs.Prelude.{◌≡◌, Bool, List, [], ◌++◌, ℕ, ◌+◌, ◌-◌, ◌≤◌, length, take, drop, if◌then◌else◌}
 use Rattle.words.specs.Words.{Told, refused, gives}
 use Rattle.text.specs.Text.{text}
 use Rattle.text.specs.Pieces.{Wrote}

@@ -8,5 +8,5 @@ invariant-loop l = record {
   block : length l.block ≡ length l.initial.block;
   table : length l.table ≡ length l.initial.table;
   out : length l.out ≡ length l.initial.out;
-  ready : Ready l.reader l.table
+  ready : Ready l.reader l.table;
 }

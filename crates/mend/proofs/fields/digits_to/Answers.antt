@@ -1,8 +1,8 @@
 -- `mend::fields::digits_to` meets its contract. Assumes nothing.
 use mathlib.Core.Path.{refl, sym, ◌∙◌}
+use mathlib.Core.Path.{◌≡◌}
 use Prim.Native.Nat.{◌≤◌, ◌<◌}
 use native.Mathlib.Omega.{arith}
-use borrow.Author.Rules.{rules}
 use lib.ListN.{length, get_or}
 use Rattle.capture.specs.Digits.{value_of}
 use Rattle.mend.specs.Mending.{capital}
@@ -34,4 +34,5 @@ returns c =
     let l = c.loop-i in
     let a = c.args in
     let h : length a.line.now ≤ l.i = omega arith in
-    sym (l.invariant.ahead ∙ ahead_end a.base a.line.now l.i h)
+    let e : length a.line.now ≡ l.i = omega arith in
+    e ∙ sym (l.invariant.ahead ∙ ahead_end a.base a.line.now l.i h)

@@ -1,7 +1,6 @@
 -- What the loop of `mend::line::leading_zeros` keeps.
 use mathlib.Core.Path.{◌≡◌}
-use Prim.Native.Nat.{◌≤◌, ◌-◌}
-use lib.ListN.{length, drop}
+use lib.ListN.{drop}
 use Rattle.mend.specs.Mending.{without_zeros}
 use Rattle.mend.proofs.line.leading_zeros.Given as goal
 

@@ -61,4 +61,4 @@ returns-in-Err c =
     let digits : length (parts_at line places).id ≡ places.id_to - (places.gap_to + 4) = id_length line places fit in
     unsound line (parts_at line places) read
     (λ z. c.if-places.false (omega (arith, z, digits, fit.id))) c.put_tidied-to.ensures.0 (omega arith) c.take_apart-read.result c.take_apart-read.ensures
-    c.in-Err.is
+    c.in-Err.field-0 c.in-Err.is

@@ -7,5 +7,5 @@ use Rattle.traffic.proofs.report.put_pairs.Given as goal
 abbrev pub invariant-loop-i : goal.invariant-loop-i
 invariant-loop-i l = record {
   within : l.end ≤ l.at + 200 * l.i;
-  wrote : Wrote l.initial.out l.at (rows_text l.table l.i) l.out l.end
+  wrote : Wrote l.initial.out l.at (rows_text l.table l.i) l.out l.end;
 }
