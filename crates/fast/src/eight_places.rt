@@ -10,7 +10,6 @@ ghost use Rattle.fast.specs.Private.{PausedBy, Live};
 use crate::limits::{FIRST_BYTES, LATER_BYTES, PLACES};
 use crate::meaning::Meant;
 use crate::{Answer, Heard, Paused, Pausing, Place, Receiver, meaning, names, one_place, storage};
-use frame::Verdict;
 
 // The state as it came, with an answer.
 pub fn keeps(r: Receiver, answer: Answer) -> Heard
@@ -33,8 +32,8 @@ pub fn hear(r: Receiver, storage: &mut [u8], id: u32, bytes: &[u8]) -> Heard
     let eight = checked.bytes;
     let verdict = checked.verdict;
     match verdict {
-        Verdict::Bad(why) => keeps(r, Answer::BadFrame(why)),
-        Verdict::Sound(parts) => heed(r, storage, parts.source, parts.dgn, eight),
+        Err(why) => keeps(r, Answer::BadFrame(why)),
+        Ok(parts) => heed(r, storage, parts.source, parts.dgn, eight),
     }
 }
 

@@ -16,6 +16,7 @@ ghost use Rattle.fast.specs.Promises.{StartingRefusal, AnswerRefusal, PausingRef
 
 use frame::BadFrame;
 use limits::{DGNS, STORAGE_BYTES};
+use words::Refusal;
 
 // An open message's place: its pair of sender and DGN, its sequence number and length, the frame expected next, and the
 // pauses since its last frame, in milliseconds. A free place is all zeros.

@@ -15,6 +15,7 @@ ghost use Rattle.message.specs.Promises.{UnsplittableRefusal, AnnouncingRefusal,
 
 use frame::BadFrame;
 use limits::STORAGE_BYTES;
+use words::Refusal;
 
 // An open message's place: its sender, what was announced, the packet expected next, and the pauses since its last
 // frame, in milliseconds. A free place is all zeros.

@@ -11,17 +11,17 @@ use Rattle.message.specs.declared.Answer.TheVariants.{BadFrame}
 use Rattle.message.proofs.Steps.{left_as, meaning_refused, meaning_given, left}
 use Rattle.message.proofs.eight_places.hear.Goals as goal
 
-pub returns-in-Bad : goal.returns-in-Bad
-returns-in-Bad c =
+pub returns-in-Err : goal.returns-in-Err
+returns-in-Err c =
     let a = c.args in
-    let e = sym c.check-checked.ensures.answer ∙ ap told_verdict c.in-Bad.is in
-    left _ a.storage.now _ (ap (λ (m : Told Meaning). by_meaning m a.bytes.now a.r.places a.storage.now) (meaning_refused a.id _ a.bytes.now e)) c.keeps.result a.r (BadFrame c.in-Bad.why) c.keeps.ensures refl refl
+    let e = sym c.check-checked.ensures.answer ∙ ap told_verdict c.in-Err.is in
+    left _ a.storage.now _ (ap (λ (m : Told Meaning). by_meaning m a.bytes.now a.r.places a.storage.now) (meaning_refused a.id _ a.bytes.now e)) c.keeps.result a.r (BadFrame c.in-Err.why) c.keeps.ensures refl refl
 
-pub returns-in-Sound : goal.returns-in-Sound
-returns-in-Sound c =
+pub returns-in-Ok : goal.returns-in-Ok
+returns-in-Ok c =
     let a = c.args in
-    let p = c.in-Sound.parts in
-    let e = sym c.check-checked.ensures.answer ∙ ap told_verdict c.in-Sound.is in
+    let p = c.in-Ok.parts in
+    let e = sym c.check-checked.ensures.answer ∙ ap told_verdict c.in-Ok.is in
     let b : c.check-checked.result.bytes ≡ a.bytes.now = c.check-checked.ensures.data_bytes ∙ ap (λ (t : Told Parts). bytes_if t a.bytes.now) e in
     left_as
     (ap (λ (m : Told Meaning). by_meaning m a.bytes.now a.r.places a.storage.now) (meaning_given a.id p a.bytes.now e)
