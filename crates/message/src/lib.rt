@@ -7,19 +7,20 @@ mod meaning;
 mod one_place;
 mod rules;
 mod splitter;
-mod storage;
 
 ghost use Rattle.message.specs.Promises.{New, Hear, Pause, Message, Announcement, Packet};
 ghost use Rattle.message.specs.Promises.{AnswerRefusal, PausingRefusal};
 ghost use Rattle.message.specs.Promises.{UnsplittableRefusal, AnnouncingRefusal, SplittingRefusal};
 
 use frame::BadFrame;
-use limits::STORAGE_BYTES;
+use limits::{STORAGE_BYTES, STRETCH};
+use places::seats::Seat;
+use places::storage;
 use words::Refusal;
 
 // An open message's place: its sender, what was announced, the packet expected next, and the pauses since its last
 // frame, in milliseconds. A free place is all zeros.
-#[derive(Clone, Copy)]
+#[derive(Clone, Copy, PartialEq)]
 pub struct Place {
     pub sender: u8,
     pub length: u16,
@@ -200,7 +201,7 @@ impl Receiver {
         ensures { New result }
     {
         Receiver {
-            places: [one_place::free(); 8],
+            places: [Place::free(); 8],
         }
     }
 
@@ -242,16 +243,13 @@ pub fn message(storage: &[u8], answer: Answer) -> &[u8]
     ensures { Message storage.now answer result.now }
 {
     if storage.len() < STORAGE_BYTES {
-        return &storage[0..0];
+        return &storage[..0];
     }
     match answer {
-        Answer::Finished {
-            place,
-            sender: _,
-            dgn: _,
-            length,
-        } => storage::part(storage, place, length),
-        _ => &storage[0..0],
+        Answer::Finished { place, length, .. } => {
+            storage::part(storage, STRETCH, place, usize::from(length))
+        }
+        _ => &storage[..0],
     }
 }
 

@@ -7,8 +7,9 @@ ghost use Rattle.message.specs.Promises.{SplitBy};
 ghost use Rattle.message.specs.Private.{told_splits};
 
 use crate::limits::{LONGEST, PACKET_BYTES, SHORTEST, TO_ALL};
-use crate::{Split, Splitting, Unsplittable, storage};
+use crate::{Split, Splitting, Unsplittable};
 use frame::standard;
+use places::packets;
 
 #[derive(Clone, Copy)]
 pub enum Splits {
@@ -17,16 +18,14 @@ pub enum Splits {
 }
 
 // The number of packets of a message, or why it cannot be split.
+#[tactic(auto, unfolding(crate::specs::Splitter::splits))]
 pub fn splittable(size: usize, dgn: u32) -> Splits
     ensures { told_splits result ≡ splits size dgn }
 {
     if standard::GREATEST_DGN < dgn {
         return Splits::Refused(Unsplittable::NoCode);
     }
-    if size < SHORTEST as usize {
-        return Splits::Refused(Unsplittable::LengthNotSplit);
-    }
-    if (LONGEST as usize) < size {
+    if size < usize::from(SHORTEST) || usize::from(LONGEST) < size {
         return Splits::Refused(Unsplittable::LengthNotSplit);
     }
     let count = (size + 6) / 7;
@@ -56,19 +55,17 @@ pub fn refused(answer: Splitting) -> Split
 {
     Split {
         answer,
-        bytes: [0u8; 8],
+        bytes: [0; 8],
     }
 }
 
 // Packet `number` of a message of `count` packets.
+#[tactic(auto, unfolding(crate::specs::Splitter::numbered))]
 pub fn numbered(message: &[u8], number: u32, count: u8) -> Split
     requires { (count ≡ packets_of (length message.now)) × (length message.now ≤ longest) }
     ensures { SplitBy (numbered message.now number count) result }
 {
-    if number == 0 {
-        return refused(Splitting::NoSuchPacket);
-    }
-    if (count as u32) < number {
+    if number == 0 || u32::from(count) < number {
         return refused(Splitting::NoSuchPacket);
     }
     Split {
@@ -78,14 +75,11 @@ pub fn numbered(message: &[u8], number: u32, count: u8) -> Split
 }
 
 // A packet's eight bytes: its number, its part of the message, and FFh for what is left.
+#[tactic(auto, unfolding(crate::specs::Splitter::packet_bytes_of))]
 fn packet_bytes(message: &[u8], number: u8) -> [u8; 8]
     requires { (1 ≤ number) × (number ≤ packets_of (length message.now)) × (length message.now ≤ longest) }
     ensures { result ≡ packet_bytes_of message.now number }
 {
-    let from = PACKET_BYTES * (number as usize - 1);
-    let count = storage::at_most_seven(message.len() - from);
-    let mut bytes = [standard::UNUSED; 8];
-    bytes[0] = number;
-    storage::copy(&mut bytes, 1, message, from, count);
-    bytes
+    let from = PACKET_BYTES * (usize::from(number) - 1);
+    packets::filled(&[number], &message[from..])
 }
