@@ -8,7 +8,7 @@ ghost use Rattle.message.specs.Private.{PausedBy, Live};
 
 use crate::limits::{IDLE_LIMIT, PACKET_BYTES, STRETCH};
 use crate::meaning::Meant;
-use crate::{Answer, Heard, Paused, Pausing, Place, Receiver, meaning};
+use crate::{Answer, Event, Heard, NotHeard, Paused, Place, Receiver, meaning};
 use places::seats::Seat;
 use places::{seats, storage};
 
@@ -23,6 +23,7 @@ pub fn keeps(r: Receiver, answer: Answer) -> Heard
 }
 
 // A frame.
+#[tactic(auto, unfolding(crate::specs::LongMessage::meaning_of))]
 pub fn hear(r: Receiver, storage: &mut [u8], id: u32, bytes: &[u8]) -> Heard
     requires { (keeps_rules r.places ≡ true) × (room ≤ length storage.old) }
     ensures { LeftBy
@@ -31,7 +32,7 @@ pub fn hear(r: Receiver, storage: &mut [u8], id: u32, bytes: &[u8]) -> Heard
 {
     let checked = frame::check(id, bytes);
     match checked.verdict {
-        Err(why) => keeps(r, Answer::BadFrame(why)),
+        Err(why) => keeps(r, Err(NotHeard::BadFrame(why))),
         Ok(parts) => heed(r, storage, parts.source, parts.dgn, checked.bytes),
     }
 }
@@ -44,8 +45,8 @@ fn heed(r: Receiver, storage: &mut [u8], sender: u8, dgn: u32, bytes: [u8; 8]) -
         result storage.new }
 {
     match meaning::meaning_of(sender, dgn, bytes) {
-        Meant::Malformed => keeps(r, Answer::MalformedAnnouncement),
-        Meant::Other => keeps(r, Answer::NothingToDo),
+        Meant::Malformed => keeps(r, Err(NotHeard::MalformedAnnouncement)),
+        Meant::Other => keeps(r, Ok(Event::NothingToDo)),
         Meant::Announcement { sender, size, dgn } => announce(r, sender, size, dgn),
         Meant::Packet { sender, number } => packet(r, storage, sender, number, bytes),
     }
@@ -65,9 +66,9 @@ fn announce(r: Receiver, sender: u8, size: u16, dgn: u32) -> Heard
                 expected: 1,
                 idle: 0,
             };
-            keeps(replace(r, at, p), Answer::Opened)
+            keeps(replace(r, at, p), Ok(Event::Opened))
         }
-        None => keeps(r, Answer::NoPlaceFree),
+        None => keeps(r, Err(NotHeard::NoPlaceFree)),
     }
 }
 
@@ -88,7 +89,7 @@ fn packet(r: Receiver, storage: &mut [u8], sender: u8, number: u8, bytes: [u8; 8
 {
     match seats::open_by(&r.places, u64::from(sender)) {
         Some(at) => packet_at(r, storage, at, number, bytes),
-        None => keeps(r, Answer::NoOpenMessage),
+        None => keeps(r, Err(NotHeard::NoOpenMessage)),
     }
 }
 
@@ -102,7 +103,7 @@ fn packet_at(r: Receiver, storage: &mut [u8], at: usize, number: u8, bytes: [u8;
 {
     let p = r.places[at];
     if number != p.expected {
-        return keeps(replace(r, at, Place::free()), Answer::UnexpectedPacket);
+        return keeps(replace(r, at, Place::free()), Err(NotHeard::UnexpectedPacket));
     }
     let offset = PACKET_BYTES * (usize::from(number) - 1);
     let count = PACKET_BYTES.min(usize::from(p.length) - offset);
@@ -119,12 +120,12 @@ fn advance(r: Receiver, at: usize, p: Place) -> Heard
     if u16::from(p.expected) == (p.length + 6) / 7 {
         return keeps(
             replace(r, at, Place::free()),
-            Answer::Finished {
+            Ok(Event::Finished {
                 place: at,
                 sender: p.sender,
                 dgn: p.dgn,
                 length: p.length,
-            },
+            }),
         );
     }
     let next = Place {
@@ -132,7 +133,7 @@ fn advance(r: Receiver, at: usize, p: Place) -> Heard
         idle: 0,
         ..p
     };
-    keeps(replace(r, at, next), Answer::Stored)
+    keeps(replace(r, at, next), Ok(Event::Stored))
 }
 
 // A pause.
@@ -143,6 +144,6 @@ pub fn pause(mut r: Receiver, ms: u16) -> Paused
     let closed = seats::pause(&mut r.places, IDLE_LIMIT, ms);
     Paused {
         receiver: r,
-        answer: Pausing::Closed(closed),
+        answer: Ok(closed),
     }
 }

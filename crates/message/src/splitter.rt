@@ -1,39 +1,52 @@
 // The splitter's parts: whether a message can be split, and the bytes of its frames.
-ghost use Rattle.std.specs.Prelude.{◌≡◌, ◌<◌, ◌≤◌, length, replicate};
-ghost use Rattle.frame.specs.Frame.{frame_bytes};
+ghost use Rattle.std.specs.Prelude.{◌≡◌, ◌≤◌, length};
+ghost use Rattle.words.specs.Words.{told};
 ghost use Rattle.message.specs.LongMessage.{longest, packets_of};
-ghost use Rattle.message.specs.Splitter.{splits, announcement_bytes, packet_bytes_of, numbered};
-ghost use Rattle.message.specs.Promises.{SplitBy};
-ghost use Rattle.message.specs.Private.{told_splits};
+ghost use Rattle.message.specs.Splitter.{splits, announcement_bytes, announcement_of, packet_bytes_of, packet_of};
+ghost use Rattle.message.specs.Promises.{refusal_why, number_of_not_split};
 
 use crate::limits::{LONGEST, PACKET_BYTES, SHORTEST, TO_ALL};
-use crate::{Split, Splitting, Unsplittable};
+use crate::{NotSplit, Unsplittable};
 use frame::standard;
 use places::packets;
 
-#[derive(Clone, Copy)]
-pub enum Splits {
-    Into(u8),
-    Refused(Unsplittable),
+// The announcement of a message.
+#[tactic(auto, unfolding(crate::specs::Splitter::announcement_of))]
+pub fn announcement(message: &[u8], dgn: u32) -> Result<[u8; 8], Unsplittable>
+    ensures { told refusal_why result ≡ announcement_of message.now dgn }
+{
+    let count = splittable(message.len(), dgn)?;
+    Ok(announcement_bytes(message.len() as u16, dgn, count))
+}
+
+// Packet `number` of a message.
+#[tactic(auto, unfolding(crate::specs::Splitter::packet_of, crate::specs::Splitter::numbered))]
+pub fn packet(message: &[u8], dgn: u32, number: u32) -> Result<[u8; 8], NotSplit>
+    ensures { told number_of_not_split result ≡ packet_of message.now dgn number }
+{
+    let count = splittable(message.len(), dgn)?;
+    if number == 0 || u32::from(count) < number {
+        return Err(NotSplit::NoSuchPacket);
+    }
+    Ok(packet_bytes(message, number as u8))
 }
 
 // The number of packets of a message, or why it cannot be split.
 #[tactic(auto, unfolding(crate::specs::Splitter::splits))]
-pub fn splittable(size: usize, dgn: u32) -> Splits
-    ensures { told_splits result ≡ splits size dgn }
+fn splittable(size: usize, dgn: u32) -> Result<u8, Unsplittable>
+    ensures { told refusal_why result ≡ splits size dgn }
 {
     if standard::GREATEST_DGN < dgn {
-        return Splits::Refused(Unsplittable::NoCode);
+        return Err(Unsplittable::NoCode);
     }
     if size < usize::from(SHORTEST) || usize::from(LONGEST) < size {
-        return Splits::Refused(Unsplittable::LengthNotSplit);
+        return Err(Unsplittable::LengthNotSplit);
     }
-    let count = (size + 6) / 7;
-    Splits::Into(count as u8)
+    Ok(((size + 6) / 7) as u8)
 }
 
 // An announcement's eight bytes.
-pub fn announcement_bytes(size: u16, dgn: u32, count: u8) -> [u8; 8]
+fn announcement_bytes(size: u16, dgn: u32, count: u8) -> [u8; 8]
     requires { count ≡ packets_of size }
     ensures { result ≡ announcement_bytes size dgn }
 {
@@ -47,31 +60,6 @@ pub fn announcement_bytes(size: u16, dgn: u32, count: u8) -> [u8; 8]
         (dgn / 256 % 256) as u8,
         (dgn / 256 / 256 % 256) as u8,
     ]
-}
-
-// A refusal of a packet, with zeros beside it.
-pub fn refused(answer: Splitting) -> Split
-    ensures { (result.answer ≡ answer) × (result.bytes ≡ replicate frame_bytes 0) }
-{
-    Split {
-        answer,
-        bytes: [0; 8],
-    }
-}
-
-// Packet `number` of a message of `count` packets.
-#[tactic(auto, unfolding(crate::specs::Splitter::numbered))]
-pub fn numbered(message: &[u8], number: u32, count: u8) -> Split
-    requires { (count ≡ packets_of (length message.now)) × (length message.now ≤ longest) }
-    ensures { SplitBy (numbered message.now number count) result }
-{
-    if number == 0 || u32::from(count) < number {
-        return refused(Splitting::NoSuchPacket);
-    }
-    Split {
-        answer: Splitting::Bytes,
-        bytes: packet_bytes(message, number as u8),
-    }
 }
 
 // A packet's eight bytes: its number, its part of the message, and FFh for what is left.
