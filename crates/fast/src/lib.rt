@@ -9,17 +9,18 @@ mod names;
 mod one_place;
 mod rules;
 mod splitter;
-mod storage;
 
 ghost use Rattle.fast.specs.Promises.{Start, Hear, Pause, Message, FrameOf};
 ghost use Rattle.fast.specs.Promises.{StartingRefusal, AnswerRefusal, PausingRefusal, SplittingRefusal};
 
 use frame::BadFrame;
-use limits::{DGNS, STORAGE_BYTES};
+use limits::{DGNS, STORAGE_BYTES, STRETCH};
+use places::storage;
+use words::Refusal;
 
 // An open message's place: its pair of sender and DGN, its sequence number and length, the frame expected next, and the
 // pauses since its last frame, in milliseconds. A free place is all zeros.
-#[derive(Clone, Copy)]
+#[derive(Clone, Copy, PartialEq)]
 pub struct Place {
     pub sender: u8,
     pub dgn: u32,
@@ -189,20 +190,12 @@ impl Receiver {
     {
         if !names::well_formed(dgns) {
             return Started {
-                receiver: Receiver {
-                    dgns: [0u32; DGNS],
-                    named: 0,
-                    places: [one_place::free(); 8],
-                },
+                receiver: names::naming(&dgns[..0]),
                 answer: Starting::ListMalformed,
             };
         }
         Started {
-            receiver: Receiver {
-                dgns: names::filled(dgns),
-                named: dgns.len(),
-                places: [one_place::free(); 8],
-            },
+            receiver: names::naming(dgns),
             answer: Starting::Named,
         }
     }
@@ -245,16 +238,13 @@ pub fn message(storage: &[u8], answer: Answer) -> &[u8]
     ensures { Message storage.now answer result.now }
 {
     if storage.len() < STORAGE_BYTES {
-        return &storage[0..0];
+        return &storage[..0];
     }
     match answer {
-        Answer::Finished {
-            place,
-            sender: _,
-            dgn: _,
-            length,
-        } => storage::part(storage, place, length),
-        _ => &storage[0..0],
+        Answer::Finished { place, length, .. } => {
+            storage::part(storage, STRETCH, place, usize::from(length))
+        }
+        _ => &storage[..0],
     }
 }
 
@@ -271,7 +261,7 @@ pub fn frame_of(message: &[u8], sequence: u8, number: u32) -> Split
         },
         answer => Split {
             answer,
-            bytes: [0u8; 8],
+            bytes: [0; 8],
         },
     }
 }

@@ -5,20 +5,18 @@ ghost use Rattle.fast.specs.Splitter.{refusal_in, frame_bytes_of, first_bytes_of
 ghost use Rattle.fast.specs.Promises.{splitting_number};
 
 use crate::limits::{FIRST_BYTES, GREATEST_SEQUENCE, LATER_BYTES, LONGEST};
-use crate::{Splitting, storage};
-use frame::standard;
+use crate::Splitting;
+use places::packets;
 
 // Whether a message of this size has such a frame, or why not.
+#[tactic(auto, unfolding(crate::specs::Splitter::refusal_in))]
 pub fn splittable(size: usize, sequence: u8, number: u32) -> Splitting
     ensures { splitting_number result ≡ refusal_in size sequence number }
 {
     if GREATEST_SEQUENCE < sequence {
         return Splitting::NoCode;
     }
-    if size < 1 {
-        return Splitting::LengthNotSplit;
-    }
-    if (LONGEST as usize) < size {
+    if size < 1 || usize::from(LONGEST) < size {
         return Splitting::LengthNotSplit;
     }
     if ((size / 7) as u32) < number {
@@ -28,6 +26,7 @@ pub fn splittable(size: usize, sequence: u8, number: u32) -> Splitting
 }
 
 // A frame's eight bytes.
+#[tactic(auto, unfolding(crate::specs::Splitter::frame_bytes_of))]
 pub fn frame_bytes(message: &[u8], sequence: u8, number: u8) -> [u8; 8]
     requires { (length message.now ≤ longest) × (sequence ≤ greatest_sequence)
         × (number ≤ last_frame (length message.now)) }
@@ -40,28 +39,21 @@ pub fn frame_bytes(message: &[u8], sequence: u8, number: u8) -> [u8; 8]
 }
 
 // Frame 0: the sequence number, the length, the message's first six bytes, and FFh for what is left.
+#[tactic(auto, unfolding(crate::specs::Splitter::first_bytes_of))]
 fn first_bytes(message: &[u8], sequence: u8) -> [u8; 8]
     requires { (length message.now ≤ longest) × (sequence ≤ greatest_sequence) }
     ensures { result ≡ first_bytes_of message.now sequence }
 {
-    let count = storage::at_most(FIRST_BYTES, message.len());
-    let mut bytes = [standard::UNUSED; 8];
-    bytes[0] = 32 * sequence;
-    bytes[1] = message.len() as u8;
-    storage::copy(&mut bytes, 2, message, 0, count);
-    bytes
+    packets::filled(&[32 * sequence, message.len() as u8], message)
 }
 
 // Any other frame: the sequence number and its own, its part of the message, and FFh for what is left.
+#[tactic(auto, unfolding(crate::specs::Splitter::later_bytes_of))]
 fn later_bytes(message: &[u8], sequence: u8, number: u8) -> [u8; 8]
     requires { (length message.now ≤ longest) × (sequence ≤ greatest_sequence) × (1 ≤ number)
         × (number ≤ last_frame (length message.now)) }
     ensures { result ≡ later_bytes_of message.now sequence number }
 {
-    let from = FIRST_BYTES + LATER_BYTES * (number as usize - 1);
-    let count = storage::at_most(LATER_BYTES, message.len() - from);
-    let mut bytes = [standard::UNUSED; 8];
-    bytes[0] = 32 * sequence + number;
-    storage::copy(&mut bytes, 1, message, from, count);
-    bytes
+    let from = FIRST_BYTES + LATER_BYTES * (usize::from(number) - 1);
+    packets::filled(&[32 * sequence + number], &message[from..])
 }

@@ -23,11 +23,10 @@ use Rattle.message.specs.Receiver.{room, free_place, is_free, is_open_by, place_
 use Rattle.message.specs.Receiver.{keeps_rules, whole_at, After, leaves}
 use Rattle.message.specs.Receiver.{place_for, opened_at, hears_announcement, kept_at, expecting, advanced, packet_at}
 use Rattle.message.specs.Receiver.{carries, by_meaning, heard}
-use Rattle.message.specs.Promises.{told_answer, LeftBy}
+use Rattle.message.specs.Promises.{Answer, told_answer, LeftBy}
 use Rattle.message.specs.Private.{Live}
 use Rattle.message.specs.declared.Place.{Place}
 use Rattle.message.specs.declared.Receiver.{Receiver}
-use Rattle.message.specs.declared.Answer.{Answer}
 use Rattle.message.specs.declared.Heard.{Heard}
 
 -- a state with these places, and an answer that tells this, is what is left

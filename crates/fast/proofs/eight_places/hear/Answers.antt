@@ -11,21 +11,21 @@ use Rattle.fast.specs.declared.Answer.TheVariants.{BadFrame}
 use Rattle.fast.proofs.Steps.{left, left_as, meaning_refused, meaning_given}
 use Rattle.fast.proofs.eight_places.hear.Goals as goal
 
-pub returns-in-Bad : goal.returns-in-Bad
-returns-in-Bad c =
+pub returns-in-Err : goal.returns-in-Err
+returns-in-Err c =
     let a = c.args in
-    let e = sym c.check-checked.ensures.answer ∙ ap told_verdict c.in-Bad.is in
+    let e = sym c.check-checked.ensures.answer ∙ ap told_verdict c.in-Err.is in
     left _ a.storage.now _
     (ap (λ (m : Told Meaning). by_meaning m a.bytes.now a.r a.storage.now)
     (meaning_refused (names_of a.r) a.id a.bytes.now _ e)) c.keeps.result a.r
-    (BadFrame c.in-Bad.why) c.keeps.ensures refl refl
+    (BadFrame c.in-Err.why) c.keeps.ensures refl refl
 
-pub returns-in-Sound : goal.returns-in-Sound
-returns-in-Sound c =
+pub returns-in-Ok : goal.returns-in-Ok
+returns-in-Ok c =
     let a = c.args in
     let names = names_of a.r in
-    let p = c.in-Sound.parts in
-    let e = sym c.check-checked.ensures.answer ∙ ap told_verdict c.in-Sound.is in
+    let p = c.in-Ok.parts in
+    let e = sym c.check-checked.ensures.answer ∙ ap told_verdict c.in-Ok.is in
     let b : c.check-checked.result.bytes ≡ a.bytes.now =
     c.check-checked.ensures.data_bytes ∙ ap (λ (t : Told Parts). bytes_if t a.bytes.now) e in
     left_as
