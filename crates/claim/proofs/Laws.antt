@@ -2,7 +2,7 @@
 -- Assumes nothing.
 use Rattle.std.specs.Prelude.{Ok, Err, if◌then◌else◌}
 use mathlib.Core.Path.{◌≡◌, refl, sym, ap, ◌∙◌}
-use mathlib.Core.Bool.{Bool, true, false, not}
+use mathlib.Core.Bool.{Bool, true, false}
 use mathlib.Core.List.{List, [], ◌∷◌, ◌++◌}
 use Prim.Native.Nat.{ℕ, ◌-◌, ◌≤◌}
 use native.Mathlib.Omega.{arith}
@@ -18,7 +18,7 @@ use Rattle.frame.specs.Laws.{told_but_priority}
 use Rattle.frame.specs.declared.Parts.{Parts}
 use Rattle.frame.specs.declared.BadFrame.TheVariants.{IdentifierTooLarge, NotEightBytes, ReservedBitSet}
 use Rattle.frame.specs.declared.BadFrame.TheVariants.{SourceNotAllowed}
-use Rattle.words.proofs.Words.{past_refusal, before_refusal, refused_gives, gives_same, refused_same, not_flips, by_test, both_true, true_false}
+use Rattle.words.proofs.Words.{before_refusal, refused_gives, gives_same, refused_same, by_test, both_true, true_false}
 use Rattle.frame.proofs.Bytes.{length_bytes}
 use Rattle.frame.proofs.Laws as frame_laws
 use Rattle.frame.proofs.Sent.{formed_checked}
@@ -28,8 +28,8 @@ use Rattle.claim.specs.Claim.{Stand, held, claiming, silent, begun, Outcome, not
 use Rattle.claim.specs.Claim.{moved, fell_silent, outcome_of, after, pause}
 use Rattle.claim.specs.History.{Event, paused, step, run}
 use Rattle.claim.specs.Promises.{number_of_not_started, number_of_not_heard, number_of_bad_state, outcome_in, stands_at}
-use Rattle.claim.specs.Promises.{Pause, told_starting, told_hearing, told_pausing, told_standing, told_sending}
-use Rattle.claim.specs.Promises.{started_of, meets_frame, heard_of, after_told, is_sent_told, is_sound, sound_of}
+use Rattle.claim.specs.Promises.{Pause}
+use Rattle.claim.specs.Promises.{started_of, meets_frame, heard_of, after_told, is_sent_told, is_sound}
 use Rattle.claim.specs.Private.{met_of}
 use Rattle.claim.specs.Calls.{no_call, a_hear, a_pause, claim_in, events_of, events_in}
 use Rattle.claim.specs.Laws as the
@@ -195,11 +195,20 @@ keeps_rules_only c r s p q = p.answer ∙ sym q.answer
 pub holds_list_only : the.HoldsListOnly
 holds_list_only c r s p q = p.answer ∙ sym q.answer
 
+pub not_started_refusal_only : the.NotStartedRefusalOnly
+not_started_refusal_only why r s p q = p.number ∙ sym q.number
+
 pub starting_refusal_only : the.StartingRefusalOnly
 starting_refusal_only answer r s p q = p.number ∙ sym q.number
 
+pub not_heard_refusal_only : the.NotHeardRefusalOnly
+not_heard_refusal_only why r s p q = p.number ∙ sym q.number
+
 pub hearing_refusal_only : the.HearingRefusalOnly
 hearing_refusal_only answer r s p q = p.number ∙ sym q.number
+
+pub bad_state_refusal_only : the.BadStateRefusalOnly
+bad_state_refusal_only why r s p q = p.number ∙ sym q.number
 
 pub pausing_refusal_only : the.PausingRefusalOnly
 pausing_refusal_only answer r s p q = p.number ∙ sym q.number

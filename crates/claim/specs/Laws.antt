@@ -10,6 +10,7 @@ use Rattle.frame.specs.declared.Parts.{Parts}
 use Rattle.claim.specs.Claim.{held_after, claim_priority, keeps_rules, holds_list, address, claim_source, claim_id}
 use Rattle.claim.specs.Claim.{claim_bytes, held, stand_of, begun, nothing_to_do, outcome_of, after}
 use Rattle.claim.specs.History.{Event, run, history, waited_since}
+use Rattle.claim.specs.Promises.{NotStartedRefusal, NotHeardRefusal, BadStateRefusal}
 use Rattle.claim.specs.Promises.{Starting, Hearing, Pausing, Standing, Sending}
 use Rattle.claim.specs.Promises.{number_of_not_started, number_of_not_heard, number_of_bad_state}
 use Rattle.claim.specs.Promises.{Start, Hear, Pause, Stands, OurClaim, KeepsRules, HoldsList, StartingRefusal}
@@ -22,6 +23,9 @@ use Rattle.claim.specs.declared.Started.{Started}
 use Rattle.claim.specs.declared.Heard.{Heard}
 use Rattle.claim.specs.declared.Paused.{Paused}
 use Rattle.claim.specs.declared.ClaimFrame.{ClaimFrame}
+use Rattle.claim.specs.declared.NotStarted.{NotStarted}
+use Rattle.claim.specs.declared.NotHeard.{NotHeard}
+use Rattle.claim.specs.declared.BadState.{BadState}
 
 -- An answer read as number and values loses nothing (RULES 2.10).
 
@@ -63,11 +67,20 @@ KeepsRulesOnly = (c : Claim) (r s : Bool) → KeepsRules c r → KeepsRules c s 
 abbrev pub HoldsListOnly : Type 0
 HoldsListOnly = (c : Claim) (r s : Bool) → HoldsList c r → HoldsList c s → r ≡ s
 
+abbrev pub NotStartedRefusalOnly : Type 0
+NotStartedRefusalOnly = (why : NotStarted) (r s : ℕ) → NotStartedRefusal why r → NotStartedRefusal why s → r ≡ s
+
 abbrev pub StartingRefusalOnly : Type 0
 StartingRefusalOnly = (answer : Starting) (r s : ℕ) → StartingRefusal answer r → StartingRefusal answer s → r ≡ s
 
+abbrev pub NotHeardRefusalOnly : Type 0
+NotHeardRefusalOnly = (why : NotHeard) (r s : ℕ) → NotHeardRefusal why r → NotHeardRefusal why s → r ≡ s
+
 abbrev pub HearingRefusalOnly : Type 0
 HearingRefusalOnly = (answer : Hearing) (r s : ℕ) → HearingRefusal answer r → HearingRefusal answer s → r ≡ s
+
+abbrev pub BadStateRefusalOnly : Type 0
+BadStateRefusalOnly = (why : BadState) (r s : ℕ) → BadStateRefusal why r → BadStateRefusal why s → r ≡ s
 
 abbrev pub PausingRefusalOnly : Type 0
 PausingRefusalOnly = (answer : Pausing) (r s : ℕ) → PausingRefusal answer r → PausingRefusal answer s → r ≡ s

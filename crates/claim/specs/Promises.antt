@@ -60,6 +60,9 @@ pub record Start (name : ℕ) (list : List ℕ) (r : Started) : Type 0 where
   pub sent_id : r.id ≡ (frame_if (is_well_formed list) (begun name list)).id
   pub sent_bytes : r.bytes ≡ (frame_if (is_well_formed list) (begun name list)).bytes
 
+pub record NotStartedRefusal (why : NotStarted) (r : ℕ) : Type 0 where
+  pub number : r ≡ number_of_not_started why
+
 pub record StartingRefusal (answer : Starting) (r : ℕ) : Type 0 where
   pub number : r ≡ number_in (told_starting answer)
 
@@ -114,6 +117,9 @@ pub record Hear (id : ℕ) (bytes : List ℕ) (c : Claim) (r : Heard) : Type 0 w
   pub sent_id : r.id ≡ (frame_sent (heard_of id bytes c) c).id
   pub sent_bytes : r.bytes ≡ (frame_sent (heard_of id bytes c) c).bytes
 
+pub record NotHeardRefusal (why : NotHeard) (r : ℕ) : Type 0 where
+  pub number : r ≡ number_of_not_heard why
+
 pub record HearingRefusal (answer : Hearing) (r : ℕ) : Type 0 where
   pub number : r ≡ number_in (told_hearing answer)
 
@@ -144,6 +150,9 @@ told_pausing (Err why) = refused (number_of_bad_state why)
 pub record Pause (ms : ℕ) (c : Claim) (r : Paused) : Type 0 where
   pub answer : told_pausing r.answer ≡ sound_of c
   pub state : r.claim ≡ (if is_sound c then pause ms c else c)
+
+pub record BadStateRefusal (why : BadState) (r : ℕ) : Type 0 where
+  pub number : r ≡ number_of_bad_state why
 
 pub record PausingRefusal (answer : Pausing) (r : ℕ) : Type 0 where
   pub number : r ≡ number_in (told_pausing answer)

@@ -22,6 +22,8 @@ pub const HELD_AFTER: u16 = 250;
 // A claim's state: the NAME, the candidate list (`candidates` addresses, then zeros), the position in it of the address
 // that is claimed or held, the milliseconds waited there, up to 250, whether all addresses are lost, and how many
 // addresses were given up since the start: one for each contest that was lost. A contest that is won gives up nothing.
+// The list stands with its count beside it, for the fields are public, and the laws (`SameNode`, `Counts`) speak of
+// them.
 #[derive(Clone, Copy)]
 pub struct Claim {
     pub name: u64,

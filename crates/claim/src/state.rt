@@ -65,9 +65,9 @@ pub fn at_next(claim: Claim) -> Claim
 {
     Claim {
         position: claim.position + 1,
-        wait: 0,
+        wait: 0, // it begins anew
         silent: false,
-        losses: claim.losses + 1,
+        losses: claim.losses + 1, // the address before it
         ..claim
     }
 }
@@ -78,15 +78,15 @@ pub fn fallen(claim: Claim) -> Claim
     ensures { result ≡ fallen claim }
 {
     Claim {
-        position: 0,
+        position: 0, // in no list any more
         wait: 0,
         silent: true,
-        losses: claim.losses + 1,
+        losses: claim.losses + 1, // the last address too
         ..claim
     }
 }
 
-// After a pause; the sum stops at 250, and so it does not matter where else it would.
+// After a pause: the wait stops at 250, long before a sum of 16 bits would.
 #[tactic(auto, unfolding(crate::specs::Claim::pause))]
 pub fn waited(claim: Claim, ms: u16) -> Claim
     ensures { result ≡ pause ms claim }

@@ -50,6 +50,6 @@ returns-in-SendCannotClaim c =
 pub returns-in-NothingToDo : goal.returns-in-NothingToDo
 unfolding after is_sent
 returns-in-NothingToDo c = elim c.in-NothingToDo.is [
-    | inl e ↦ hear_keeps _ _ _ _ _ c.in-Ok.ensures (ap Ok e) _ refl refl c.keeps-in-NothingToDo.ensures
-    | inr e ↦ hear_keeps _ _ _ _ _ c.in-Ok.ensures (ap Ok e) _ refl refl c.keeps-in-NothingToDo.ensures
-  ]
+  | inl e ↦ hear_keeps _ _ _ _ _ c.in-Ok.ensures (ap Ok e) _ refl refl c.keeps-in-NothingToDo.ensures
+  | inr e ↦ hear_keeps _ _ _ _ _ c.in-Ok.ensures (ap Ok e) _ refl refl c.keeps-in-NothingToDo.ensures
+]

@@ -1,5 +1,5 @@
 -- `claim::Claim::our_claim` meets its contract. Assumes nothing.
-use mathlib.Core.Path.{refl, sym, ap, ◌∙◌}
+use mathlib.Core.Path.{sym, ap, ◌∙◌}
 use Rattle.words.specs.Words.{done}
 use Rattle.claim.specs.Claim.{claim_bytes}
 use Rattle.claim.specs.Promises.{told_pausing}
