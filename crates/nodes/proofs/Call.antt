@@ -3,19 +3,19 @@
 -- Assumes nothing.
 use mathlib.Core.Path.{◌≡◌, refl, sym, ap, ◌∙◌}
 use mathlib.Core.List.{List}
-use mathlib.Core.Bool.{Bool, true, false, not}
+use mathlib.Core.Bool.{true, false, not}
 use Prim.Native.Nat.{ℕ, ◌≤◌, ◌<◌}
 use borrow.Author.Tests.{lt-ltb, le-ltb, ltb-false}
 use lib.ListN.{length, get_or, take}
 use lib.Dec.{ltb}
-use Rattle.words.specs.Words.{◌=?◌, Told, refused, gives, Done, done}
+use Rattle.words.specs.Words.{◌=?◌, Told, refused, gives, done}
 use Rattle.frame.specs.Bytes.{number_of}
 use Rattle.frame.specs.Frame.{checked_of}
 use Rattle.frame.specs.Standard.{greatest_address, claim_dgn}
 use Rattle.frame.specs.declared.Parts.{Parts}
 use Rattle.words.proofs.Words.{past_refusal, refused_gives, refused_same, not_flips, by_test}
 use Rattle.nodes.specs.Table.{addresses, absent, claimed_of, paused_of, replaced_in, keeps_rules}
-use Rattle.nodes.specs.Call.{table_or, claim_in, Outcome, nothing_to_do, claim_outcome, heard_by, left_by, heard_of}
+use Rattle.nodes.specs.Call.{table_or, claim_in, nothing_to_do, claim_outcome, heard_by, left_by, heard_of}
 use Rattle.nodes.specs.Call.{table_after}
 use Rattle.nodes.specs.Call.{pause_told, table_paused, nobody, holder_of, holder_at, no_rival, rival_of, rival_at}
 use Rattle.nodes.specs.declared.Node.{Node}

@@ -26,7 +26,7 @@ use Rattle.nodes.specs.Call.{silent}
 use Rattle.nodes.specs.Call.{source_record, claim_outcome, heard_by, left_by, table_after, table_paused}
 use Rattle.nodes.specs.Call.{Holder, nobody, holder, holder_at, Rival, no_rival, rival, rival_at}
 use Rattle.nodes.specs.Promises.{number_of_bad_table, number_of_not_heard, outcome_in, holder_in, rival_in}
-use Rattle.nodes.specs.Promises.{told_hearing, told_pausing, told_looked_up, told_found_address, told_found_challenger}
+use Rattle.nodes.specs.Laws.{NotHeardRefusalOnly, BadTableRefusalOnly}
 use Rattle.nodes.specs.Laws.{HearingRefusalTold, PausingRefusalTold, LookedUpRefusalTold, FoundAddressRefusalTold}
 use Rattle.nodes.specs.Laws.{FoundChallengerRefusalTold}
 use Rattle.nodes.specs.Laws.{ToldHearingSame, ToldPausingSame, ToldLookedUpSame, ToldFoundAddressSame}
@@ -193,8 +193,14 @@ find_address_only table name r s p q = told_found_address_same r s (p.answer ∙
 pub find_challenger_only : FindChallengerOnly
 find_challenger_only table address r s p q = told_found_challenger_same r s (p.answer ∙ sym q.answer)
 
+pub not_heard_refusal_only : NotHeardRefusalOnly
+not_heard_refusal_only why r s p q = p.number ∙ sym q.number
+
 pub hearing_refusal_only : HearingRefusalOnly
 hearing_refusal_only answer r s p q = p.number ∙ sym q.number
+
+pub bad_table_refusal_only : BadTableRefusalOnly
+bad_table_refusal_only why r s p q = p.number ∙ sym q.number
 
 pub pausing_refusal_only : PausingRefusalOnly
 pausing_refusal_only answer r s p q = p.number ∙ sym q.number

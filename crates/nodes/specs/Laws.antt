@@ -13,6 +13,7 @@ use Rattle.nodes.specs.Table.{is_replaced, replaced_in, keeps_rules, sound_recor
 use Rattle.nodes.specs.Call.{claim_in, nothing_to_do, taken, challenges, held_by_lower, claim_outcome, heard_of}
 use Rattle.nodes.specs.Call.{table_after, pause_told, table_paused, Holder, nobody, holder, looked_up_of, found_of}
 use Rattle.nodes.specs.Call.{Rival, no_rival, rival, challenger_of}
+use Rattle.nodes.specs.Promises.{NotHeardRefusal, BadTableRefusal}
 use Rattle.nodes.specs.Promises.{Hearing, Pausing, LookedUp, FoundAddress, FoundChallenger}
 use Rattle.nodes.specs.Promises.{number_of_bad_table, number_of_not_heard}
 use Rattle.nodes.specs.Promises.{Empty, Hear, Pause, LookUp, FindAddress, FindChallenger, HearingRefusal}
@@ -21,6 +22,8 @@ use Rattle.nodes.specs.Promises.{told_hearing, told_pausing, told_looked_up, tol
 use Rattle.nodes.specs.declared.Node.{Node}
 use Rattle.nodes.specs.declared.Claim.{Claim}
 use Rattle.nodes.specs.declared.Effect.TheVariants.{NothingToDo}
+use Rattle.nodes.specs.declared.NotHeard.{NotHeard}
+use Rattle.nodes.specs.declared.BadTable.{BadTable}
 
 -- An answer read as number and values loses nothing (RULES 2.10).
 
@@ -67,8 +70,14 @@ FindChallengerOnly =
     (table : List Node) (address : ℕ) (r s : FoundChallenger)
     → FindChallenger table address r → FindChallenger table address s → r ≡ s
 
+abbrev pub NotHeardRefusalOnly : Type 0
+NotHeardRefusalOnly = (why : NotHeard) (r s : ℕ) → NotHeardRefusal why r → NotHeardRefusal why s → r ≡ s
+
 abbrev pub HearingRefusalOnly : Type 0
 HearingRefusalOnly = (answer : Hearing) (r s : ℕ) → HearingRefusal answer r → HearingRefusal answer s → r ≡ s
+
+abbrev pub BadTableRefusalOnly : Type 0
+BadTableRefusalOnly = (why : BadTable) (r s : ℕ) → BadTableRefusal why r → BadTableRefusal why s → r ≡ s
 
 abbrev pub PausingRefusalOnly : Type 0
 PausingRefusalOnly = (answer : Pausing) (r s : ℕ) → PausingRefusal answer r → PausingRefusal answer s → r ≡ s

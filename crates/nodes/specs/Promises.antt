@@ -43,6 +43,9 @@ pub record Hear (table : List Node) (id : ℕ) (bytes : List ℕ) (r : Hearing) 
   pub answer : told_hearing r ≡ heard_of table id bytes
   pub table_after : after ≡ table_after table id bytes
 
+pub record NotHeardRefusal (why : NotHeard) (r : ℕ) : Type 0 where
+  pub number : r ≡ number_of_not_heard why
+
 pub record HearingRefusal (answer : Hearing) (r : ℕ) : Type 0 where
   pub number : r ≡ number_in (told_hearing answer)
 
@@ -66,6 +69,9 @@ told_pausing r = told number_of_bad_table r
 pub record Pause (table : List Node) (ms : ℕ) (r : Pausing) (after : List Node) : Type 0 where
   pub answer : told_pausing r ≡ pause_told table ms
   pub table_after : after ≡ table_paused table ms
+
+pub record BadTableRefusal (why : BadTable) (r : ℕ) : Type 0 where
+  pub number : r ≡ number_of_bad_table why
 
 pub record PausingRefusal (answer : Pausing) (r : ℕ) : Type 0 where
   pub number : r ≡ number_in (told_pausing answer)

@@ -182,7 +182,7 @@ pub fn look_up(table: &[Node], address: u8) -> LookedUp
 pub fn find_address(table: &[Node], name: u64) -> FoundAddress
     ensures { FindAddress table.now name result }
 {
-    records::judge(table)?;
+    records::judge(table)?; // before the NAME is looked for
     Ok(records::address(&table[..RECORDS], name))
 }
 

@@ -193,7 +193,7 @@ fn entered(n: Node, name: u64) -> Node
     if may_challenge(n, name) {
         return Node {
             challenger: name,
-            wait: 0,
+            wait: 0, // from now on
             ..n
         };
     }
@@ -209,11 +209,10 @@ fn paused(n: Node, ms: u16) -> Node
         return n;
     }
     let wait = n.wait.saturating_add(ms);
-    if wait < TAKES_AFTER {
-        Node { wait, ..n }
-    } else {
-        held(n.challenger)
+    if TAKES_AFTER <= wait {
+        return held(n.challenger);
     }
+    Node { wait, ..n }
 }
 
 // Whether the challenger takes the record in a pause.

@@ -12,7 +12,7 @@ loop-address-init c = refl
 pub loop-address-preserved : goal.loop-address-preserved
 loop-address-preserved c =
     each_turn (claimed_at c.args.claim) c.loop-address.address c.args.records.now c.loop-address.records c.claimed.result _
-        c.loop-address.invariant c.claimed.ensures
+    c.loop-address.invariant c.claimed.ensures
 
 pub returns : goal.returns
 unfolding claimed_of
