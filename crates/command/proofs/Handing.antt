@@ -1,6 +1,6 @@
 -- What is handed in with a frame: the order of its refusals, and what is known where there is none.
 -- Assumes nothing.
-use Rattle.std.specs.Prelude.{if◌then◌else◌}
+use Rattle.std.specs.Prelude.{Ok, Err, if◌then◌else◌}
 use mathlib.Core.Path.{◌≡◌, sym, ap, ◌∙◌}
 use mathlib.Core.Bool.{true, false, not}
 use mathlib.Core.List.{List}
@@ -9,11 +9,9 @@ use borrow.Author.Tests.{leb-true}
 use lib.ListN.{length, replicate}
 use Rattle.words.specs.Words.{◌≤?◌, ◌and◌, Told, refused, gives}
 use Rattle.frame.specs.Frame.{frame_bytes, checked_of}
-use Rattle.frame.specs.Promises.{refusal_of, told_verdict, bytes_if}
+use Rattle.frame.specs.Promises.{Verdict, refusal_of, told_verdict, bytes_if}
 use Rattle.frame.specs.declared.Parts.{Parts}
 use Rattle.frame.specs.declared.BadFrame.{BadFrame}
-use Rattle.frame.specs.declared.Verdict.{Verdict}
-use Rattle.frame.specs.declared.Verdict.TheVariants.{Sound, Bad}
 use Rattle.words.proofs.Words.{past_refusal, not_flips, both_true}
 use Rattle.claim.specs.Claim.{keeps_rules, holds_list}
 use Rattle.claim.specs.Promises.{is_sound}
@@ -43,7 +41,7 @@ module _ (id : ℕ) (bytes : List ℕ) (h : Host) (c : Claim) where
   unfolding handed_in
   handed_broken k = rw k
 
-  pub handed_bad : (v : Verdict) (why : BadFrame) → keeps_rules c ≡ true → told_verdict v ≡ checked_of id (length bytes) → v ≡ Bad why
+  pub handed_bad : (v : Verdict) (why : BadFrame) → keeps_rules c ≡ true → told_verdict v ≡ checked_of id (length bytes) → v ≡ Err why
       → handed_in id bytes h c ≡ refused (refusal_of why)
   unfolding handed_in
   handed_bad v why k t e =
@@ -56,7 +54,7 @@ module _ (id : ℕ) (bytes : List ℕ) (h : Host) (c : Claim) where
   handed_lists parts k e = rw (k, e)
 
   pub handed_sound : (v : Verdict) (parts : Parts) (eight : List ℕ) (r : Handed) → keeps_rules c ≡ true → told_verdict v ≡ checked_of id (length bytes)
-      → v ≡ Sound parts → eight ≡ bytes_if (checked_of id (length bytes)) bytes
+      → v ≡ Ok parts → eight ≡ bytes_if (checked_of id (length bytes)) bytes
       → HandedBy (if not (holds_list c and is_well_formed h) then refused 16 else gives parts) eight r
       → HandedBy (handed_in id bytes h c) bytes r
   handed_sound v parts eight r k t e b p =

@@ -8,7 +8,7 @@ ghost use Rattle.command.specs.Private.{HandedBy};
 
 use crate::{Host, hosted};
 use claim::Claim;
-use frame::{BadFrame, Parts, Verdict};
+use frame::{BadFrame, Parts};
 
 #[derive(Clone, Copy)]
 pub enum Handing {
@@ -35,8 +35,8 @@ pub fn hand_in(host: Host, claim: Claim, id: u32, bytes: &[u8]) -> Handed
     let verdict = checked.verdict;
     let eight = checked.bytes;
     match verdict {
-        Verdict::Bad(why) => bare(Handing::BadFrame(why)),
-        Verdict::Sound(parts) => lists(host, claim, parts, eight),
+        Err(why) => bare(Handing::BadFrame(why)),
+        Ok(parts) => lists(host, claim, parts, eight),
     }
 }
 

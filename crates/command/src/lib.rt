@@ -16,6 +16,7 @@ use address::Address;
 use claim::Claim;
 use frame::{BadFrame, standard};
 use handed::Handing;
+use words::Refusal;
 
 // A hosted list has at most 16 entries.
 pub const ENTRIES: usize = 16;
