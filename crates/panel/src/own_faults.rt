@@ -83,10 +83,8 @@ pub fn pause(faults: Faults, claim: Claim, gap: u16, streams: &mut Streams) -> F
 // Step after step: a pause has 1,311 at most.
 fn take_steps(sender: Sender, claim: Claim, steps: u32, streams: &mut Streams) -> Sender {
     let mut sender = sender;
-    let mut turns = steps;
-    while turns > 0 {
+    for _ in 0..steps {
         sender = take_step(sender, claim, streams);
-        turns -= 1;
     }
     sender
 }
