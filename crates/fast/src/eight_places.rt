@@ -8,7 +8,7 @@ ghost use Rattle.fast.specs.Private.{PausedBy, Live};
 
 use crate::limits::{FIRST_BYTES, IDLE_LIMIT, LATER_BYTES, STRETCH};
 use crate::meaning::Meant;
-use crate::{Answer, Heard, Paused, Pausing, Place, Receiver, meaning, names, one_place};
+use crate::{Answer, Event, Heard, NotHeard, Paused, Place, Receiver, meaning, names, one_place};
 use places::seats::Seat;
 use places::{seats, storage};
 
@@ -23,6 +23,7 @@ pub fn keeps(r: Receiver, answer: Answer) -> Heard
 }
 
 // A frame.
+#[tactic(auto, unfolding(crate::specs::FastPacket::meaning_of))]
 pub fn hear(r: Receiver, storage: &mut [u8], id: u32, bytes: &[u8]) -> Heard
     requires { (keeps_rules r ≡ true) × (room ≤ length storage.old) }
     ensures { LeftBy
@@ -31,7 +32,7 @@ pub fn hear(r: Receiver, storage: &mut [u8], id: u32, bytes: &[u8]) -> Heard
 {
     let checked = frame::check(id, bytes);
     match checked.verdict {
-        Err(why) => keeps(r, Answer::BadFrame(why)),
+        Err(why) => keeps(r, Err(NotHeard::BadFrame(why))),
         Ok(parts) => heed(r, storage, parts.source, parts.dgn, checked.bytes),
     }
 }
@@ -45,10 +46,10 @@ fn heed(r: Receiver, storage: &mut [u8], sender: u8, dgn: u32, bytes: [u8; 8]) -
         result storage.new }
 {
     if !names::is_named(dgn, names::names_of(&r)) {
-        return keeps(r, Answer::NothingToDo);
+        return keeps(r, Ok(Event::NothingToDo));
     }
     match meaning::meaning_of(sender, dgn, bytes) {
-        Meant::Malformed => keeps(r, Answer::MalformedLength),
+        Meant::Malformed => keeps(r, Err(NotHeard::MalformedLength)),
         Meant::Begins {
             sender,
             dgn,
@@ -89,7 +90,7 @@ fn begins(r: Receiver, storage: &mut [u8], p: Place, bytes: [u8; 8]) -> Heard
 {
     match seats::place_for(&r.places, p.key()) {
         Some(at) => enters_at(r, storage, at, p, bytes),
-        None => keeps(r, Answer::NoPlaceFree),
+        None => keeps(r, Err(NotHeard::NoPlaceFree)),
     }
 }
 
@@ -121,15 +122,15 @@ fn entered(r: Receiver, at: usize, p: Place) -> Heard
     if usize::from(p.length) <= FIRST_BYTES {
         return keeps(
             replace(r, at, Place::free()),
-            Answer::Finished {
+            Ok(Event::Finished {
                 place: at,
                 sender: p.sender,
                 dgn: p.dgn,
                 length: p.length,
-            },
+            }),
         );
     }
-    keeps(replace(r, at, p), Answer::Opened)
+    keeps(replace(r, at, p), Ok(Event::Opened))
 }
 
 // A frame of number 1 or more.
@@ -147,7 +148,7 @@ fn continues(
 {
     match seats::open_by(&r.places, pair) {
         Some(at) => frame_at(r, storage, at, sequence, number, bytes),
-        None => keeps(r, Answer::NoOpenMessage),
+        None => keeps(r, Err(NotHeard::NoOpenMessage)),
     }
 }
 
@@ -168,7 +169,10 @@ fn frame_at(
 {
     let p = r.places[at];
     if sequence != p.sequence || number != p.expected {
-        return keeps(replace(r, at, Place::free()), Answer::UnexpectedFrame);
+        return keeps(
+            replace(r, at, Place::free()),
+            Err(NotHeard::UnexpectedFrame),
+        );
     }
     let offset = FIRST_BYTES + LATER_BYTES * (usize::from(number) - 1);
     let count = LATER_BYTES.min(usize::from(p.length) - offset);
@@ -185,12 +189,12 @@ fn advance(r: Receiver, at: usize, p: Place) -> Heard
     if p.expected == p.length / 7 {
         return keeps(
             replace(r, at, Place::free()),
-            Answer::Finished {
+            Ok(Event::Finished {
                 place: at,
                 sender: p.sender,
                 dgn: p.dgn,
                 length: p.length,
-            },
+            }),
         );
     }
     let next = Place {
@@ -198,7 +202,7 @@ fn advance(r: Receiver, at: usize, p: Place) -> Heard
         idle: 0,
         ..p
     };
-    keeps(replace(r, at, next), Answer::Stored)
+    keeps(replace(r, at, next), Ok(Event::Stored))
 }
 
 // A pause.
@@ -209,6 +213,6 @@ pub fn pause(mut r: Receiver, ms: u16) -> Paused
     let closed = seats::pause(&mut r.places, IDLE_LIMIT, ms);
     Paused {
         receiver: r,
-        answer: Pausing::Closed(closed),
+        answer: Ok(closed),
     }
 }

@@ -1,33 +1,43 @@
 // The splitter's parts: whether a message can be split, and the bytes of its frames.
-ghost use Rattle.std.specs.Prelude.{◌≡◌, ◌<◌, ◌≤◌, length};
+ghost use Rattle.std.specs.Prelude.{◌≡◌, ◌≤◌, length};
+ghost use Rattle.words.specs.Words.{told, number_of_answer};
 ghost use Rattle.fast.specs.FastPacket.{longest, last_frame, greatest_sequence};
-ghost use Rattle.fast.specs.Splitter.{refusal_in, frame_bytes_of, first_bytes_of, later_bytes_of};
-ghost use Rattle.fast.specs.Promises.{splitting_number};
+ghost use Rattle.fast.specs.Splitter.{refusal_in, frame_of, frame_bytes_of, first_bytes_of, later_bytes_of};
+ghost use Rattle.fast.specs.Promises.{number_of_not_split};
 
+use crate::NotSplit;
 use crate::limits::{FIRST_BYTES, GREATEST_SEQUENCE, LATER_BYTES, LONGEST};
-use crate::Splitting;
 use places::packets;
+
+// Frame `number` of a message.
+#[tactic(auto, unfolding(crate::specs::Splitter::frame_of))]
+pub fn frame(message: &[u8], sequence: u8, number: u32) -> Result<[u8; 8], NotSplit>
+    ensures { told number_of_not_split result ≡ frame_of message.now sequence number }
+{
+    splittable(message.len(), sequence, number)?;
+    Ok(frame_bytes(message, sequence, number as u8))
+}
 
 // Whether a message of this size has such a frame, or why not.
 #[tactic(auto, unfolding(crate::specs::Splitter::refusal_in))]
-pub fn splittable(size: usize, sequence: u8, number: u32) -> Splitting
-    ensures { splitting_number result ≡ refusal_in size sequence number }
+fn splittable(size: usize, sequence: u8, number: u32) -> Result<(), NotSplit>
+    ensures { number_of_answer number_of_not_split result ≡ refusal_in size sequence number }
 {
     if GREATEST_SEQUENCE < sequence {
-        return Splitting::NoCode;
+        return Err(NotSplit::NoCode);
     }
     if size < 1 || usize::from(LONGEST) < size {
-        return Splitting::LengthNotSplit;
+        return Err(NotSplit::LengthNotSplit);
     }
     if ((size / 7) as u32) < number {
-        return Splitting::NoSuchFrame;
+        return Err(NotSplit::NoSuchFrame);
     }
-    Splitting::Bytes
+    Ok(())
 }
 
 // A frame's eight bytes.
 #[tactic(auto, unfolding(crate::specs::Splitter::frame_bytes_of))]
-pub fn frame_bytes(message: &[u8], sequence: u8, number: u8) -> [u8; 8]
+fn frame_bytes(message: &[u8], sequence: u8, number: u8) -> [u8; 8]
     requires { (length message.now ≤ longest) × (sequence ≤ greatest_sequence)
         × (number ≤ last_frame (length message.now)) }
     ensures { result ≡ frame_bytes_of message.now sequence number }

@@ -47,7 +47,6 @@ use Rattle.message.specs.declared.Event.TheVariants.{NothingToDo, Opened, Stored
 use Rattle.message.specs.declared.NotHeard.{NotHeard}
 use Rattle.message.specs.declared.NotHeard.TheVariants.{StorageTooShort, BadFrame, MalformedAnnouncement}
 use Rattle.message.specs.declared.NotHeard.TheVariants.{NoPlaceFree, NoOpenMessage, UnexpectedPacket}
-use Rattle.message.specs.declared.NotHeard.TheVariants as NotHeard
 use Rattle.message.specs.declared.BadState.TheVariants as BadState
 use Rattle.message.specs.declared.Unsplittable.{Unsplittable}
 use Rattle.message.specs.declared.Unsplittable.TheVariants.{NoCode, LengthNotSplit}

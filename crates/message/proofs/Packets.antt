@@ -1,21 +1,17 @@
 -- The splitter, case by case, and the bytes of a packet.
 -- Assumes nothing.
-use mathlib.Core.Path.{◌≡◌, sym, ap, ◌∙◌}
-use mathlib.Core.List.{List, ◌∷◌, ◌++◌}
+use mathlib.Core.Path.{◌≡◌, sym, ◌∙◌}
+use mathlib.Core.List.{List}
 use mathlib.Core.Logic.{◌⊎◌, inl, inr}
-use Prim.Native.Nat.{ℕ, suc, ◌+◌, ◌-◌, ◌*◌, ◌≤◌, ◌<◌, min}
+use Prim.Native.Nat.{ℕ, ◌≤◌, ◌<◌}
 use native.Mathlib.Omega.{arith}
 use borrow.Author.Tests.{eq-eqb, ne_eqb, lt-ltb, le-ltb, ltb-true, ltb-false}
-use lib.ListN.{length, take, drop, replicate, length-drop}
-use lib.Seq.{paste}
-use Rattle.words.specs.Words.{◌<?◌, Told, refused, gives}
-use Rattle.frame.specs.Frame.{frame_bytes}
+use lib.ListN.{length}
+use Rattle.words.specs.Words.{◌<?◌, refused, gives}
 use Rattle.frame.specs.Identifier.{greatest_dgn}
-use Rattle.frame.specs.Standard.{unused}
 use Rattle.words.proofs.Words.{refused_gives, gives_same, by_test}
 use Rattle.words.proofs.Tests.{tests}
-use Rattle.words.proofs.Lists.{filled}
-use Rattle.message.specs.LongMessage.{shortest, longest, packet_bytes, packets_of}
+use Rattle.message.specs.LongMessage.{shortest, longest, packets_of}
 use Rattle.message.specs.Splitter.{splits, numbered, announcement_bytes, packet_bytes_of}
 use Rattle.message.specs.Splitter.{announcement_of, packet_of}
 

@@ -17,16 +17,13 @@ use Rattle.message.specs.declared.Event.TheVariants.{NothingToDo, Opened, Stored
 use Rattle.message.specs.declared.NotHeard.{NotHeard}
 use Rattle.message.specs.declared.NotHeard.TheVariants.{StorageTooShort, BadFrame, MalformedAnnouncement}
 use Rattle.message.specs.declared.NotHeard.TheVariants.{NoPlaceFree, NoOpenMessage, UnexpectedPacket}
-use Rattle.message.specs.declared.NotHeard.TheVariants as NotHeard
 use Rattle.message.specs.declared.Heard.{Heard}
 use Rattle.message.specs.declared.BadState.{BadState}
-use Rattle.message.specs.declared.BadState.TheVariants as BadState
 use Rattle.message.specs.declared.Paused.{Paused}
 use Rattle.message.specs.declared.Unsplittable.{Unsplittable}
 use Rattle.message.specs.declared.Unsplittable.TheVariants.{NoCode, LengthNotSplit}
 use Rattle.message.specs.declared.Announced.{Announced}
 use Rattle.message.specs.declared.NotSplit.{NotSplit}
-use Rattle.message.specs.declared.NotSplit.TheVariants as NotSplit
 use Rattle.message.specs.declared.Split.{Split}
 
 -- Receiver::new

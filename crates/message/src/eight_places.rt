@@ -103,7 +103,10 @@ fn packet_at(r: Receiver, storage: &mut [u8], at: usize, number: u8, bytes: [u8;
 {
     let p = r.places[at];
     if number != p.expected {
-        return keeps(replace(r, at, Place::free()), Err(NotHeard::UnexpectedPacket));
+        return keeps(
+            replace(r, at, Place::free()),
+            Err(NotHeard::UnexpectedPacket),
+        );
     }
     let offset = PACKET_BYTES * (usize::from(number) - 1);
     let count = PACKET_BYTES.min(usize::from(p.length) - offset);

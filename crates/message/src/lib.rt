@@ -244,15 +244,10 @@ pub fn message(storage: &[u8], answer: Answer) -> &[u8]
 pub fn announcement(message: &[u8], dgn: u32) -> Announced
     ensures { Announcement message.now dgn result }
 {
-    match splitter::announcement(message, dgn) {
-        Ok(bytes) => Announced {
-            answer: Ok(()),
-            bytes,
-        },
-        Err(why) => Announced {
-            answer: Err(why),
-            bytes: [0; 8],
-        },
+    let announcement = splitter::announcement(message, dgn);
+    Announced {
+        answer: announcement.map(|_| ()),
+        bytes: announcement.unwrap_or([0; 8]),
     }
 }
 
@@ -261,14 +256,9 @@ pub fn announcement(message: &[u8], dgn: u32) -> Announced
 pub fn packet(message: &[u8], dgn: u32, number: u32) -> Split
     ensures { Packet message.now dgn number result }
 {
-    match splitter::packet(message, dgn, number) {
-        Ok(bytes) => Split {
-            answer: Ok(()),
-            bytes,
-        },
-        Err(why) => Split {
-            answer: Err(why),
-            bytes: [0; 8],
-        },
+    let packet = splitter::packet(message, dgn, number);
+    Split {
+        answer: packet.map(|_| ()),
+        bytes: packet.unwrap_or([0; 8]),
     }
 }

@@ -24,9 +24,9 @@ put_together head message count h e =
     let both : n + length part ≡ length (head ++ part) = omega (arith, length-append head part) in
     let left : frame_bytes - (0 + (n + length part)) ≡ room - count = omega arith in
     let rest : drop (0 + (n + length part)) empty ≡ drop count (replicate room unused) =
-        drop-replicate (0 + (n + length part)) frame_bytes unused
-        ∙ ap (λ (m : ℕ). replicate m unused) left
-        ∙ sym (drop-replicate count room unused) in
+    drop-replicate (0 + (n + length part)) frame_bytes unused
+    ∙ ap (λ (m : ℕ). replicate m unused) left
+    ∙ sym (drop-replicate count room unused) in
     ap (λ (k : ℕ). paste (paste empty 0 head n) k part (length part)) (sym (zero-add n))
     ∙ paste-paste empty 0 head part n (length part) refl refl (omega arith)
     ∙ paste_all empty 0 (head ++ part) (n + length part) both

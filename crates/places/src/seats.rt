@@ -7,9 +7,13 @@ ghost use Rattle.places.specs.Seats.{held_by, same_holder, one_each, place_for, 
 // A place: free, or open for the message of one key.
 pub trait Seat: Copy {
     ghost is_free: { Self → Bool };
+
     ghost key_of: { Self → ℕ };
+
     ghost idle_after: { ℕ → Self → ℕ };
+
     ghost blank: { Self };
+
     ghost waited: { ℕ → Self → Self };
 
     fn is_free(&self) -> bool

@@ -1,5 +1,5 @@
 -- `message::splitter::announcement` meets its contract. Assumes nothing.
-use Rattle.std.proofs.Common.{◌≡◌, sym, ap, ◌∙◌, length, arith}
+use Rattle.std.proofs.Common.{sym, ap, ◌∙◌, length, arith}
 use Rattle.words.specs.Words.{told}
 use Rattle.message.specs.Promises.{refusal_why}
 use Rattle.message.proofs.Packets.{splits_given}

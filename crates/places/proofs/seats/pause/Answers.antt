@@ -14,8 +14,7 @@ loop-place-preserved g c =
     let p = c.place-item.result in
     let f = closes s.is_free s.idle_after a.limit a.ms in
     let t = idled s.is_free s.idle_after s.blank s.waited a.limit a.ms in
-    let h : l.place-index < length ps = omega arith in
-    (
+    let h : l.place-index < length ps = omega arith in (
       elim c.if-closes.branch [
         | then-closes w ↦ count_turn f t ps l.place-items l.place-index p c.closes.result l.closed c.if-closes.closed h l.invariant.2 l.invariant.0 c.closes.ensures (w.closed-is ∙ rw w.if-closes.true)
         | else-closes w ↦ count_turn f t ps l.place-items l.place-index p c.closes.result l.closed c.if-closes.closed h l.invariant.2 l.invariant.0 c.closes.ensures (w.closed-is ∙ rw w.if-closes.false (omega arith))
