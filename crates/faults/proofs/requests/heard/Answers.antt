@@ -4,7 +4,8 @@ use Rattle.words.specs.Words.{refused}
 use Rattle.claim.specs.Claim.{held, silent}
 use Rattle.claim.specs.Promises.{told_standing}
 use Rattle.faults.specs.Private.{told_meant}
-use Rattle.faults.specs.declared.Requesting.TheVariants.{BrokenState, ListMalformed}
+use Rattle.std.specs.Prelude.{Err}
+use Rattle.faults.specs.declared.NotHeard.TheVariants.{BrokenState, ListMalformed}
 use Rattle.faults.proofs.Steps.{bare_requested_lem, requested_as, stands_told, heard_refused, heard_stands}
 use Rattle.faults.proofs.Steps.{heard_unheld}
 use Rattle.faults.proofs.requests.heard.Goals as goal
@@ -12,21 +13,21 @@ use Rattle.faults.proofs.requests.heard.Goals as goal
 pub returns-in-BrokenState : goal.returns-in-BrokenState
 returns-in-BrokenState c =
     let a = c.args in
-    let e = stands_told _ _ c.stands-standing.ensures ∙ ap told_standing c.in-BrokenState.is in
+    let e = stands_told _ _ c.stands.ensures ∙ ap told_standing c.in-BrokenState.is in
     requested_as (heard_refused a.dgn a.bytes a.claim a.s 2 e)
-    (bare_requested_lem (refused 2) BrokenState a.s _ refl refl c.bare.ensures)
+    (bare_requested_lem (refused 2) (Err BrokenState) a.s _ refl refl c.bare.ensures)
 
 pub returns-in-ListMalformed : goal.returns-in-ListMalformed
 returns-in-ListMalformed c =
     let a = c.args in
-    let e = stands_told _ _ c.stands-standing.ensures ∙ ap told_standing c.in-ListMalformed.is in
+    let e = stands_told _ _ c.stands.ensures ∙ ap told_standing c.in-ListMalformed.is in
     requested_as (heard_refused a.dgn a.bytes a.claim a.s 16 e)
-    (bare_requested_lem (refused 16) ListMalformed a.s _ refl refl c.bare-in-ListMalformed.ensures)
+    (bare_requested_lem (refused 16) (Err ListMalformed) a.s _ refl refl c.bare-in-ListMalformed.ensures)
 
 pub returns-in-Held : goal.returns-in-Held
 returns-in-Held c =
     let a = c.args in
-    let e = stands_told _ _ c.stands-standing.ensures ∙ ap told_standing c.in-Held.is in
+    let e = stands_told _ _ c.stands.ensures ∙ ap told_standing c.in-Held.is in
     requested_as
     (heard_stands a.dgn a.bytes a.claim a.s (held c.in-Held.address) (told_meant c.meant_by.result) e
     c.meant_by.ensures)
@@ -35,7 +36,7 @@ returns-in-Held c =
 pub returns-in-Claiming : goal.returns-in-Claiming
 returns-in-Claiming c =
     let a = c.args in
-    let e = stands_told _ _ c.stands-standing.ensures ∙ ap told_standing c.in-Claiming.is in
+    let e = stands_told _ _ c.stands.ensures ∙ ap told_standing c.in-Claiming.is in
     requested_as
     (heard_unheld a.dgn a.bytes a.claim a.s _ (told_meant c.meant_by-in-Claiming.result) e c.meant_by-in-Claiming.ensures)
     c.nowhere.ensures
@@ -43,7 +44,7 @@ returns-in-Claiming c =
 pub returns-in-Silent : goal.returns-in-Silent
 returns-in-Silent c =
     let a = c.args in
-    let e = stands_told _ _ c.stands-standing.ensures ∙ ap told_standing c.in-Silent.is in
+    let e = stands_told _ _ c.stands.ensures ∙ ap told_standing c.in-Silent.is in
     requested_as
     (heard_stands a.dgn a.bytes a.claim a.s silent (told_meant c.meant_by-in-Silent.result) e
     c.meant_by-in-Silent.ensures)
