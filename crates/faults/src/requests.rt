@@ -159,7 +159,7 @@ pub fn without_host(faults: Requested) -> Replied
     Replied {
         faults,
         host: command::Requested {
-            answer: command::Requesting::NothingToDo,
+            answer: Ok(command::Response::NothingToDo),
             positions: Positions {
                 at: [0; 16],
                 count: 0,
