@@ -1,6 +1,6 @@
 -- The statements of specs/Laws.antt, proved; those about a stream in blocks are in Feeding.
 -- Assumes nothing.
-use Rattle.std.specs.Prelude.{if◌then◌else◌}
+use Rattle.std.specs.Prelude.{if◌then◌else◌, Ok, Err}
 use mathlib.Core.Path.{◌≡◌, refl, sym, ap, ◌∙◌}
 use mathlib.Core.Bool.{Bool, true, false, not}
 use mathlib.Core.List.{List, [], ◌∷◌, ◌++◌, map}
@@ -16,13 +16,13 @@ use Rattle.capture.specs.Digits.{number_read, are_digits, number}
 use Rattle.capture.specs.Line.{Frame, line_of, line_read, IsLineOf, has_shape, gap_read, bytes_read, gap_in, id_in}
 use Rattle.capture.specs.Line.{data_in}
 use Rattle.capture.specs.Stream.{newline, longest_line, most_lines, lines_from, Piece, piece_of, lines_of, piece_read}
-use Rattle.capture.specs.Promises.{told_reading, frame_in, frame_if, Write}
+use Rattle.capture.specs.Promises.{Reading, told_reading, frame_in, frame_if, Write}
 use Rattle.capture.specs.Laws.{ToldReadingSame, TakeApartOnly, WriteOnly, NewOnly, NextOnly, LastOnly}
-use Rattle.capture.specs.Laws.{ReadingRefusalOnly, MalformedKeeps, NumberBack, DigitsBack, SoundExactly}
+use Rattle.capture.specs.Laws.{NotReadRefusalOnly, ReadingRefusalOnly, MalformedKeeps, NumberBack, DigitsBack, SoundExactly}
 use Rattle.capture.specs.Laws.{MalformedExactly, OnlyNineteen, OneLine, OneFrame, SoundLength, WrittenLength}
 use Rattle.capture.specs.Laws.{text_of, WrittenTakenApart, TakenApartWritten, NoBytesNoLines, FinalNewline}
 use Rattle.capture.specs.Laws.{NoMoreLines, PieceSays}
-use Rattle.capture.specs.declared.Reading.{Reading}
+use Rattle.capture.specs.declared.NotRead.TheVariants.{Malformed}
 use Rattle.capture.specs.declared.Line.{Line}
 use Rattle.capture.specs.declared.Text.{Text}
 use Rattle.capture.proofs.Digits.{spelled_read, read_spelled, read_below}
@@ -33,13 +33,13 @@ use Rattle.capture.proofs.OneSpelling.{written_read, read_written}
 -- An answer is read back from what it tells.
 
 reading_back : Told Frame → Reading
-reading_back (gives f) = Reading.Sound
-reading_back (refused n) = Reading.Malformed
+reading_back (gives f) = Ok tt
+reading_back (refused n) = Err Malformed
 
 reading_back_lem : (f : Frame) (r : Reading) → reading_back (told_reading r f) ≡ r
 unfolding reading_back
-reading_back_lem f Reading.Sound = refl
-reading_back_lem f Reading.Malformed = refl
+reading_back_lem f (Ok done) = refl
+reading_back_lem f (Err Malformed) = refl
 
 pub told_reading_same : ToldReadingSame
 told_reading_same f r s e = sym (reading_back_lem f r) ∙ ap reading_back e ∙ reading_back_lem f s
@@ -76,6 +76,9 @@ next_only block at c r s p q =
 
 pub last_only : LastOnly
 last_only c r s p q = p.answer ∙ sym q.answer
+
+pub not_read_refusal_only : NotReadRefusalOnly
+not_read_refusal_only why r s p q = p.number ∙ sym q.number
 
 pub reading_refusal_only : ReadingRefusalOnly
 reading_refusal_only answer r s p q = p.number ∙ sym q.number

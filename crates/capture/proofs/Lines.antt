@@ -1,6 +1,7 @@
 -- A line and its frame: each gives the other back. Then the turns of the loops that read it.
 -- Assumes nothing.
-use Rattle.std.specs.Prelude.{if◌then◌else◌}
+use Rattle.std.specs.List.{starts_with}
+use Rattle.std.specs.Prelude.{eqb, if◌then◌else◌, Ok, Err}
 use mathlib.Core.Path.{◌≡◌, refl, sym, ap, ◌∙◌}
 use mathlib.Core.Bool.{true, false, not}
 use mathlib.Core.List.{List, [], ◌∷◌, ◌++◌, append_assoc, append-nil}
@@ -8,38 +9,30 @@ use Prim.Native.Nat.{ℕ, suc, ◌+◌, ◌-◌, ◌*◌, ◌^◌, ◌≤◌, �
 use native.Mathlib.Nat.{lt_of_lt_of_le, pow-le-pow_right}
 use native.Mathlib.Numerals.{add-one}
 use native.Mathlib.Omega.{arith}
-use borrow.Author.Tests.{eq-eqb, ne_eqb, leb-true, ltb-false, eqb-true}
+use borrow.Author.Tests.{eq-eqb, ne_eqb, leb-true, ltb-false, eqb-true, eqb-false}
 use lib.Dec.{lit<, lit≤}
-use lib.ListN.{length, get_or, take, drop, set, length-take, drop_of_length-le}
-use lib.Seq.{drop-cons, drop-drop, take-suc-set, take_all}
+use lib.ListN.{length, take, drop, set, length-take}
+use lib.Seq.{drop-drop, take-suc-set, take_all}
 use Rattle.words.specs.Words.{given◌then◌, ◌≤?◌, ◌<?◌, ◌=?◌, Told, refused, gives}
 use Rattle.text.specs.Text.{decimal_width}
 use Rattle.capture.specs.Digits.{number_read}
 use Rattle.capture.specs.Line.{has_shape, begins_with, gap_read, bytes_read, gap_in, id_in, data_in, line_read}
-use Rattle.capture.specs.Promises.{TakeApart, frame_in, frame_if}
-use Rattle.capture.specs.Private.{blank}
+use Rattle.capture.specs.declared.NotRead.TheVariants.{Malformed}
+use Rattle.capture.specs.Promises.{TakeApart, frame_in, frame_if, no_frame}
 use Rattle.capture.specs.declared.Line.{Line}
-use Rattle.capture.specs.declared.Reading.TheVariants as Reading
-use Rattle.words.proofs.Words.{both_true, past_refusal, not_flips, gives_same, refused_gives}
+use Rattle.words.proofs.Words.{by_test, both_true, past_refusal, not_flips, gives_same, refused_gives}
 use Rattle.capture.proofs.Digits.{read_below}
 
--- the loop that looks for a key
+-- a key stands at the beginning as the library has it
 
-pub begins_pass : (key line : List ℕ) (at i : ℕ) → i < length key → at + i < length line → get_or line (at + i) 0 ≡ get_or key i 0
-    → begins_with (drop i key) (drop (at + i) line) ≡ begins_with (drop (i + 1) key) (drop (at + (i + 1)) line)
+pub begins_is : (key line : List ℕ) → starts_with eqb line key ≡ begins_with key line
 unfolding begins_with
-begins_pass key line at i h l e =
-    let s : at + (i + 1) ≡ suc (at + i) = omega arith in
-    rw (s, add-one, drop-cons key i 0 h, drop-cons line (at + i) 0 l, eq-eqb (get_or line (at + i) 0) (get_or key i 0) e)
-
-pub begins_stop : (key line : List ℕ) (at i : ℕ) → i < length key → at + i < length line → (get_or line (at + i) 0 ≡ get_or key i 0 → ⊥)
-    → begins_with (drop i key) (drop (at + i) line) ≡ false
-unfolding begins_with
-begins_stop key line at i h l e = rw (drop-cons key i 0 h, drop-cons line (at + i) 0 l, ne_eqb (get_or line (at + i) 0) (get_or key i 0) e)
-
-pub begins_end : (key line : List ℕ) (i : ℕ) → length key ≤ i → begins_with (drop i key) line ≡ true
-unfolding begins_with
-begins_end key line i h = rw (drop_of_length-le key h)
+begins_is [] line = refl
+begins_is (k ∷ key) [] = refl
+begins_is (k ∷ key) (c ∷ line) =
+    by_test (k =? c)
+    (λ e. rw (begins_is key line, e, eq-eqb c k (sym (eqb-true k c e))))
+    (λ e. rw (begins_is key line, e, ne_eqb c k (λ s. eqb-false k c e (sym s))))
 
 -- the loop that reads bytes of two digits each: those read, before those to read
 
@@ -116,10 +109,10 @@ module _ (line : List ℕ) where
 
   -- and what it promises
 
-  pub blank_line : line_read line ≡ refused 19 → TakeApart line blank
-  blank_line e = record { answer = sym e; frame = sym (ap frame_if e) }
+  pub blank_line : (r : Line) → r.answer ≡ Err Malformed → frame_in r ≡ no_frame → line_read line ≡ refused 19 → TakeApart line r
+  blank_line r a n e = record { answer = rw a (sym e); frame = n ∙ sym (ap frame_if e) }
 
-  pub sound_line : (r : Line) → r.answer ≡ Reading.Sound → line_read line ≡ gives (frame_in r) → TakeApart line r
+  pub sound_line : (r : Line) → r.answer ≡ Ok tt → line_read line ≡ gives (frame_in r) → TakeApart line r
   sound_line r a e = record { answer = rw a (sym e); frame = sym (ap frame_if e) }
 
 -- a line of a frame has 39 to 43 bytes

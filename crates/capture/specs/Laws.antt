@@ -1,6 +1,6 @@
 -- The laws of this crate (RULES 11.1 to 11.7), each a named statement. proofs/Laws.antt and proofs/Feeding.antt have a
 -- proof of each, under the same name written small.
-use Rattle.std.specs.Prelude.{◌≡◌, List, [], ◌∷◌, ◌++◌, ◌↔◌, ℕ, ◌-◌, ◌^◌, ◌≤◌, ◌<◌, length, take}
+use Rattle.std.specs.Prelude.{◌≡◌, List, [], ◌∷◌, ◌++◌, ◌↔◌, ℕ, ◌-◌, ◌^◌, ◌≤◌, ◌<◌, length, take, Ok, Err}
 use Rattle.words.specs.Words.{refused, gives}
 use Rattle.text.specs.Text.{digits}
 use Rattle.frame.specs.Frame.{frame_bytes}
@@ -10,9 +10,10 @@ use Rattle.capture.specs.Line.{greatest_gap, shortest_line, longest_sound}
 use Rattle.capture.specs.Stream.{newline, longest_line, most_lines, Piece, piece_of, lines_of, piece_read}
 use Rattle.capture.specs.Cutter.{fresh}
 use Rattle.capture.specs.Promises.{told_reading, frame_in, no_frame}
-use Rattle.capture.specs.Promises.{TakeApart, Write, New, Next, Last, ReadingRefusal}
+use Rattle.capture.specs.Promises.{Reading, TakeApart, Write, New, Next, Last, NotReadRefusal, ReadingRefusal}
 use Rattle.capture.specs.Feeding.{joined, yield_of, brings, between, Fed}
-use Rattle.capture.specs.declared.Reading.{Reading}
+use Rattle.capture.specs.declared.NotRead.{NotRead}
+use Rattle.capture.specs.declared.NotRead.TheVariants.{Malformed}
 use Rattle.capture.specs.declared.Line.{Line}
 use Rattle.capture.specs.declared.Text.{Text}
 use Rattle.capture.specs.declared.Cutter.{Cutter}
@@ -41,12 +42,15 @@ NextOnly = (block : List ℕ) (at : ℕ) (c : Cutter) (r s : Cut) → Next block
 abbrev pub LastOnly : Type 0
 LastOnly = (c : Cutter) (r s : Ending) → Last c r → Last c s → r ≡ s
 
+abbrev pub NotReadRefusalOnly : Type 0
+NotReadRefusalOnly = (why : NotRead) (r s : ℕ) → NotReadRefusal why r → NotReadRefusal why s → r ≡ s
+
 abbrev pub ReadingRefusalOnly : Type 0
 ReadingRefusalOnly = (answer : Reading) (r s : ℕ) → ReadingRefusal answer r → ReadingRefusal answer s → r ≡ s
 
 -- A refusal gives nothing (RULES 2.4 and 2.6): zeros stand beside it.
 abbrev pub MalformedKeeps : Type 0
-MalformedKeeps = (line : List ℕ) (r : Line) → TakeApart line r → r.answer ≡ Reading.Malformed → frame_in r ≡ no_frame
+MalformedKeeps = (line : List ℕ) (r : Line) → TakeApart line r → r.answer ≡ Err Malformed → frame_in r ≡ no_frame
 
 -- Digits and the number that they spell give each other back, in every base up to sixteen.
 
@@ -99,11 +103,11 @@ text_of t = take t.count t.bytes
 abbrev pub WrittenTakenApart : Type 0
 WrittenTakenApart =
     (f : Frame) (t : Text) (r : Line) → IsFrame f → Write f.gap f.id f.bytes t → TakeApart (text_of t) r
-    → (r.answer ≡ Reading.Sound) × (frame_in r ≡ f)
+    → (r.answer ≡ Ok tt) × (frame_in r ≡ f)
 
 abbrev pub TakenApartWritten : Type 0
 TakenApartWritten =
-    (line : List ℕ) (r : Line) (t : Text) → TakeApart line r → r.answer ≡ Reading.Sound
+    (line : List ℕ) (r : Line) (t : Text) → TakeApart line r → r.answer ≡ Ok tt
     → Write r.gap r.id r.bytes t
     → text_of t ≡ line
 

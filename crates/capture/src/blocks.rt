@@ -1,6 +1,8 @@
 // A stream cut into lines: the next newline, and what the cutter keeps.
 ghost use Rattle.std.specs.Prelude.{◌≡◌, ◌+◌, ◌≤◌, ◌<◌, length, drop};
-ghost use Rattle.capture.specs.Stream.{line_in, most_lines};
+ghost use Rattle.words.specs.Words.{◌=?◌};
+ghost use Rattle.words.specs.Lists.{first};
+ghost use Rattle.capture.specs.Stream.{newline, line_in, most_lines};
 ghost use Rattle.capture.specs.Cutter.{is_too_long, carried_on, closed, line_at};
 
 use crate::{Cutter, Cutting, LONGEST_LINE};
@@ -10,14 +12,16 @@ pub fn newline(block: &[u8], from: usize) -> usize
     requires { from ≤ length block.now }
     ensures { result ≡ from + length (line_in (drop from block.now)) }
 {
-    let mut i = from;
-    while i < block.len() {
-        if block[i] == b'\n' {
-            return i;
-        }
-        i += 1;
+    match first_newline(&block[from..]) {
+        Some(count) => from + count,
+        None => block.len(),
     }
-    i
+}
+
+fn first_newline(part: &[u8]) -> Option<usize>
+    ensures { result ≡ first (λ byte. byte =? newline) part.now }
+{
+    part.iter().position(|byte| *byte == b'\n')
 }
 
 // Where the line lies that ends before `to`, its part in the block starting at `from`.
@@ -39,31 +43,25 @@ pub fn line(length: usize, from: usize, to: usize) -> Cutting
 fn too_long(length: usize, more: usize) -> bool
     ensures { result ≡ is_too_long length more }
 {
-    if LONGEST_LINE < length {
-        return true;
-    }
-    LONGEST_LINE - length < more
+    LONGEST_LINE < length || LONGEST_LINE - length < more
 }
 
 // The cutter after a block whose end is no end of the line.
 pub fn carry_on(cutter: Cutter, part: &[u8]) -> Cutter
     ensures { result ≡ carried_on cutter part.now }
 {
-    let length = cutter.length;
-    let carry = cutter.carry;
-    if too_long(length, part.len()) {
+    if too_long(cutter.length, part.len()) {
         return Cutter {
-            carry,
-            length: 81,
-            lines: cutter.lines,
+            length: LONGEST_LINE + 1,
+            ..cutter
         };
     }
-    let mut carry = carry;
-    let end = text::put(&mut carry, length, part);
+    let mut carry = cutter.carry;
+    let length = text::put(&mut carry, cutter.length, part);
     Cutter {
         carry,
-        length: end,
-        lines: cutter.lines,
+        length,
+        ..cutter
     }
 }
 

@@ -5,28 +5,36 @@
 mod blocks;
 mod spelling;
 
-ghost use Rattle.std.specs.Prelude.{◌≡◌};
-ghost use Rattle.capture.specs.Promises.{TakeApart, Write, New, Next, Last, ReadingRefusal};
-ghost use Rattle.capture.specs.Private.{blank};
+ghost use Rattle.std.specs.Prelude.{◌≡◌, IfSome, Ok};
+ghost use Rattle.capture.specs.Promises.{TakeApart, Write, New, Next, Last, number_of_not_read};
+ghost use Rattle.capture.specs.Line.{line_read};
+ghost use Rattle.capture.specs.Private.{told_line};
 
-use spelling::Spelled;
+use words::Refusal;
 
 // A line has at most so many bytes before its newline, and so many lines are read.
 pub const LONGEST_LINE: usize = 80;
 
 pub const MOST_LINES: u32 = 1000000;
 
-// The longest line of a frame, and what of it is not the decimals of its gap.
+// The shortest line of a frame, the longest, and what of it is not the decimals of its gap.
+const SHORTEST_LINE: usize = 39;
+
 pub const TEXT_BYTES: usize = 43;
 
 const KEYS_AND_DIGITS: usize = 38;
 
-// Whether a line is that of a frame; refusal 19 otherwise.
+// The greatest gap, in milliseconds.
+const GREATEST_GAP: u32 = 65535;
+
+// Why a line is not that of a frame: refusal 19.
 #[derive(Clone, Copy)]
-pub enum Reading {
-    Sound,
+pub enum NotRead {
     Malformed,
 }
+
+// Whether a line is that of a frame, or why not.
+pub type Reading = Result<(), NotRead>;
 
 // A line taken apart: the pause before its frame, the identifier and the bytes; zeros where it is malformed.
 #[derive(Clone, Copy)]
@@ -87,15 +95,12 @@ pub enum Ending {
     Nothing,
 }
 
-impl Reading {
-    // The number of the refusal, 19; 0 where the line is that of a frame.
-    pub fn refusal(self) -> u8
-        ensures { ReadingRefusal self result }
-    {
-        let answer = self;
-        match answer {
-            Reading::Sound => 0,
-            Reading::Malformed => 19,
+impl Refusal for NotRead {
+    ghost number = { number_of_not_read };
+
+    fn refusal(self) -> u8 {
+        match self {
+            NotRead::Malformed => 19,
         }
     }
 }
@@ -166,38 +171,42 @@ impl Cutter {
     }
 }
 
-// Takes a line apart, given without its newline. `Sound` has the pause before the frame in milliseconds, the
+// Takes a line apart, given without its newline. `Ok` has the pause before the frame in milliseconds, the
 // identifier and the eight bytes: let the pause pass first, then hear the frame. An identifier of 2^29 or more is well
 // spelled, and refused where it is heard (3). Refused with 19, `Malformed`, is every line that is not the one line of a
 // frame; zeros stand beside it, and no time passes.
 pub fn take_apart(line: &[u8]) -> Line
     ensures { TakeApart line.now result }
 {
+    match spelled(line) {
+        Some(sound) => sound,
+        None => Line {
+            answer: Err(NotRead::Malformed),
+            gap: 0,
+            id: 0,
+            bytes: [0; 8],
+        },
+    }
+}
+
+// A line that is that of a frame.
+fn spelled(line: &[u8]) -> Option<Line>
+    ensures read { told_line result ≡ line_read line.now }
+    ensures answer { IfSome result (λ sound. sound.answer ≡ Ok tt) }
+{
     if !spelling::has_shape(line) {
-        return malformed();
+        return None;
     }
     let width = line.len() - KEYS_AND_DIGITS;
-    let gap_end = width + 4;
-    let id_start = width + 8;
-    let id_end = width + 16;
-    let data_start = width + 22;
-    let Spelled::Number(gap) = spelling::gap(&line[4..gap_end]) else {
-        return malformed();
-    };
-    let Spelled::Number(id) = spelling::number(16, &line[id_start..id_end]) else {
-        return malformed();
-    };
-    let data_read = spelling::eight_bytes(&line[data_start..]);
-    if !data_read.sound {
-        return malformed();
-    }
-    let bytes = data_read.bytes;
-    Line {
-        answer: Reading::Sound,
-        gap: gap as u16,
+    let gap = spelling::gap(&line[4..width + 4])?;
+    let id = spelling::number(16, &line[width + 8..width + 16])?;
+    let bytes = spelling::eight_bytes(&line[width + 22..])?;
+    Some(Line {
+        answer: Ok(()),
+        gap,
         id,
         bytes,
-    }
+    })
 }
 
 // Writes the one line of a frame, without its newline: the first `count` of the bytes, 39 to 43 of them. It refuses
@@ -205,20 +214,9 @@ pub fn take_apart(line: &[u8]) -> Line
 pub fn write(gap: u16, id: u32, bytes: [u8; 8]) -> Text
     ensures { Write gap id bytes result }
 {
-    let mut line = [0u8; TEXT_BYTES];
+    let mut line = [0; TEXT_BYTES];
     let gap_end = text::put_decimal(&mut line, 0, b"gap=", gap as u64);
     let id_end = text::put_hex(&mut line, gap_end, b" id=", id as u64, 8);
     let count = text::put_bytes(&mut line, id_end, b" data=", &bytes);
     Text { bytes: line, count }
-}
-
-fn malformed() -> Line
-    ensures { result ≡ blank }
-{
-    Line {
-        answer: Reading::Malformed,
-        gap: 0,
-        id: 0,
-        bytes: [0u8; 8],
-    }
 }

@@ -2,29 +2,15 @@
 ghost use Rattle.std.specs.Prelude.{◌≡◌, ◌+◌, ◌≤◌, ◌<◌, length, drop};
 ghost use Rattle.capture.specs.Digits.{value_of, number_read};
 ghost use Rattle.capture.specs.Line.{has_shape, begins_with, gap_read, bytes_read};
-ghost use Rattle.capture.specs.Private.{told_spelled, told_eight};
+ghost use Rattle.capture.specs.Private.{told_spelled};
 
-use crate::{KEYS_AND_DIGITS, TEXT_BYTES};
-
-// The number that digits spell, if all are digits.
-#[derive(Clone, Copy)]
-pub enum Spelled {
-    Number(u32),
-    Malformed,
-}
-
-// The bytes that pairs of digits spell; zeros where one is no digit.
-#[derive(Clone, Copy)]
-pub struct Eight {
-    pub sound: bool,
-    pub bytes: [u8; 8],
-}
+use crate::{GREATEST_GAP, KEYS_AND_DIGITS, SHORTEST_LINE, TEXT_BYTES};
 
 // The length, and the three keys at the places that the length leaves them.
 pub fn has_shape(line: &[u8]) -> bool
     ensures { result ≡ has_shape line.now }
 {
-    if line.len() < 39 {
+    if line.len() < SHORTEST_LINE {
         return false;
     }
     if TEXT_BYTES < line.len() {
@@ -41,60 +27,46 @@ pub fn has_shape(line: &[u8]) -> bool
 }
 
 // The gap: no more digits than it needs, and at most 65,535.
-pub fn gap(part: &[u8]) -> Spelled
+pub fn gap(part: &[u8]) -> Option<u16>
     requires { length part.now ≤ 8 }
     ensures { told_spelled result ≡ gap_read part.now }
 {
-    let Spelled::Number(n) = number(10, part) else {
-        return Spelled::Malformed;
-    };
-    if 65535 < n {
-        return Spelled::Malformed;
+    let gap = number(10, part)?;
+    if GREATEST_GAP < gap {
+        return None;
     }
-    if text::decimal_width(n as u64) != part.len() {
-        return Spelled::Malformed;
+    if text::decimal_width(gap as u64) != part.len() {
+        return None;
     }
-    Spelled::Number(n)
+    Some(gap as u16)
 }
 
 // The number that at most eight digits spell.
-pub fn number(base: u32, part: &[u8]) -> Spelled
+pub fn number(base: u32, part: &[u8]) -> Option<u32>
     requires { (base ≤ 16) × (length part.now ≤ 8) }
     ensures { told_spelled result ≡ number_read base part.now }
 {
-    let mut n: u32 = 0;
-    let mut i: usize = 0;
-    while i < part.len() {
-        let value = value_of(part[i]);
+    let mut number = 0;
+    for code in part {
+        let value = value_of(*code);
         if base <= value {
-            return Spelled::Malformed;
+            return None;
         }
-        n = n * base + value;
-        i += 1;
+        number = number * base + value;
     }
-    Spelled::Number(n)
+    Some(number)
 }
 
 // The bytes that sixteen digits spell.
-pub fn eight_bytes(part: &[u8]) -> Eight
+pub fn eight_bytes(part: &[u8]) -> Option<[u8; 8]>
     requires { length part.now ≡ 16 }
-    ensures { told_eight result ≡ bytes_read 8 part.now }
+    ensures { told_spelled result ≡ bytes_read 8 part.now }
 {
-    let mut bytes = [0u8; 8];
-    let mut i: usize = 0;
-    while i < 8 {
-        let from = 2 * i;
-        let to = from + 2;
-        let Spelled::Number(n) = number(16, &part[from..to]) else {
-            return Eight {
-                sound: false,
-                bytes: [0u8; 8],
-            };
-        };
-        bytes[i] = n as u8;
-        i += 1;
+    let mut bytes = [0; 8];
+    for (i, byte) in bytes.iter_mut().enumerate() {
+        *byte = number(16, &part[2 * i..2 * i + 2])? as u8;
     }
-    Eight { sound: true, bytes }
+    Some(bytes)
 }
 
 // The digit that a byte spells; 16 where it is none. Without a branch on the digit: a letter's code lies 64 up, and its
@@ -115,15 +87,8 @@ fn value_of(code: u8) -> u32
 
 // Whether a key stands at a place of the line.
 fn begins(key: &[u8], line: &[u8], at: usize) -> bool
-    requires { at + length key.now ≤ length line.now }
+    requires { at ≤ length line.now }
     ensures { result ≡ begins_with key.now (drop at line.now) }
 {
-    let mut i: usize = 0;
-    while i < key.len() {
-        if line[at + i] != key[i] {
-            return false;
-        }
-        i += 1;
-    }
-    true
+    line[at..].starts_with(key)
 }

@@ -8,7 +8,7 @@ use Prim.Native.Nat.{ℕ, ◌≤◌, ◌<◌}
 use native.Mathlib.Omega.{arith}
 use borrow.Author.Tests.{eq-eqb, ne_eqb}
 use lib.ListN.{length}
-use Rattle.words.specs.Words.{◌=?◌, Told, refused, gives, given◌then◌, done}
+use Rattle.words.specs.Words.{◌=?◌, Told, refused, gives, given◌then◌, Done, done}
 use Rattle.frame.specs.Bytes.{number_of}
 use Rattle.frame.specs.Frame.{checked_of}
 use Rattle.frame.specs.Standard.{claim_dgn, no_frame}
@@ -19,10 +19,10 @@ use Rattle.words.proofs.Words.{past_refusal, refused_gives, gives_same, not_flip
 use Rattle.claim.specs.Candidates.{padded}
 use Rattle.claim.specs.Claim.{keeps_rules, holds_list, claim_id, claim_bytes, begun, Outcome, nothing_to_do, own_name}
 use Rattle.claim.specs.Claim.{repeated, moved, fell_silent, outcome_of, after}
+use Rattle.claim.specs.Promises.{Hearing}
 use Rattle.claim.specs.Promises.{Hear, told_hearing, meets_frame, heard_of, after_told, is_sent_told, is_sound, sound_of}
 use Rattle.claim.specs.Private.{met_of}
 use Rattle.claim.specs.declared.Claim.{Claim}
-use Rattle.claim.specs.declared.Hearing.{Hearing}
 use Rattle.claim.specs.declared.Heard.{Heard}
 use Rattle.claim.proofs.Sound.{Rules, rules_of, count_bounded, Holds, holds_of}
 use Rattle.claim.proofs.Outcomes.{rules_heard}
@@ -46,6 +46,26 @@ sound_ill c k h = (rw (k, h), rw (k, h))
 pub sound_well : (c : Claim) → keeps_rules c ≡ true → holds_list c ≡ true → (sound_of c ≡ gives done) × (is_sound c ≡ true)
 unfolding sound_of
 sound_well c k h = (rw (k, h), rw (k, h))
+
+-- and read back from what is told
+
+pub sound_given : (c : Claim) (d : Done) → sound_of c ≡ gives d
+    → (keeps_rules c ≡ true) × (holds_list c ≡ true) × (is_sound c ≡ true)
+unfolding sound_of
+sound_given c d e =
+    let a = past_refusal (not (keeps_rules c)) 2 _ e in
+    let b = past_refusal (not (holds_list c)) 16 _ a.1 in
+    let k = not_flips _ a.0 in
+    let h = not_flips _ b.0 in
+    (k, h, (sound_well c k h).1)
+
+pub sound_refused : (c : Claim) (n : ℕ) → sound_of c ≡ refused n → is_sound c ≡ false
+sound_refused c n e =
+    by_test (keeps_rules c)
+    (λ k. by_test (holds_list c)
+    (λ h. refused_gives (sym e ∙ (sound_well c k h).0))
+    (λ h. (sound_ill c k h).1))
+    (λ k. (sound_broken c k).1)
 
 -- a position of a sound state is a place of its array
 pub in_array : (c : Claim) → keeps_rules c ≡ true → holds_list c ≡ true → c.position < 16

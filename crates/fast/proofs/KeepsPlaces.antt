@@ -1,6 +1,7 @@
 -- The calls of the receiver, its places seen with their stretches of the storage, do what the places of fast packets
 -- do, and a state that keeps its rules leads to one that keeps them; and pauses of fast packets add up.
 -- Assumes nothing.
+use Rattle.std.specs.Prelude.{Ok, Err}
 use Rattle.std.specs.Prelude.{Option, Some, None}
 use mathlib.Core.Path.{◌≡◌, refl, sym, ap, ap₂, ◌∙◌, subst, subst⁻¹}
 use mathlib.Core.Bool.{true, false, not}
@@ -44,15 +45,14 @@ use Rattle.fast.specs.Receiver.{room, free_place, is_free, open_message, layout,
 use Rattle.fast.specs.Receiver.{place_keeps_rules, keeps_rules, After, leaves, holding, placing, place_for}
 use Rattle.fast.specs.Receiver.{new_place, first_kept, enters_at, kept_at, expecting, advanced, frame_at, by_meaning}
 use Rattle.fast.specs.Receiver.{heard, idled, paused_state, paused_answer}
-use Rattle.fast.specs.Promises.{told_answer, naming, message_in}
+use Rattle.fast.specs.Promises.{Answer, told_answer, naming, message_in}
 use Rattle.fast.specs.Calls.{Held, Starts, Keeps, Hears, Pauses, open_in, EveryListStarts, FastKeepsPlaces}
 use Rattle.fast.specs.Calls.{FastPausesAdd}
 use Rattle.fast.specs.declared.Place.{Place}
 use Rattle.fast.specs.declared.Receiver.{Receiver}
-use Rattle.fast.specs.declared.Answer.{Answer}
-use Rattle.fast.specs.declared.Answer.TheVariants.{BadFrame, MalformedLength, NoPlaceFree, NoOpenMessage}
-use Rattle.fast.specs.declared.Answer.TheVariants.{UnexpectedFrame, NothingToDo, Opened, Stored, Finished}
-use Rattle.fast.specs.declared.Pausing.TheVariants as Pausing
+use Rattle.fast.specs.declared.NotHeard.TheVariants.{BadFrame, MalformedLength, NoPlaceFree, NoOpenMessage}
+use Rattle.fast.specs.declared.NotHeard.TheVariants.{UnexpectedFrame}
+use Rattle.fast.specs.declared.Event.TheVariants.{NothingToDo, Opened, Stored, Finished}
 use Rattle.fast.proofs.Steps.{found_below, Takes, its_own, a_free_one, place_for_at, place_for_nowhere}
 use Rattle.fast.proofs.Steps.{begins_at, begins_nowhere, entered_short, entered_long, advanced_last}
 use Rattle.fast.proofs.Steps.{advanced_next, frame_expected, frame_other_sequence, frame_other_number}
@@ -136,12 +136,12 @@ Answers t = (x : Answer) × (told_answer x ≡ t)
 -- each of the refusals 3 to 7 has an answer
 refusal_named : (n : ℕ) → 2 < n → n < 8 → Answers (refused n)
 refusal_named n low high =
-    by_test (n =? 3) (λ t. (BadFrame IdentifierTooLarge, ap refused (sym (eqb-true n 3 t)))) (λ t₃.
-    by_test (n =? 4) (λ t. (BadFrame NotEightBytes, ap refused (sym (eqb-true n 4 t)))) (λ t₄.
-    by_test (n =? 5) (λ t. (BadFrame ReservedBitSet, ap refused (sym (eqb-true n 5 t)))) (λ t₅.
-    by_test (n =? 6) (λ t. (BadFrame SourceNotAllowed, ap refused (sym (eqb-true n 6 t)))) (λ t₆.
+    by_test (n =? 3) (λ t. (Err (BadFrame IdentifierTooLarge), ap refused (sym (eqb-true n 3 t)))) (λ t₃.
+    by_test (n =? 4) (λ t. (Err (BadFrame NotEightBytes), ap refused (sym (eqb-true n 4 t)))) (λ t₄.
+    by_test (n =? 5) (λ t. (Err (BadFrame ReservedBitSet), ap refused (sym (eqb-true n 5 t)))) (λ t₅.
+    by_test (n =? 6) (λ t. (Err (BadFrame SourceNotAllowed), ap refused (sym (eqb-true n 6 t)))) (λ t₆.
     let e : 7 ≡ n = omega (arith, eqb-false n 3 t₃, eqb-false n 4 t₄, eqb-false n 5 t₅, eqb-false n 6 t₆) in
-    (MalformedLength, ap refused e)))))
+    (Err MalformedLength, ap refused e)))))
 
 -- one frame at a state that keeps its rules
 
@@ -236,7 +236,7 @@ module _ (f : Frame) (r : Receiver) (s : List ℕ) (eight : length r.places ≡ 
                 (found (Some j) e) refl (written_others s six j 0 (needed_first size) enough b room_first six_there));
             rules = freed j;
             long = written_long s six j 0 (needed_first size) enough b room_first six_there;
-            answers = (Finished j sender dgn size, refl);
+            answers = (Ok (Finished j sender dgn size), refl);
           })
 
       finished_free : (j : ℕ) → first (is_open_by (pair_of sender dgn)) ps ≡ None → first is_free ps ≡ Some j
@@ -252,7 +252,7 @@ module _ (f : Frame) (r : Receiver) (s : List ℕ) (eight : length r.places ≡ 
                 (found None n) e (written_others s six j 0 (needed_first size) enough b room_first six_there));
             rules = freed j;
             long = written_long s six j 0 (needed_first size) enough b room_first six_there;
-            answers = (Finished j sender dgn size, refl);
+            answers = (Ok (Finished j sender dgn size), refl);
           })
 
     -- of more: it is open, with its first six bytes
@@ -306,7 +306,7 @@ module _ (f : Frame) (r : Receiver) (s : List ℕ) (eight : length r.places ≡ 
                 (written_others s six j 0 (needed_first size) enough b room_first six_there);
             rules = new_set j;
             long = written_long s six j 0 (needed_first size) enough b room_first six_there;
-            answers = (Opened, refl);
+            answers = (Ok Opened, refl);
           })
 
       opened_free : (j : ℕ) → first (is_open_by (pair_of sender dgn)) ps ≡ None → first is_free ps ≡ Some j
@@ -322,7 +322,7 @@ module _ (f : Frame) (r : Receiver) (s : List ℕ) (eight : length r.places ≡ 
                 (written_others s six j 0 (needed_first size) enough b room_first six_there);
             rules = new_set j;
             long = written_long s six j 0 (needed_first size) enough b room_first six_there;
-            answers = (Opened, refl);
+            answers = (Ok Opened, refl);
           })
 
     entering : (j : ℕ) → Takes (pair_of sender dgn) ps j → Agrees (enters_at j new f.bytes r s)
@@ -355,7 +355,7 @@ module _ (f : Frame) (r : Receiver) (s : List ℕ) (eight : length r.places ≡ 
               shows = shows_full format layout f ps s opening (found None n.0) n.1;
               rules = each_rules;
               long = refl;
-              answers = (NoPlaceFree, refl);
+              answers = (Err NoPlaceFree, refl);
             })
 
   -- a later frame
@@ -472,7 +472,7 @@ module _ (f : Frame) (r : Receiver) (s : List ℕ) (eight : length r.places ≡ 
                 j free_place free_place t asks (sought (Some j) e) (last q n u) refl others);
             rules = freed j;
             long = length_kept;
-            answers = (Finished j p.sender p.dgn p.length, refl);
+            answers = (Ok (Finished j p.sender p.dgn p.length), refl);
           })
 
       expected_next : sequence ≡ p.sequence → number ≡ p.expected → p.expected ≢ last_frame p.length
@@ -487,7 +487,7 @@ module _ (f : Frame) (r : Receiver) (s : List ℕ) (eight : length r.places ≡ 
                 (next q n u) next_open (next_message u) others;
             rules = every_set (place_keeps_rules names) ps j (expecting (p.expected + 1) p) each_rules (next_rules u);
             long = length_kept;
-            answers = (Stored, refl);
+            answers = (Ok Stored, refl);
           })
 
       -- the expected one
@@ -508,7 +508,7 @@ module _ (f : Frame) (r : Receiver) (s : List ℕ) (eight : length r.places ≡ 
                 (sought (Some j) e) w refl (λ i x. refl);
             rules = freed j;
             long = refl;
-            answers = (UnexpectedFrame, refl);
+            answers = (Err UnexpectedFrame, refl);
           }
 
       at_place : Agrees (frame_at j p sequence number f.bytes r s)
@@ -540,7 +540,7 @@ module _ (f : Frame) (r : Receiver) (s : List ℕ) (eight : length r.places ≡ 
               shows = shows_feeds_nowhere format layout f ps s part (refused 9) asks (sought None e);
               rules = each_rules;
               long = refl;
-              answers = (NoOpenMessage, refl);
+              answers = (Err NoOpenMessage, refl);
             })
 
   -- a frame
@@ -566,7 +566,7 @@ module _ (f : Frame) (r : Receiver) (s : List ℕ) (eight : length r.places ≡ 
           (refusal_named n h.0 h.1))
       go (gives other) e k =
           rw e
-          (kept (gives nothing_to_do) (gives nothing_to_do) (asked (gives other) e) refl (NothingToDo, refl))
+          (kept (gives nothing_to_do) (gives nothing_to_do) (asked (gives other) e) refl (Ok NothingToDo, refl))
       go (gives (begins m)) e k =
           let h = rw e at k in
           rw e
@@ -754,7 +754,7 @@ module _ (names : List ℕ) (s : Held) (k : Keeps names s) where
       gives (count (Eight.closes ms) state.places),
       rested_by,
       record {
-        answer = Pausing.Closed (count (Eight.closes ms) state.places);
+        answer = Ok (count (Eight.closes ms) state.places);
         pause = record {
           after = sym (paused_state_lem ms state k.rules);
           answer = sym (paused_count ms state k.rules);

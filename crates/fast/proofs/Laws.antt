@@ -1,5 +1,6 @@
 -- The statements of specs/Laws.antt, proved.
 -- Assumes nothing.
+use Rattle.std.specs.Prelude.{Ok, Err}
 use Rattle.std.specs.Prelude.{Option, Some, None}
 use Rattle.std.specs.Prelude.{if◌then◌else◌}
 use mathlib.Core.Path.{◌≡◌, refl, sym, ap, ◌∙◌, subst, subst⁻¹}
@@ -39,7 +40,9 @@ use Rattle.fast.specs.Receiver.{After, leaves, placing, place_for, new_place}
 use Rattle.fast.specs.Receiver.{first_kept, kept_at, frame_at, by_meaning, heard, paused_state, paused_answer}
 use Rattle.fast.specs.Receiver as Receiver
 use Rattle.fast.specs.Splitter.{refusal_in, frame_bytes_of, frame_of}
+use Rattle.fast.specs.Promises.{Starting, Answer, Pausing, Splitting, number_of_not_heard, outcome_of}
 use Rattle.fast.specs.Promises.{starting_number, told_answer, told_pausing, splitting_number, naming, naming_none}
+use Rattle.fast.specs.Laws.{BadListRefusalOnly, NotHeardRefusalOnly, BadStateRefusalOnly, NotSplitRefusalOnly}
 use Rattle.fast.specs.Laws.{StartingNumberSame, ToldAnswerSame, ToldPausingSame, SplittingNumberSame, StartOnly}
 use Rattle.fast.specs.Laws.{HearOnly, PauseOnly, MessageOnly, FrameOfOnly, StartingRefusalOnly, AnswerRefusalOnly}
 use Rattle.fast.specs.Laws.{PausingRefusalOnly, SplittingRefusalOnly, PairSame, FirstByteRead, FramesNeeded}
@@ -48,13 +51,14 @@ use Rattle.fast.specs.Laws.{TenCloses, PauseRefusedKeeps, LowestWins, ItsOwn, Wr
 use Rattle.fast.specs.Laws.{WritesItsOwn, NotBeyond, SplitterSplits}
 use Rattle.fast.specs.declared.Place.{Place}
 use Rattle.fast.specs.declared.Receiver.{Receiver}
-use Rattle.fast.specs.declared.Starting.{Starting}
-use Rattle.fast.specs.declared.Answer.{Answer}
-use Rattle.fast.specs.declared.Answer.TheVariants.{StorageTooShort, BrokenState, BadFrame, MalformedLength}
-use Rattle.fast.specs.declared.Answer.TheVariants.{NoPlaceFree, NoOpenMessage, UnexpectedFrame, NothingToDo}
-use Rattle.fast.specs.declared.Answer.TheVariants.{Opened, Stored, Finished}
-use Rattle.fast.specs.declared.Pausing.{Pausing}
-use Rattle.fast.specs.declared.Splitting.{Splitting}
+use Rattle.fast.specs.declared.BadList.TheVariants.{ListMalformed}
+use Rattle.fast.specs.declared.Event.{Event}
+use Rattle.fast.specs.declared.Event.TheVariants.{NothingToDo, Opened, Stored, Finished}
+use Rattle.fast.specs.declared.NotHeard.{NotHeard}
+use Rattle.fast.specs.declared.NotHeard.TheVariants.{StorageTooShort, BadFrame, MalformedLength, NoPlaceFree}
+use Rattle.fast.specs.declared.NotHeard.TheVariants.{NoOpenMessage, UnexpectedFrame}
+use Rattle.fast.specs.declared.BadState.TheVariants as BadState
+use Rattle.fast.specs.declared.NotSplit.TheVariants.{NoCode, LengthNotSplit, NoSuchFrame}
 use Rattle.fast.proofs.Splits.{frame_given}
 use Rattle.fast.proofs.Frames.{Known, meaning_known}
 use Rattle.fast.proofs.Steps.{found_below, place_for_below, begins_at, begins_nowhere, entered_short}
@@ -67,79 +71,93 @@ use Rattle.fast.proofs.Steps.{meant_carried}
 -- an answer is read back from what it tells
 
 starting_back : ℕ → Starting
-starting_back n = if n =? 0 then Starting.Named else Starting.ListMalformed
+starting_back n = if n =? 0 then Ok tt else Err ListMalformed
 
 starting_back_lem : (r : Starting) → starting_back (starting_number r) ≡ r
 unfolding starting_back
-starting_back_lem Starting.Named = refl
-starting_back_lem Starting.ListMalformed = refl
+starting_back_lem (Ok u) = refl
+starting_back_lem (Err ListMalformed) = refl
 
 pub starting_number_same : StartingNumberSame
 starting_number_same r s e = sym (starting_back_lem r) ∙ ap starting_back e ∙ starting_back_lem s
 
-answer_back : Told Outcome → Answer
-answer_back (refused n) =
+why_back : ℕ → NotHeard
+why_back n =
     if n =? 1 then StorageTooShort else
-    if n =? 2 then BrokenState else
+    if n =? 2 then NotHeard.BrokenState else
     if n =? 7 then MalformedLength else
     if n =? 8 then NoPlaceFree else
     if n =? 9 then NoOpenMessage else
     if n =? 10 then UnexpectedFrame else
     BadFrame (bad_back n)
-answer_back (gives nothing_to_do) = NothingToDo
-answer_back (gives opened) = Opened
-answer_back (gives stored) = Stored
-answer_back (gives (finished m)) = Finished m.place m.sender m.dgn m.size
 
-bad_answer : (w : Frames.BadFrame) → answer_back (refused (refusal_of w)) ≡ BadFrame w
-unfolding answer_back
+event_back : Outcome → Event
+event_back nothing_to_do = NothingToDo
+event_back opened = Opened
+event_back stored = Stored
+event_back (finished m) = Finished m.place m.sender m.dgn m.size
+
+answer_back : Told Outcome → Answer
+answer_back (refused n) = Err (why_back n)
+answer_back (gives o) = Ok (event_back o)
+
+bad_answer : (w : Frames.BadFrame) → why_back (refusal_of w) ≡ BadFrame w
+unfolding why_back
 bad_answer IdentifierTooLarge = ap BadFrame (bad_back_lem IdentifierTooLarge)
 bad_answer NotEightBytes = ap BadFrame (bad_back_lem NotEightBytes)
 bad_answer ReservedBitSet = ap BadFrame (bad_back_lem ReservedBitSet)
 bad_answer SourceNotAllowed = ap BadFrame (bad_back_lem SourceNotAllowed)
 
+why_back_lem : (why : NotHeard) → why_back (number_of_not_heard why) ≡ why
+unfolding why_back
+why_back_lem StorageTooShort = refl
+why_back_lem NotHeard.BrokenState = refl
+why_back_lem (BadFrame w) = bad_answer w
+why_back_lem MalformedLength = refl
+why_back_lem NoPlaceFree = refl
+why_back_lem NoOpenMessage = refl
+why_back_lem UnexpectedFrame = refl
+
+event_back_lem : (event : Event) → event_back (outcome_of event) ≡ event
+unfolding event_back
+event_back_lem NothingToDo = refl
+event_back_lem Opened = refl
+event_back_lem Stored = refl
+event_back_lem (Finished place sender dgn size) = refl
+
 answer_back_lem : (r : Answer) → answer_back (told_answer r) ≡ r
 unfolding answer_back
-answer_back_lem StorageTooShort = refl
-answer_back_lem BrokenState = refl
-answer_back_lem (BadFrame w) = bad_answer w
-answer_back_lem MalformedLength = refl
-answer_back_lem NoPlaceFree = refl
-answer_back_lem NoOpenMessage = refl
-answer_back_lem UnexpectedFrame = refl
-answer_back_lem NothingToDo = refl
-answer_back_lem Opened = refl
-answer_back_lem Stored = refl
-answer_back_lem (Finished place sender dgn size) = refl
+answer_back_lem (Ok event) = ap Ok (event_back_lem event)
+answer_back_lem (Err why) = ap Err (why_back_lem why)
 
 pub told_answer_same : ToldAnswerSame
 told_answer_same r s e = sym (answer_back_lem r) ∙ ap answer_back e ∙ answer_back_lem s
 
 pausing_back : Told ℕ → Pausing
-pausing_back (gives n) = Pausing.Closed n
-pausing_back (refused n) = Pausing.BrokenState
+pausing_back (gives n) = Ok n
+pausing_back (refused n) = Err BadState.BrokenState
 
 pausing_back_lem : (r : Pausing) → pausing_back (told_pausing r) ≡ r
 unfolding pausing_back
-pausing_back_lem (Pausing.Closed n) = refl
-pausing_back_lem Pausing.BrokenState = refl
+pausing_back_lem (Ok n) = refl
+pausing_back_lem (Err BadState.BrokenState) = refl
 
 pub told_pausing_same : ToldPausingSame
 told_pausing_same r s e = sym (pausing_back_lem r) ∙ ap pausing_back e ∙ pausing_back_lem s
 
 splitting_back : ℕ → Splitting
 splitting_back n =
-    if n =? 0 then Splitting.Bytes else
-    if n =? 12 then Splitting.NoCode else
-    if n =? 13 then Splitting.LengthNotSplit else
-    Splitting.NoSuchFrame
+    if n =? 0 then Ok tt else
+    if n =? 12 then Err NoCode else
+    if n =? 13 then Err LengthNotSplit else
+    Err NoSuchFrame
 
 splitting_back_lem : (r : Splitting) → splitting_back (splitting_number r) ≡ r
 unfolding splitting_back
-splitting_back_lem Splitting.Bytes = refl
-splitting_back_lem Splitting.NoCode = refl
-splitting_back_lem Splitting.LengthNotSplit = refl
-splitting_back_lem Splitting.NoSuchFrame = refl
+splitting_back_lem (Ok u) = refl
+splitting_back_lem (Err NoCode) = refl
+splitting_back_lem (Err LengthNotSplit) = refl
+splitting_back_lem (Err NoSuchFrame) = refl
 
 pub splitting_number_same : SplittingNumberSame
 splitting_number_same r s e = sym (splitting_back_lem r) ∙ ap splitting_back e ∙ splitting_back_lem s
@@ -172,6 +190,18 @@ frame_of_only message sequence number r s p q =
     let a = splitting_number_same r.answer s.answer (p.number ∙ sym q.number) in
     let b = p.bytes ∙ sym q.bytes in
     λ i. record { answer = a i; bytes = b i }
+
+pub bad_list_refusal_only : BadListRefusalOnly
+bad_list_refusal_only why r s p q = p.number ∙ sym q.number
+
+pub not_heard_refusal_only : NotHeardRefusalOnly
+not_heard_refusal_only why r s p q = p.number ∙ sym q.number
+
+pub bad_state_refusal_only : BadStateRefusalOnly
+bad_state_refusal_only why r s p q = p.number ∙ sym q.number
+
+pub not_split_refusal_only : NotSplitRefusalOnly
+not_split_refusal_only why r s p q = p.number ∙ sym q.number
 
 pub starting_refusal_only : StartingRefusalOnly
 starting_refusal_only answer r s p q = p.number ∙ sym q.number
@@ -313,7 +343,7 @@ start_names names r p =
             different = none_twice_by names different;
           }) in
           let s = p.state ∙ ap (λ (b : Bool). if b then naming names else naming_none) w in (
-            starting_number_same r.answer Starting.Named (p.answer ∙ ap (λ (b : Bool). if b then 0 else 16) w),
+            starting_number_same r.answer (Ok tt) (p.answer ∙ ap (λ (b : Bool). if b then 0 else 16) w),
             ap names_of s ∙ named_so names,
             ap keeps_rules s ∙ naming_keeps_rules names w,
           );
@@ -330,7 +360,7 @@ start_refused_keeps names r p k =
     by_test (is_well_formed names)
     (λ t.
     absurd
-    (k (starting_number_same r.answer Starting.Named (p.answer ∙ ap (λ (b : Bool). if b then 0 else 16) t))))
+    (k (starting_number_same r.answer (Ok tt) (p.answer ∙ ap (λ (b : Bool). if b then 0 else 16) t))))
     (λ t. p.state ∙ ap (λ (b : Bool). if b then naming names else naming_none) t)
 
 -- A frame, by its outcomes: a refusal, or nothing to do, that leaves all as it was; frame 0 at the place that its pair
@@ -652,5 +682,5 @@ splitter_splits message sequence number r p =
     refuses_by e z = p.number ∙ ap number_in (split_refused message sequence number (λ x. z (sym e ∙ x))) ∙ e
 
     answers_bytes : frame_of message sequence number ≡ gives (frame_bytes_of message sequence number)
-        → r.answer ≡ Splitting.Bytes
-    answers_bytes g = splitting_number_same r.answer Splitting.Bytes (p.number ∙ ap number_in g)
+        → r.answer ≡ Ok tt
+    answers_bytes g = splitting_number_same r.answer (Ok tt) (p.number ∙ ap number_in g)

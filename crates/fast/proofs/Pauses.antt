@@ -1,5 +1,6 @@
 -- The pauses of fast packets add up (specs/Pauses.antt): at one place, and at all eight.
 -- Assumes nothing.
+use Rattle.std.specs.Prelude.{Ok, Err}
 use Rattle.std.specs.Prelude.{if◌then◌else◌}
 use mathlib.Core.Path.{◌≡◌, refl, ◌∙◌}
 use mathlib.Core.Bool.{true, false}
@@ -14,12 +15,12 @@ use Rattle.words.proofs.Pauses.{standing, computed_add_up, map_sum, map_none, co
 use Rattle.fast.specs.FastPacket.{idle_limit}
 use Rattle.fast.specs.Receiver.{is_free, names_of, place_keeps_rules, keeps_rules, holding, closes, idled, paused_state}
 use Rattle.fast.specs.Receiver.{paused_answer}
-use Rattle.fast.specs.Promises.{told_pausing}
+use Rattle.fast.specs.Promises.{Pausing, told_pausing}
 use Rattle.fast.specs.Calls.{Held, Pauses}
 use Rattle.fast.specs.Pauses.{pause_call, PausesAddUp}
 use Rattle.fast.specs.declared.Place.{Place}
 use Rattle.fast.specs.declared.Receiver.{Receiver}
-use Rattle.fast.specs.declared.Pausing.{Pausing}
+use Rattle.fast.specs.declared.BadState.TheVariants.{BrokenState}
 use Rattle.fast.proofs.Steps.{rules_of, open_rules}
 use Rattle.fast.proofs.KeepsPlaces.{idled_keeps}
 
@@ -99,8 +100,8 @@ module _ (s : Held) where
   unfolding paused_answer
   some ms =
       by_test (keeps_rules r)
-      (λ k. answers ms (Pausing.Closed (count (closes ms) r.places)) (rw k))
-      (λ k. answers ms Pausing.BrokenState (rw k))
+      (λ k. answers ms (Ok (count (closes ms) r.places)) (rw k))
+      (λ k. answers ms (Err BrokenState) (rw k))
     where
       answers : (ms : ℕ) (answer : Pausing) → told_pausing answer ≡ paused_answer ms r
           → (told : Told ℕ) × (t : Held) × Pauses s ms told t

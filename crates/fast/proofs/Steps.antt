@@ -1,8 +1,7 @@
--- A frame, case by case: what each definition leaves where its tests are known, and that a state and an answer that
--- tells this are left by it.
+-- A frame, case by case: what each definition leaves where its tests are known.
 -- Assumes nothing.
 use Rattle.std.specs.Prelude.{Option, Some, None}
-use mathlib.Core.Path.{◌≡◌, refl, sym, ap, ◌∙◌, subst⁻¹}
+use mathlib.Core.Path.{◌≡◌, refl, ap, ◌∙◌, subst⁻¹}
 use mathlib.Core.Bool.{Bool, true, false, not}
 use mathlib.Core.List.{List}
 use Prim.Native.Nat.{ℕ, ◌+◌, ◌<◌, ◌≤◌}
@@ -10,14 +9,14 @@ use native.Mathlib.Omega.{arith}
 use borrow.Author.Tests.{leb-true, ltb-true, eqb-true, eqb-false, not-true, eq-eqb, ne_eqb, lt-ltb, le-ltb, le-leb}
 use borrow.Author.Tests.{lt-leb, leb-false}
 use lib.ListN.{length, get_or}
-use Rattle.words.specs.Words.{◌≤?◌, ◌=?◌, ◌<?◌, ◌and◌, Told, refused, gives}
+use Rattle.words.specs.Words.{◌≤?◌, ◌=?◌, ◌<?◌, ◌and◌, refused, gives}
 use Rattle.words.specs.Lists.{every, first}
 use Rattle.frame.specs.Frame.{checked_of}
 use Rattle.frame.specs.Standard.{greatest_address}
 use Rattle.frame.specs.declared.Parts.{Parts}
 use Rattle.words.proofs.Words.{both_true, by_test}
 use Rattle.places.specs.Layout.{one_each}
-use Rattle.places.specs.Telling.{Outcome, opened, stored, finished}
+use Rattle.places.specs.Telling.{opened, stored, finished}
 use Rattle.words.proofs.Lists.{found_at, every_at}
 use Rattle.fast.specs.FastPacket.{greatest_sequence, first_bytes, longest, last_frame, idle_limit, pair_of, other}
 use Rattle.fast.specs.FastPacket.{carried, meant, meaning_of}
@@ -26,24 +25,13 @@ use Rattle.fast.specs.Receiver.{room, free_place, is_free, is_open_by, layout, n
 use Rattle.fast.specs.Receiver.{place_keeps_rules, keeps_rules, whole_at, After}
 use Rattle.fast.specs.Receiver.{leaves, placing, place_for, entered, enters_at, hears_first, kept_at, expecting}
 use Rattle.fast.specs.Receiver.{advanced, frame_at, hears_later, by_meaning, heard}
-use Rattle.fast.specs.Promises.{told_answer, LeftBy}
+use Rattle.fast.specs.Promises.{LeftBy}
 use Rattle.fast.specs.Private.{Live}
 use Rattle.fast.specs.declared.Place.{Place}
 use Rattle.fast.specs.declared.Receiver.{Receiver}
-use Rattle.fast.specs.declared.Answer.{Answer}
 use Rattle.fast.specs.declared.Heard.{Heard}
 
--- this state, and an answer that tells this, is what is left
-pub left : {a : After} (r : Receiver) (s : List ℕ) (t : Told Outcome) → a ≡ leaves r s t
-    → (h : Heard) (q : Receiver) (x : Answer)
-    → (h.receiver ≡ q) × (h.answer ≡ x) → q ≡ r → told_answer x ≡ t → LeftBy a h s
-left r s t e h q x k p u =
-    record {
-      state = k.0 ∙ p ∙ sym (ap (λ (a : After). a.receiver) e);
-      storage_bytes = sym (ap (λ (a : After). a.storage) e);
-      answer = ap told_answer k.1 ∙ u ∙ sym (ap (λ (a : After). a.answer) e);
-    }
-
+-- what one definition leaves, another that is equal leaves too
 pub left_as : {a b : After} {h : Heard} {s : List ℕ} → a ≡ b → LeftBy b h s → LeftBy a h s
 left_as {h = h} {s = s} e k = subst⁻¹ (λ (x : After). LeftBy x h s) e k
 

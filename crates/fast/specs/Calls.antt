@@ -1,7 +1,7 @@
 -- Runs of calls (RULES 13.6): a receiver from `Receiver::start` with a list of DGNs, told by nothing but the promises
 -- of its calls. Each `hear` and `pause` is handed the state that the call before it gave back, each `hear` the storage
 -- as the one before it left it, and after each `hear` the message is read by `message`.
-use Rattle.std.specs.Prelude.{◌≡◌, true, List, ℕ, ◌≤◌, length}
+use Rattle.std.specs.Prelude.{◌≡◌, true, List, ℕ, ◌≤◌, length, Ok}
 use Rattle.words.specs.Words.{Told}
 use Rattle.frame.specs.Standard.{Frame}
 use Rattle.places.specs.Places.{Place as Seat, Out, place_count}
@@ -12,11 +12,8 @@ use Rattle.places.specs.Telling.{Tells, tells}
 use Rattle.fast.specs.Names.{is_well_formed}
 use Rattle.fast.specs.OnePair.{Open, fast_packets}
 use Rattle.fast.specs.Receiver.{room, layout, names_of, keeps_rules}
-use Rattle.fast.specs.Promises.{told_answer, told_pausing, Start, Hear, Message, Pause}
+use Rattle.fast.specs.Promises.{Answer, Pausing, told_answer, told_pausing, Start, Hear, Message, Pause}
 use Rattle.fast.specs.declared.Receiver as Receivers
-use Rattle.fast.specs.declared.Starting.TheVariants as Starting
-use Rattle.fast.specs.declared.Answer.{Answer}
-use Rattle.fast.specs.declared.Pausing.{Pausing}
 
 -- A receiver with the storage that it is lent.
 pub record Held : Type 0 where
@@ -25,7 +22,7 @@ pub record Held : Type 0 where
 
 -- at the start: these DGNs are named, and storage enough, with any contents
 pub record Starts (names : List ℕ) (s : Held) : Type 0 where
-  pub start : Start names (record { receiver = s.receiver; answer = Starting.Named })
+  pub start : Start names (record { receiver = s.receiver; answer = Ok tt })
   pub enough : room ≤ length s.storage
 
 -- a state that names these DGNs and keeps its rules, with storage enough

@@ -1,7 +1,7 @@
 -- The laws of this crate (RULES 12), each a named statement. proofs/Laws.antt has a proof of each, under the same name
 -- written small. The larger theorems, that a busy bus reads like a quiet one and that what is split is joined, stand in
 -- the crate `demands`.
-use Rattle.std.specs.Prelude.{Some}
+use Rattle.std.specs.Prelude.{Ok, Err, Some}
 use Rattle.std.specs.Prelude.{◌≡◌, true, false, List, ◌≢◌, ◌⊎◌, ℕ, ◌+◌, ◌-◌, ◌*◌, ◌≤◌, ◌<◌, length, get_or, replicate}
 use Rattle.words.specs.Words.{refused, gives, bits}
 use Rattle.words.specs.Lists.{first}
@@ -20,17 +20,18 @@ use Rattle.fast.specs.Receiver.{room, free_place, is_open_by, names_of, keeps_ru
 use Rattle.fast.specs.Splitter.{frame_bytes_of}
 use Rattle.fast.specs.Promises.{starting_number, naming_none, told_answer, told_pausing, splitting_number, Start, Hear}
 use Rattle.fast.specs.Promises.{Pause, Message, FrameOf, StartingRefusal, AnswerRefusal, PausingRefusal}
-use Rattle.fast.specs.Promises.{SplittingRefusal}
+use Rattle.fast.specs.Promises.{SplittingRefusal, BadListRefusal, NotHeardRefusal, BadStateRefusal, NotSplitRefusal}
+use Rattle.fast.specs.Promises.{Starting, Answer, Pausing, Splitting}
 use Rattle.fast.specs.declared.Place.{Place}
 use Rattle.fast.specs.declared.Receiver.{Receiver}
-use Rattle.fast.specs.declared.Starting.{Starting}
+use Rattle.fast.specs.declared.BadList.{BadList}
 use Rattle.fast.specs.declared.Started.{Started}
-use Rattle.fast.specs.declared.Answer.{Answer}
-use Rattle.fast.specs.declared.Answer.TheVariants.{UnexpectedFrame}
+use Rattle.fast.specs.declared.NotHeard.{NotHeard}
+use Rattle.fast.specs.declared.NotHeard.TheVariants.{UnexpectedFrame}
 use Rattle.fast.specs.declared.Heard.{Heard}
-use Rattle.fast.specs.declared.Pausing.{Pausing}
+use Rattle.fast.specs.declared.BadState.{BadState}
 use Rattle.fast.specs.declared.Paused.{Paused}
-use Rattle.fast.specs.declared.Splitting.{Splitting}
+use Rattle.fast.specs.declared.NotSplit.{NotSplit}
 use Rattle.fast.specs.declared.Split.{Split}
 
 -- An answer read as number and values loses nothing (RULES 2.10).
@@ -69,14 +70,26 @@ FrameOfOnly =
     (message : List ℕ) (sequence number : ℕ) (r s : Split)
     → FrameOf message sequence number r → FrameOf message sequence number s → r ≡ s
 
+abbrev pub BadListRefusalOnly : Type 0
+BadListRefusalOnly = (why : BadList) (r s : ℕ) → BadListRefusal why r → BadListRefusal why s → r ≡ s
+
 abbrev pub StartingRefusalOnly : Type 0
 StartingRefusalOnly = (answer : Starting) (r s : ℕ) → StartingRefusal answer r → StartingRefusal answer s → r ≡ s
+
+abbrev pub NotHeardRefusalOnly : Type 0
+NotHeardRefusalOnly = (why : NotHeard) (r s : ℕ) → NotHeardRefusal why r → NotHeardRefusal why s → r ≡ s
 
 abbrev pub AnswerRefusalOnly : Type 0
 AnswerRefusalOnly = (answer : Answer) (r s : ℕ) → AnswerRefusal answer r → AnswerRefusal answer s → r ≡ s
 
+abbrev pub BadStateRefusalOnly : Type 0
+BadStateRefusalOnly = (why : BadState) (r s : ℕ) → BadStateRefusal why r → BadStateRefusal why s → r ≡ s
+
 abbrev pub PausingRefusalOnly : Type 0
 PausingRefusalOnly = (answer : Pausing) (r s : ℕ) → PausingRefusal answer r → PausingRefusal answer s → r ≡ s
+
+abbrev pub NotSplitRefusalOnly : Type 0
+NotSplitRefusalOnly = (why : NotSplit) (r s : ℕ) → NotSplitRefusal why r → NotSplitRefusal why s → r ≡ s
 
 abbrev pub SplittingRefusalOnly : Type 0
 SplittingRefusalOnly = (answer : Splitting) (r s : ℕ) → SplittingRefusal answer r → SplittingRefusal answer s → r ≡ s
@@ -122,7 +135,7 @@ pub record StartAnswers (names : List ℕ) (r : Started) : Type 0 where
       (i j : ℕ) → i < j → j < length names → get_or names i 0 ≡ get_or names j 0 → starting_number r.answer ≡ 16
   pub named : length names ≤ most_named → ((i : ℕ) → i < length names → may_be_named (get_or names i 0) ≡ true)
       → ((i j : ℕ) → i < j → j < length names → get_or names i 0 ≢ get_or names j 0)
-      → (r.answer ≡ Starting.Named) × (names_of r.receiver ≡ names) × (keeps_rules r.receiver ≡ true)
+      → (r.answer ≡ Ok tt) × (names_of r.receiver ≡ names) × (keeps_rules r.receiver ≡ true)
 
 abbrev pub StartNames : Type 0
 StartNames = (names : List ℕ) (r : Started) → Start names r → StartAnswers names r
@@ -130,7 +143,7 @@ StartNames = (names : List ℕ) (r : Started) → Start names r → StartAnswers
 -- A refused start names no DGN.
 abbrev pub StartRefusedKeeps : Type 0
 StartRefusedKeeps =
-    (names : List ℕ) (r : Started) → Start names r → r.answer ≢ Starting.Named → r.receiver ≡ naming_none
+    (names : List ℕ) (r : Started) → Start names r → r.answer ≢ Ok tt → r.receiver ≡ naming_none
 
 -- A refusal keeps state and storage; 10 closes the place of the frame's pair, and keeps every other place and all
 -- bytes.
@@ -154,7 +167,7 @@ pub record ClosedAt (state : Receiver) (storage : List ℕ) (after : Receiver) (
 abbrev pub TenCloses : Type 0
 TenCloses =
     (id : ℕ) (bytes : List ℕ) (state : Receiver) (storage : List ℕ) (r : Heard) (exit : List ℕ)
-    → Hear id bytes state storage r exit → r.answer ≡ UnexpectedFrame
+    → Hear id bytes state storage r exit → r.answer ≡ Err UnexpectedFrame
     → (f : LaterFrame) × (i : ℕ) × (meaning_of (names_of state) id bytes ≡ gives (continues f))
     × OutOfTurn state i f.sequence f.number
     × ClosedAt state storage r.receiver exit (pair_of f.sender f.dgn) i
@@ -243,10 +256,10 @@ pub record FrameAnswers (message : List ℕ) (sequence number : ℕ) (r : Split)
       sequence ≤ greatest_sequence → (length message < 1) ⊎ (longest < length message) → splitting_number r.answer ≡ 13
   pub fifteen : sequence ≤ greatest_sequence → 1 ≤ length message → length message ≤ longest
       → last_frame (length message) < number → splitting_number r.answer ≡ 15
-  pub zeros : r.answer ≢ Splitting.Bytes → r.bytes ≡ replicate frame_bytes 0
+  pub zeros : r.answer ≢ Ok tt → r.bytes ≡ replicate frame_bytes 0
   pub given : sequence ≤ greatest_sequence → 1 ≤ length message → length message ≤ longest
       → number ≤ last_frame (length message)
-      → (r.answer ≡ Splitting.Bytes) × (r.bytes ≡ frame_bytes_of message sequence number)
+      → (r.answer ≡ Ok tt) × (r.bytes ≡ frame_bytes_of message sequence number)
 
 abbrev pub SplitterSplits : Type 0
 SplitterSplits =

@@ -138,6 +138,18 @@ abbrev pub kept_at : ℕ → Place → List ℕ → List ℕ → List ℕ
 kept_at i p bytes storage =
     paste storage (longest * i + offset_of p.expected) (drop 1 bytes) (needed p.length p.expected)
 
+-- the place with other pauses
+abbrev pub waited : ℕ → Place → Place
+waited idle p =
+    record {
+      sender = p.sender;
+      dgn = p.dgn;
+      sequence = p.sequence;
+      length = p.length;
+      expected = p.expected;
+      idle = idle;
+    }
+
 abbrev pub expecting : ℕ → Place → Place
 expecting number p =
     record {

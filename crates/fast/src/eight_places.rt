@@ -1,16 +1,16 @@
 // Frames and pauses at the eight places of a state that keeps its rules.
 ghost use Rattle.std.specs.Prelude.{◌≡◌, true, List, ℕ, ◌<◌, ◌≤◌, length, get_or};
-ghost use Rattle.words.specs.Lists.{first};
 ghost use Rattle.fast.specs.FastPacket.{meant, meaning_of};
-ghost use Rattle.fast.specs.Receiver.{room, free_place, is_free, is_open_by, names_of, keeps_rules, placing, place_for};
+ghost use Rattle.fast.specs.Receiver.{room, free_place, names_of, keeps_rules, placing};
 ghost use Rattle.fast.specs.Receiver.{hears_first, enters_at, entered, frame_at, hears_later, by_meaning, advanced};
 ghost use Rattle.fast.specs.Promises.{LeftBy};
 ghost use Rattle.fast.specs.Private.{PausedBy, Live};
 
-use crate::limits::{FIRST_BYTES, LATER_BYTES, PLACES};
+use crate::limits::{FIRST_BYTES, IDLE_LIMIT, LATER_BYTES, STRETCH};
 use crate::meaning::Meant;
-use crate::{Answer, Heard, Paused, Pausing, Place, Receiver, meaning, names, one_place, storage};
-use frame::Verdict;
+use crate::{Answer, Event, Heard, NotHeard, Paused, Place, Receiver, meaning, names, one_place};
+use places::seats::Seat;
+use places::{seats, storage};
 
 // The state as it came, with an answer.
 pub fn keeps(r: Receiver, answer: Answer) -> Heard
@@ -23,6 +23,7 @@ pub fn keeps(r: Receiver, answer: Answer) -> Heard
 }
 
 // A frame.
+#[tactic(auto, unfolding(crate::specs::FastPacket::meaning_of))]
 pub fn hear(r: Receiver, storage: &mut [u8], id: u32, bytes: &[u8]) -> Heard
     requires { (keeps_rules r ≡ true) × (room ≤ length storage.old) }
     ensures { LeftBy
@@ -30,26 +31,25 @@ pub fn hear(r: Receiver, storage: &mut [u8], id: u32, bytes: &[u8]) -> Heard
         result storage.new }
 {
     let checked = frame::check(id, bytes);
-    let eight = checked.bytes;
-    let verdict = checked.verdict;
-    match verdict {
-        Verdict::Bad(why) => keeps(r, Answer::BadFrame(why)),
-        Verdict::Sound(parts) => heed(r, storage, parts.source, parts.dgn, eight),
+    match checked.verdict {
+        Err(why) => keeps(r, Err(NotHeard::BadFrame(why))),
+        Ok(parts) => heed(r, storage, parts.source, parts.dgn, checked.bytes),
     }
 }
 
 // A frame that passed refusals 3 to 6.
+#[tactic(auto, unfolding(crate::specs::FastPacket::meant))]
 fn heed(r: Receiver, storage: &mut [u8], sender: u8, dgn: u32, bytes: [u8; 8]) -> Heard
     requires { (keeps_rules r ≡ true) × (room ≤ length storage.old) }
     ensures { LeftBy
         (by_meaning (meant (names_of r) sender dgn bytes) bytes r storage.old)
         result storage.new }
 {
-    if !names::named_by(r, dgn) {
-        return keeps(r, Answer::NothingToDo);
+    if !names::is_named(dgn, names::names_of(&r)) {
+        return keeps(r, Ok(Event::NothingToDo));
     }
     match meaning::meaning_of(sender, dgn, bytes) {
-        Meant::Malformed => keeps(r, Answer::MalformedLength),
+        Meant::Malformed => keeps(r, Err(NotHeard::MalformedLength)),
         Meant::Begins {
             sender,
             dgn,
@@ -83,71 +83,24 @@ fn heed(r: Receiver, storage: &mut [u8], sender: u8, dgn: u32, bytes: [u8; 8]) -
 }
 
 // A frame 0 whose message, in place p, takes its pair's place or else the lowest free one.
+#[tactic(auto, unfolding(crate::specs::Receiver::place_for, crate::specs::Receiver::hears_first))]
 fn begins(r: Receiver, storage: &mut [u8], p: Place, bytes: [u8; 8]) -> Heard
     requires { room ≤ length storage.old }
     ensures { LeftBy (hears_first p bytes r storage.old) result storage.new }
 {
-    match place_for(r, one_place::pair_of(p.sender, p.dgn)) {
+    match seats::place_for(&r.places, p.key()) {
         Some(at) => enters_at(r, storage, at, p, bytes),
-        None => keeps(r, Answer::NoPlaceFree),
+        None => keeps(r, Err(NotHeard::NoPlaceFree)),
     }
-}
-
-// The place that a pair's frame 0 takes.
-fn place_for(r: Receiver, pair: u64) -> Option<usize>
-    ensures { result ≡ place_for pair r.places }
-{
-    match open_by(r, pair) {
-        Some(at) => Some(at),
-        None => lowest_free(r),
-    }
-}
-
-// The lowest-numbered free place.
-fn lowest_free(r: Receiver) -> Option<usize>
-    ensures { result ≡ first is_free r.places }
-{
-    let mut i: usize = 0;
-    let at = loop {
-        if PLACES <= i {
-            break i;
-        }
-        let p = r.places[i];
-        if p.length == 0 {
-            break i;
-        }
-        i += 1;
-    };
-    if at < PLACES {
-        Some(at)
-    } else {
-        None
-    }
-}
-
-// The place that is open by this pair.
-fn open_by(r: Receiver, pair: u64) -> Option<usize>
-    ensures { result ≡ first (is_open_by pair) r.places }
-{
-    let mut i: usize = 0;
-    while i < PLACES {
-        let p = r.places[i];
-        if one_place::is_open_by(p, pair) {
-            return Some(i);
-        }
-        i += 1;
-    }
-    None
 }
 
 // One place replaced.
-fn replace(r: Receiver, at: usize, p: Place) -> Receiver
+fn replace(mut r: Receiver, at: usize, p: Place) -> Receiver
     requires { at < 8 }
     ensures { result ≡ placing r at p }
 {
-    let mut s = r;
-    s.places[at] = p;
-    s
+    r.places[at] = p;
+    r
 }
 
 // A frame 0 in place `at`: its bytes are kept there.
@@ -155,31 +108,33 @@ fn enters_at(r: Receiver, storage: &mut [u8], at: usize, p: Place, bytes: [u8; 8
     requires { (at < 8) × (room ≤ length storage.old) }
     ensures { LeftBy (enters_at at p bytes r storage.old) result storage.new }
 {
-    let count = storage::at_most(FIRST_BYTES, p.length as usize);
-    storage::keep(storage, at, 0, bytes, 2, count);
+    let count = FIRST_BYTES.min(usize::from(p.length));
+    storage::keep(storage, STRETCH, at, 0, &bytes[2..2 + count]);
     entered(r, at, p)
 }
 
 // Where frame 0 has the whole message, it is handed over and the place is free; any other message is open.
+#[tactic(auto, unfolding(crate::specs::Receiver::entered))]
 fn entered(r: Receiver, at: usize, p: Place) -> Heard
     requires { at < 8 }
     ensures { (s : List ℕ) → LeftBy (entered at p r s) result s }
 {
-    if p.length as usize <= FIRST_BYTES {
+    if usize::from(p.length) <= FIRST_BYTES {
         return keeps(
-            replace(r, at, one_place::free()),
-            Answer::Finished {
+            replace(r, at, Place::free()),
+            Ok(Event::Finished {
                 place: at,
                 sender: p.sender,
                 dgn: p.dgn,
                 length: p.length,
-            },
+            }),
         );
     }
-    keeps(replace(r, at, p), Answer::Opened)
+    keeps(replace(r, at, p), Ok(Event::Opened))
 }
 
 // A frame of number 1 or more.
+#[tactic(auto, unfolding(crate::specs::Receiver::hears_later))]
 fn continues(
     r: Receiver,
     storage: &mut [u8],
@@ -191,13 +146,14 @@ fn continues(
     requires { (keeps_rules r ≡ true) × (room ≤ length storage.old) }
     ensures { LeftBy (hears_later pair sequence number bytes r storage.old) result storage.new }
 {
-    match open_by(r, pair) {
+    match seats::open_by(&r.places, pair) {
         Some(at) => frame_at(r, storage, at, sequence, number, bytes),
-        None => keeps(r, Answer::NoOpenMessage),
+        None => keeps(r, Err(NotHeard::NoOpenMessage)),
     }
 }
 
 // A frame of number 1 or more for the open message in place `at`.
+#[tactic(auto, unfolding(crate::specs::Receiver::frame_at))]
 fn frame_at(
     r: Receiver,
     storage: &mut [u8],
@@ -212,63 +168,51 @@ fn frame_at(
         result storage.new }
 {
     let p = r.places[at];
-    if sequence != p.sequence {
-        return keeps(replace(r, at, one_place::free()), Answer::UnexpectedFrame);
+    if sequence != p.sequence || number != p.expected {
+        return keeps(
+            replace(r, at, Place::free()),
+            Err(NotHeard::UnexpectedFrame),
+        );
     }
-    if number != p.expected {
-        return keeps(replace(r, at, one_place::free()), Answer::UnexpectedFrame);
-    }
-    let offset = FIRST_BYTES + LATER_BYTES * (number as usize - 1);
-    let count = storage::at_most(LATER_BYTES, p.length as usize - offset);
-    storage::keep(storage, at, offset, bytes, 1, count);
+    let offset = FIRST_BYTES + LATER_BYTES * (usize::from(number) - 1);
+    let count = LATER_BYTES.min(usize::from(p.length) - offset);
+    storage::keep(storage, STRETCH, at, offset, &bytes[1..1 + count]);
     advance(r, at, p)
 }
 
 // The open message in place `at` after its expected frame.
+#[tactic(auto, unfolding(crate::specs::Receiver::advanced))]
 fn advance(r: Receiver, at: usize, p: Place) -> Heard
     requires { (at < 8) × Live p }
     ensures { (s : List ℕ) → LeftBy (advanced at p r s) result s }
 {
-    let number = p.expected;
-    if number == p.length / 7 {
+    if p.expected == p.length / 7 {
         return keeps(
-            replace(r, at, one_place::free()),
-            Answer::Finished {
+            replace(r, at, Place::free()),
+            Ok(Event::Finished {
                 place: at,
                 sender: p.sender,
                 dgn: p.dgn,
                 length: p.length,
-            },
+            }),
         );
     }
-    keeps(
-        replace(r, at, one_place::expecting(p, number + 1)),
-        Answer::Stored,
-    )
+    let next = Place {
+        expected: p.expected + 1,
+        idle: 0,
+        ..p
+    };
+    keeps(replace(r, at, next), Ok(Event::Stored))
 }
 
 // A pause.
-pub fn pause(r: Receiver, ms: u16) -> Paused
+#[tactic(auto, unfolding(crate::specs::Receiver::closes, crate::specs::Receiver::idled))]
+pub fn pause(mut r: Receiver, ms: u16) -> Paused
     ensures { PausedBy ms r result }
 {
-    let mut places = r.places;
-    let mut closed: u8 = 0;
-    let mut i: usize = 0;
-    while i < PLACES {
-        let p = places[i];
-        if one_place::closes(p, ms) {
-            closed += 1;
-        }
-        places[i] = one_place::idled(p, ms);
-        i += 1;
-    }
-    let dgns = r.dgns;
+    let closed = seats::pause(&mut r.places, IDLE_LIMIT, ms);
     Paused {
-        receiver: Receiver {
-            dgns,
-            named: r.named,
-            places,
-        },
-        answer: Pausing::Closed(closed),
+        receiver: r,
+        answer: Ok(closed),
     }
 }

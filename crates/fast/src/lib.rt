@@ -9,17 +9,19 @@ mod names;
 mod one_place;
 mod rules;
 mod splitter;
-mod storage;
 
 ghost use Rattle.fast.specs.Promises.{Start, Hear, Pause, Message, FrameOf};
-ghost use Rattle.fast.specs.Promises.{StartingRefusal, AnswerRefusal, PausingRefusal, SplittingRefusal};
+ghost use Rattle.fast.specs.Promises.{number_of_bad_list, number_of_not_heard, number_of_bad_state};
+ghost use Rattle.fast.specs.Promises.{number_of_not_split};
 
 use frame::BadFrame;
-use limits::{DGNS, STORAGE_BYTES};
+use limits::{DGNS, STORAGE_BYTES, STRETCH};
+use places::storage;
+use words::Refusal;
 
 // An open message's place: its pair of sender and DGN, its sequence number and length, the frame expected next, and the
 // pauses since its last frame, in milliseconds. A free place is all zeros.
-#[derive(Clone, Copy)]
+#[derive(Clone, Copy, PartialEq)]
 pub struct Place {
     pub sender: u8,
     pub dgn: u32,
@@ -38,12 +40,14 @@ pub struct Receiver {
     pub places: [Place; 8],
 }
 
-// The DGNs are named; or refusal 16.
+// Why a start names no DGN: refusal 16.
 #[derive(Clone, Copy)]
-pub enum Starting {
-    Named,
+pub enum BadList {
     ListMalformed,
 }
+
+// The DGNs are named, or why not.
+pub type Starting = Result<(), BadList>;
 
 // The new receiver; one that names no DGN where the start is refused.
 #[derive(Clone, Copy)]
@@ -52,16 +56,9 @@ pub struct Started {
     pub answer: Starting,
 }
 
-// What a frame did: the refusals 1 to 10 by name, or the four ways in which it was heard.
+// The ways in which a frame is heard. The length of a message that is finished is what differs from a long message's.
 #[derive(Clone, Copy)]
-pub enum Answer {
-    StorageTooShort,
-    BrokenState,
-    BadFrame(BadFrame),
-    MalformedLength,
-    NoPlaceFree,
-    NoOpenMessage,
-    UnexpectedFrame,
+pub enum Event {
     NothingToDo,
     Opened,
     Stored,
@@ -73,6 +70,21 @@ pub enum Answer {
     },
 }
 
+// Why a frame is not heard: the refusals 1 to 10.
+#[derive(Clone, Copy)]
+pub enum NotHeard {
+    StorageTooShort,
+    BrokenState,
+    BadFrame(BadFrame),
+    MalformedLength,
+    NoPlaceFree,
+    NoOpenMessage,
+    UnexpectedFrame,
+}
+
+// What a frame did, or why it was not heard.
+pub type Answer = Result<Event, NotHeard>;
+
 // The state to go on with, and what the frame did.
 #[derive(Clone, Copy)]
 pub struct Heard {
@@ -80,12 +92,14 @@ pub struct Heard {
     pub answer: Answer,
 }
 
-// How many messages a pause closed, or refusal 2.
+// Why a pause does not pass: refusal 2.
 #[derive(Clone, Copy)]
-pub enum Pausing {
-    Closed(u8),
+pub enum BadState {
     BrokenState,
 }
+
+// How many messages a pause closed, or why it did not pass.
+pub type Pausing = Result<u8, BadState>;
 
 // The state to go on with, and how many messages the pause closed.
 #[derive(Clone, Copy)]
@@ -94,15 +108,17 @@ pub struct Paused {
     pub answer: Pausing,
 }
 
-// A frame of a message is given; or a sequence number above 7 has no code in three bits (12), the message has not 1 to
-// 223 bytes (13), or it has no frame of that number (15).
+// Why a frame of a message is not given: a sequence number above 7 has no code in three bits (12), the message has not 1
+// to 223 bytes (13), or it has no frame of that number (15).
 #[derive(Clone, Copy)]
-pub enum Splitting {
-    Bytes,
+pub enum NotSplit {
     NoCode,
     LengthNotSplit,
     NoSuchFrame,
 }
+
+// A frame of a message is given, or why not.
+pub type Splitting = Result<(), NotSplit>;
 
 // A frame's eight bytes; zeros where it is refused.
 #[derive(Clone, Copy)]
@@ -111,70 +127,50 @@ pub struct Split {
     pub bytes: [u8; 8],
 }
 
-impl Starting {
-    // The number of the refusal; 0 where the DGNs are named.
-    pub fn refusal(self) -> u8
-        ensures { StartingRefusal self result }
-    {
-        let answer = self;
-        match answer {
-            Starting::Named => 0,
-            Starting::ListMalformed => 16,
+impl Refusal for BadList {
+    ghost number = { number_of_bad_list };
+
+    fn refusal(self) -> u8 {
+        match self {
+            BadList::ListMalformed => 16,
         }
     }
 }
 
-impl Answer {
-    // The number of the refusal; 0 where the frame was heard.
-    pub fn refusal(self) -> u8
-        ensures { AnswerRefusal self result }
-    {
-        let answer = self;
-        match answer {
-            Answer::StorageTooShort => 1,
-            Answer::BrokenState => 2,
-            Answer::BadFrame(why) => why.refusal(),
-            Answer::MalformedLength => 7,
-            Answer::NoPlaceFree => 8,
-            Answer::NoOpenMessage => 9,
-            Answer::UnexpectedFrame => 10,
-            Answer::NothingToDo => 0,
-            Answer::Opened => 0,
-            Answer::Stored => 0,
-            Answer::Finished {
-                place: _,
-                sender: _,
-                dgn: _,
-                length: _,
-            } => 0,
+impl Refusal for NotHeard {
+    ghost number = { number_of_not_heard };
+
+    fn refusal(self) -> u8 {
+        match self {
+            NotHeard::StorageTooShort => 1,
+            NotHeard::BrokenState => 2,
+            NotHeard::BadFrame(why) => why.refusal(),
+            NotHeard::MalformedLength => 7,
+            NotHeard::NoPlaceFree => 8,
+            NotHeard::NoOpenMessage => 9,
+            NotHeard::UnexpectedFrame => 10,
         }
     }
 }
 
-impl Pausing {
-    // The number of the refusal; 0 where the pause has passed.
-    pub fn refusal(self) -> u8
-        ensures { PausingRefusal self result }
-    {
-        let answer = self;
-        match answer {
-            Pausing::Closed(_) => 0,
-            Pausing::BrokenState => 2,
+impl Refusal for BadState {
+    ghost number = { number_of_bad_state };
+
+    fn refusal(self) -> u8 {
+        match self {
+            BadState::BrokenState => 2,
         }
     }
 }
 
-impl Splitting {
-    // The number of the refusal; 0 where the frame is given.
-    pub fn refusal(self) -> u8
-        ensures { SplittingRefusal self result }
-    {
-        let answer = self;
-        match answer {
-            Splitting::Bytes => 0,
-            Splitting::NoCode => 12,
-            Splitting::LengthNotSplit => 13,
-            Splitting::NoSuchFrame => 15,
+impl Refusal for NotSplit {
+    ghost number = { number_of_not_split };
+
+    fn refusal(self) -> u8 {
+        match self {
+            NotSplit::NoCode => 12,
+            NotSplit::LengthNotSplit => 13,
+            NotSplit::NoSuchFrame => 15,
         }
     }
 }
@@ -184,40 +180,34 @@ impl Receiver {
     // repeat, or with a DGN that is not carried this way: above 1FFFFh, ECFFh, EBFFh, and any whose upper nine bits are
     // EAh or EEh; the receiver then names no DGN. Lend its `hear` a storage of at least 1784 bytes, the same at every
     // call.
+    #[tactic(auto, using(crate::proofs::Dgns::few_named))]
     pub fn start(dgns: &[u32]) -> Started
         ensures { Start dgns.now result }
     {
         if !names::well_formed(dgns) {
             return Started {
-                receiver: Receiver {
-                    dgns: [0u32; DGNS],
-                    named: 0,
-                    places: [one_place::free(); 8],
-                },
-                answer: Starting::ListMalformed,
+                receiver: names::naming(&dgns[..0]),
+                answer: Err(BadList::ListMalformed),
             };
         }
         Started {
-            receiver: Receiver {
-                dgns: names::filled(dgns),
-                named: dgns.len(),
-                places: [one_place::free(); 8],
-            },
-            answer: Starting::Named,
+            receiver: names::naming(dgns),
+            answer: Ok(()),
         }
     }
 
     // Hears one frame. Refusals 1 to 10; only 10 changes anything: it closes the message of the frame's pair. What is
     // heard changes at most one place, and in the storage no bytes but those of that place. Go on with the receiver
     // that is answered, and read a finished message with `message` before the next frame is heard.
+    #[tactic(auto, unfolding(crate::specs::Receiver::heard))]
     pub fn hear(self, storage: &mut [u8], id: u32, bytes: &[u8]) -> Heard
         ensures { Hear id bytes.now self storage.old result storage.new }
     {
         if storage.len() < STORAGE_BYTES {
-            return eight_places::keeps(self, Answer::StorageTooShort);
+            return eight_places::keeps(self, Err(NotHeard::StorageTooShort));
         }
         if !rules::keep_rules(self) {
-            return eight_places::keeps(self, Answer::BrokenState);
+            return eight_places::keeps(self, Err(NotHeard::BrokenState));
         }
         eight_places::hear(self, storage, id, bytes)
     }
@@ -225,13 +215,14 @@ impl Receiver {
     // Hears that the bus was silent for so many milliseconds: how many messages that closed, each idle for more than
     // 750 by now. Refusal 2, which changes nothing. Call it for the time between two frames before the second is heard;
     // a longer time may be given in parts, which add up.
+    #[tactic(auto, unfolding(crate::specs::Receiver::paused_state, crate::specs::Receiver::paused_answer))]
     pub fn pause(self, ms: u16) -> Paused
         ensures { Pause ms self result }
     {
         if !rules::keep_rules(self) {
             return Paused {
                 receiver: self,
-                answer: Pausing::BrokenState,
+                answer: Err(BadState::BrokenState),
             };
         }
         eight_places::pause(self, ms)
@@ -245,16 +236,13 @@ pub fn message(storage: &[u8], answer: Answer) -> &[u8]
     ensures { Message storage.now answer result.now }
 {
     if storage.len() < STORAGE_BYTES {
-        return &storage[0..0];
+        return &storage[..0];
     }
     match answer {
-        Answer::Finished {
-            place,
-            sender: _,
-            dgn: _,
-            length,
-        } => storage::part(storage, place, length),
-        _ => &storage[0..0],
+        Ok(Event::Finished { place, length, .. }) => {
+            storage::part(storage, STRETCH, place, usize::from(length))
+        }
+        _ => &storage[..0],
     }
 }
 
@@ -264,14 +252,9 @@ pub fn message(storage: &[u8], answer: Answer) -> &[u8]
 pub fn frame_of(message: &[u8], sequence: u8, number: u32) -> Split
     ensures { FrameOf message.now sequence number result }
 {
-    match splitter::splittable(message.len(), sequence, number) {
-        Splitting::Bytes => Split {
-            answer: Splitting::Bytes,
-            bytes: splitter::frame_bytes(message, sequence, number as u8),
-        },
-        answer => Split {
-            answer,
-            bytes: [0u8; 8],
-        },
+    let frame = splitter::frame(message, sequence, number);
+    Split {
+        answer: frame.map(|_| ()),
+        bytes: frame.unwrap_or([0; 8]),
     }
 }

@@ -17,7 +17,7 @@ pub const IDLE_LIMIT: u16 = 750;
 pub const DGNS: usize = 16;
 
 // The receiver's places, and the storage bytes that each owns.
-pub const PLACES: usize = 8;
+pub const PLACES: usize = places::storage::PLACES;
 
 pub const STRETCH: usize = 223;
 

@@ -24,6 +24,7 @@ pub enum Meant {
 
 // A frame of a DGN that is named: byte 0 has the sequence number in its top three bits and the frame's number in the
 // low five, and frame 0 has the message's length in byte 1.
+#[tactic(auto, unfolding(crate::specs::FastPacket::carried))]
 pub fn meaning_of(sender: u8, dgn: u32, bytes: [u8; 8]) -> Meant
     ensures { told_meant result ≡ carried sender dgn bytes }
 {
@@ -42,13 +43,11 @@ pub fn meaning_of(sender: u8, dgn: u32, bytes: [u8; 8]) -> Meant
 }
 
 // A frame 0 with this length in it.
+#[tactic(auto, unfolding(crate::specs::FastPacket::begun))]
 fn begun(sender: u8, dgn: u32, sequence: u8, size: u8) -> Meant
     ensures { told_meant result ≡ begun sender dgn sequence size }
 {
-    if size < 1 {
-        return Meant::Malformed;
-    }
-    if LONGEST < size {
+    if size < 1 || LONGEST < size {
         return Meant::Malformed;
     }
     Meant::Begins {

@@ -25,7 +25,7 @@ use Rattle.claim.specs.Claim as Claim
 use Rattle.claim.specs.Claim.{Stand, claiming, silent}
 use Rattle.claim.specs.Promises.{told_standing, Stands}
 use Rattle.claim.specs.declared.Claim as Claims
-use Rattle.claim.specs.declared.Standing.{Standing}
+use Rattle.claim.specs.Promises.{Standing}
 use Rattle.command.specs.Handed.{address_held}
 use Rattle.command.specs.Positions.{filled}
 use Rattle.command.specs.Requests as Host

@@ -3,7 +3,7 @@ use Rattle.std.specs.Prelude.{List, [], ℕ, Option, Some, None, Result, Ok, Err
 use Rattle.words.specs.Words.{Told, refused, gives}
 use Rattle.frame.specs.Standard.{no_frame}
 use Rattle.command.specs.Positions.{filled}
-use Rattle.command.specs.declared.Requesting.TheVariants as Hosting
+use Rattle.command.specs.declared.Response.TheVariants as Hosting
 use Rattle.faults.specs.Fault.{sent}
 use Rattle.faults.specs.Sender.{dm_rv_id, fault_at, replacing}
 use Rattle.faults.specs.Requests.{Asks, other, faults_of}
@@ -51,7 +51,7 @@ without_host faults =
       faults = faults;
       host =
           record {
-            answer = Hosting.NothingToDo;
+            answer = Ok Hosting.NothingToDo;
             positions = filled [];
             id = no_frame.id;
             bytes = no_frame.bytes;

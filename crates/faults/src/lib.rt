@@ -20,7 +20,7 @@ ghost use Rattle.faults.specs.Promises.{number_of_not_added, number_of_not_clear
 ghost use Rattle.faults.specs.Promises.{number_of_not_heard};
 
 use catalogue::{Looked, NotRead, Reading, Row, Value, Writing};
-use claim::{Claim, Standing};
+use claim::{BadState, Claim, Place};
 use command::Host;
 use frame::BadFrame;
 use words::Refusal;
@@ -312,11 +312,11 @@ impl Sender {
             return sending::bare(self, Err(NotStepped::BrokenState));
         }
         match claim.stands() {
-            Standing::Held(address) => sending::step(self, address),
-            Standing::Claiming(_) => sending::bare(self, Err(NotStepped::NoAddressHeld)),
-            Standing::Silent => sending::bare(self, Err(NotStepped::NoAddressHeld)),
-            Standing::BrokenState => sending::bare(self, Err(NotStepped::BrokenState)),
-            Standing::ListMalformed => sending::bare(self, Err(NotStepped::ListMalformed)),
+            Ok(Place::Held(address)) => sending::step(self, address),
+            Ok(Place::Claiming(_)) => sending::bare(self, Err(NotStepped::NoAddressHeld)),
+            Ok(Place::Silent) => sending::bare(self, Err(NotStepped::NoAddressHeld)),
+            Err(BadState::BrokenState) => sending::bare(self, Err(NotStepped::BrokenState)),
+            Err(BadState::ListMalformed) => sending::bare(self, Err(NotStepped::ListMalformed)),
         }
     }
 

@@ -9,7 +9,7 @@ ghost use Rattle.faults.specs.Promises.{RequestedBy};
 ghost use Rattle.faults.specs.Private.{told_meant, bare_requested, answered_by, without_host};
 
 use crate::{DM_RV, NotHeard, Replied, Requested, Requesting, Response, Sender, searches, sending};
-use claim::{Claim, Standing};
+use claim::{BadState, Claim, Place};
 use command::Positions;
 use frame::standard;
 
@@ -38,11 +38,11 @@ pub fn heard(s: Sender, claim: Claim, dgn: u32, bytes: [u8; 8]) -> Requested
     ensures { RequestedBy (heard_of dgn bytes claim s) s result }
 {
     match claim.stands() {
-        Standing::BrokenState => bare(s, Err(NotHeard::BrokenState)),
-        Standing::ListMalformed => bare(s, Err(NotHeard::ListMalformed)),
-        Standing::Held(address) => at_address(s, address, meant_by(dgn, bytes)),
-        Standing::Claiming(_) => nowhere(s, meant_by(dgn, bytes)),
-        Standing::Silent => nowhere(s, meant_by(dgn, bytes)),
+        Err(BadState::BrokenState) => bare(s, Err(NotHeard::BrokenState)),
+        Err(BadState::ListMalformed) => bare(s, Err(NotHeard::ListMalformed)),
+        Ok(Place::Held(address)) => at_address(s, address, meant_by(dgn, bytes)),
+        Ok(Place::Claiming(_)) => nowhere(s, meant_by(dgn, bytes)),
+        Ok(Place::Silent) => nowhere(s, meant_by(dgn, bytes)),
     }
 }
 
@@ -159,7 +159,7 @@ pub fn without_host(faults: Requested) -> Replied
     Replied {
         faults,
         host: command::Requested {
-            answer: command::Requesting::NothingToDo,
+            answer: Ok(command::Response::NothingToDo),
             positions: Positions {
                 at: [0; 16],
                 count: 0,

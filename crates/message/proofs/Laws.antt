@@ -1,6 +1,6 @@
 -- The statements of specs/Laws.antt, proved.
 -- Assumes nothing.
-use Rattle.std.specs.Prelude.{Option, Some, None}
+use Rattle.std.specs.Prelude.{Option, Some, None, Ok, Err}
 use Rattle.std.specs.Prelude.{if◌then◌else◌}
 use mathlib.Core.Path.{◌≡◌, refl, sym, ap, ◌∙◌, subst, subst⁻¹}
 use mathlib.Core.Bool.{true, false}
@@ -32,23 +32,25 @@ use Rattle.message.specs.Receiver.{After, leaves, place_for, opened_at, hears_an
 use Rattle.message.specs.Receiver.{kept_at, packet_at, carries, by_meaning, heard, paused_places, paused_answer}
 use Rattle.message.specs.Receiver as Receiver
 use Rattle.message.specs.Splitter.{numbered}
-use Rattle.message.specs.Promises.{told_answer, told_pausing, announcing_number, splitting_number}
+use Rattle.message.specs.Promises.{Answer, Pausing, Announcing, Splitting, number_of_not_heard, outcome_of, told_answer}
+use Rattle.message.specs.Promises.{told_pausing, announcing_number, splitting_number}
 use Rattle.message.specs.Laws.{ToldAnswerSame, ToldPausingSame, AnnouncingNumberSame, SplittingNumberSame}
 use Rattle.message.specs.Laws.{NewOnly, HearOnly, PauseOnly, MessageOnly, AnnouncementOnly, PacketOnly}
+use Rattle.message.specs.Laws.{NotHeardRefusalOnly, BadStateRefusalOnly, NotSplitRefusalOnly}
 use Rattle.message.specs.Laws.{AnswerRefusalOnly, PausingRefusalOnly, UnsplittableRefusalOnly}
 use Rattle.message.specs.Laws.{AnnouncingRefusalOnly, SplittingRefusalOnly, RefusedKeeps, ClosedAt, TenCloses}
 use Rattle.message.specs.Laws.{LowestWins, PauseRefusedKeeps, WritesThePacket, WritesItsOwn, NotBeyond}
 use Rattle.message.specs.Laws.{SplitterAnnounces, SplitterSplits}
 use Rattle.message.specs.declared.Place.{Place}
-use Rattle.message.specs.declared.Answer.{Answer}
-use Rattle.message.specs.declared.Answer.TheVariants.{StorageTooShort, BrokenState, BadFrame}
-use Rattle.message.specs.declared.Answer.TheVariants.{MalformedAnnouncement, NoPlaceFree, NoOpenMessage}
-use Rattle.message.specs.declared.Answer.TheVariants.{UnexpectedPacket, NothingToDo, Opened, Stored, Finished}
-use Rattle.message.specs.declared.Pausing.{Pausing}
+use Rattle.message.specs.declared.Event.{Event}
+use Rattle.message.specs.declared.Event.TheVariants.{NothingToDo, Opened, Stored, Finished}
+use Rattle.message.specs.declared.NotHeard.{NotHeard}
+use Rattle.message.specs.declared.NotHeard.TheVariants.{StorageTooShort, BadFrame, MalformedAnnouncement}
+use Rattle.message.specs.declared.NotHeard.TheVariants.{NoPlaceFree, NoOpenMessage, UnexpectedPacket}
+use Rattle.message.specs.declared.BadState.TheVariants as BadState
 use Rattle.message.specs.declared.Unsplittable.{Unsplittable}
 use Rattle.message.specs.declared.Unsplittable.TheVariants.{NoCode, LengthNotSplit}
-use Rattle.message.specs.declared.Announcing.{Announcing}
-use Rattle.message.specs.declared.Splitting.{Splitting}
+use Rattle.message.specs.declared.NotSplit.TheVariants as NotSplit
 use Rattle.message.proofs.Frames.{Known, meaning_known}
 use Rattle.message.proofs.Steps.{found_below, OpenRules, rules_at, announcing_at, announcing_nowhere}
 use Rattle.message.proofs.Steps.{advanced_last, advanced_next, advanced_storage, packet_expected, packet_other}
@@ -59,83 +61,97 @@ use Rattle.message.proofs.Packets.{numbered_zero, numbered_above, numbered_given
 
 -- an answer is read back from what it tells
 
-answer_back : Told Outcome → Answer
-answer_back (refused n) =
+why_back : ℕ → NotHeard
+why_back n =
     if n =? 1 then StorageTooShort else
-    if n =? 2 then BrokenState else
+    if n =? 2 then NotHeard.BrokenState else
     if n =? 7 then MalformedAnnouncement else
     if n =? 8 then NoPlaceFree else
     if n =? 9 then NoOpenMessage else
     if n =? 10 then UnexpectedPacket else
     BadFrame (bad_back n)
-answer_back (gives nothing_to_do) = NothingToDo
-answer_back (gives opened) = Opened
-answer_back (gives stored) = Stored
-answer_back (gives (finished m)) = Finished m.place m.sender m.dgn m.size
 
-bad_answer : (w : Frames.BadFrame) → answer_back (refused (refusal_of w)) ≡ BadFrame w
-unfolding answer_back
+event_back : Outcome → Event
+event_back nothing_to_do = NothingToDo
+event_back opened = Opened
+event_back stored = Stored
+event_back (finished m) = Finished m.place m.sender m.dgn m.size
+
+answer_back : Told Outcome → Answer
+answer_back (refused n) = Err (why_back n)
+answer_back (gives o) = Ok (event_back o)
+
+bad_answer : (w : Frames.BadFrame) → why_back (refusal_of w) ≡ BadFrame w
+unfolding why_back
 bad_answer IdentifierTooLarge = ap BadFrame (bad_back_lem IdentifierTooLarge)
 bad_answer NotEightBytes = ap BadFrame (bad_back_lem NotEightBytes)
 bad_answer ReservedBitSet = ap BadFrame (bad_back_lem ReservedBitSet)
 bad_answer SourceNotAllowed = ap BadFrame (bad_back_lem SourceNotAllowed)
 
+why_back_lem : (why : NotHeard) → why_back (number_of_not_heard why) ≡ why
+unfolding why_back
+why_back_lem StorageTooShort = refl
+why_back_lem NotHeard.BrokenState = refl
+why_back_lem (BadFrame w) = bad_answer w
+why_back_lem MalformedAnnouncement = refl
+why_back_lem NoPlaceFree = refl
+why_back_lem NoOpenMessage = refl
+why_back_lem UnexpectedPacket = refl
+
+event_back_lem : (event : Event) → event_back (outcome_of event) ≡ event
+unfolding event_back
+event_back_lem NothingToDo = refl
+event_back_lem Opened = refl
+event_back_lem Stored = refl
+event_back_lem (Finished place sender dgn size) = refl
+
 answer_back_lem : (r : Answer) → answer_back (told_answer r) ≡ r
 unfolding answer_back
-answer_back_lem StorageTooShort = refl
-answer_back_lem BrokenState = refl
-answer_back_lem (BadFrame w) = bad_answer w
-answer_back_lem MalformedAnnouncement = refl
-answer_back_lem NoPlaceFree = refl
-answer_back_lem NoOpenMessage = refl
-answer_back_lem UnexpectedPacket = refl
-answer_back_lem NothingToDo = refl
-answer_back_lem Opened = refl
-answer_back_lem Stored = refl
-answer_back_lem (Finished place sender dgn size) = refl
+answer_back_lem (Ok event) = ap Ok (event_back_lem event)
+answer_back_lem (Err why) = ap Err (why_back_lem why)
 
 pub told_answer_same : ToldAnswerSame
 told_answer_same r s e = sym (answer_back_lem r) ∙ ap answer_back e ∙ answer_back_lem s
 
 pausing_back : Told ℕ → Pausing
-pausing_back (gives n) = Pausing.Closed n
-pausing_back (refused n) = Pausing.BrokenState
+pausing_back (gives n) = Ok n
+pausing_back (refused n) = Err BadState.BrokenState
 
 pausing_back_lem : (r : Pausing) → pausing_back (told_pausing r) ≡ r
 unfolding pausing_back
-pausing_back_lem (Pausing.Closed n) = refl
-pausing_back_lem Pausing.BrokenState = refl
+pausing_back_lem (Ok n) = refl
+pausing_back_lem (Err BadState.BrokenState) = refl
 
 pub told_pausing_same : ToldPausingSame
 told_pausing_same r s e = sym (pausing_back_lem r) ∙ ap pausing_back e ∙ pausing_back_lem s
 
-why_back : ℕ → Unsplittable
-why_back n = if n =? 12 then NoCode else LengthNotSplit
+unsplittable_back : ℕ → Unsplittable
+unsplittable_back n = if n =? 12 then NoCode else LengthNotSplit
 
 announcing_back : ℕ → Announcing
-announcing_back n = if n =? 0 then Announcing.Bytes else Announcing.Refused (why_back n)
+announcing_back n = if n =? 0 then Ok tt else Err (unsplittable_back n)
 
 announcing_back_lem : (r : Announcing) → announcing_back (announcing_number r) ≡ r
-unfolding announcing_back why_back
-announcing_back_lem Announcing.Bytes = refl
-announcing_back_lem (Announcing.Refused NoCode) = refl
-announcing_back_lem (Announcing.Refused LengthNotSplit) = refl
+unfolding announcing_back unsplittable_back
+announcing_back_lem (Ok u) = refl
+announcing_back_lem (Err NoCode) = refl
+announcing_back_lem (Err LengthNotSplit) = refl
 
 pub announcing_number_same : AnnouncingNumberSame
 announcing_number_same r s e = sym (announcing_back_lem r) ∙ ap announcing_back e ∙ announcing_back_lem s
 
 splitting_back : ℕ → Splitting
 splitting_back n =
-    if n =? 0 then Splitting.Bytes else
-    if n =? 15 then Splitting.NoSuchPacket else
-    Splitting.Refused (why_back n)
+    if n =? 0 then Ok tt else
+    if n =? 15 then Err NotSplit.NoSuchPacket else
+    Err (NotSplit.Unsplittable (unsplittable_back n))
 
 splitting_back_lem : (r : Splitting) → splitting_back (splitting_number r) ≡ r
-unfolding splitting_back why_back
-splitting_back_lem Splitting.Bytes = refl
-splitting_back_lem (Splitting.Refused NoCode) = refl
-splitting_back_lem (Splitting.Refused LengthNotSplit) = refl
-splitting_back_lem Splitting.NoSuchPacket = refl
+unfolding splitting_back unsplittable_back
+splitting_back_lem (Ok u) = refl
+splitting_back_lem (Err (NotSplit.Unsplittable NoCode)) = refl
+splitting_back_lem (Err (NotSplit.Unsplittable LengthNotSplit)) = refl
+splitting_back_lem (Err NotSplit.NoSuchPacket) = refl
 
 pub splitting_number_same : SplittingNumberSame
 splitting_number_same r s e = sym (splitting_back_lem r) ∙ ap splitting_back e ∙ splitting_back_lem s
@@ -171,6 +187,15 @@ packet_only message dgn number r s p q =
     let a = splitting_number_same r.answer s.answer (p.number ∙ sym q.number) in
     let b = p.bytes ∙ sym q.bytes in
     λ i. record { answer = a i; bytes = b i }
+
+pub not_heard_refusal_only : NotHeardRefusalOnly
+not_heard_refusal_only why r s p q = p.number ∙ sym q.number
+
+pub bad_state_refusal_only : BadStateRefusalOnly
+bad_state_refusal_only why r s p q = p.number ∙ sym q.number
+
+pub not_split_refusal_only : NotSplitRefusalOnly
+not_split_refusal_only why r s p q = p.number ∙ sym q.number
 
 pub answer_refusal_only : AnswerRefusalOnly
 answer_refusal_only answer r s p q = p.number ∙ sym q.number
@@ -365,7 +390,7 @@ splitter_announces message dgn r p =
       thirteen = λ d h. p.number ∙ ap number_in (announcement_refused message dgn (splits_outside size dgn d h));
       given = λ d l h.
           let e = announcement_given message dgn (splits_within size dgn d l h) in
-          (announcing_number_same r.answer Announcing.Bytes (p.number ∙ ap number_in e), p.bytes ∙ ap bytes_in e);
+          (announcing_number_same r.answer (Ok tt) (p.number ∙ ap number_in e), p.bytes ∙ ap bytes_in e);
     }
 
 pub splitter_splits : SplitterSplits
@@ -380,7 +405,7 @@ splitter_splits message dgn number r p =
       given = λ d l h one most.
           let e = packet_numbered message dgn number (splits_within size dgn d l h) in
           let g = e ∙ numbered_given message number (packets_of size) (λ z. omega arith) most in
-          (splitting_number_same r.answer Splitting.Bytes (p.number ∙ ap number_in g), p.bytes ∙ ap bytes_in g);
+          (splitting_number_same r.answer (Ok tt) (p.number ∙ ap number_in g), p.bytes ∙ ap bytes_in g);
     }
   where
     numbered_outside : (number ≡ 0) ⊎ (packets_of (length message) < number)

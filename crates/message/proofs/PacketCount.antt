@@ -1,5 +1,6 @@
 -- The statements of specs/PacketCount.antt, proved.
 -- Assumes nothing.
+use Rattle.std.specs.Prelude.{Err}
 use mathlib.Core.Path.{◌≡◌, refl, sym, ap, ◌∙◌}
 use mathlib.Core.List.{List}
 use mathlib.Core.Logic.{◌≢◌, ◌⊎◌, inl, inr}
@@ -18,7 +19,7 @@ use Rattle.message.specs.PacketCount.{most_packets, FitsExactly, AnnouncementFit
 use Rattle.message.specs.PacketCount.{TooManyToAnnounce, TooManyToSplit}
 use Rattle.message.specs.PacketCount.{former_splits, former_announcement_of, former_packet_of}
 use Rattle.message.specs.PacketCount.{NeverFourteen, AnnouncementAsBefore, PacketAsBefore}
-use Rattle.message.specs.declared.Splitting.TheVariants as Splitting
+use Rattle.message.specs.declared.NotSplit.TheVariants.{NoSuchPacket}
 use Rattle.message.proofs.Packets.{splits_above, splits_outside, splits_within, by_limits}
 use Rattle.message.proofs.Laws.{splitting_number_same, splitter_announces, splitter_splits}
 
@@ -73,7 +74,7 @@ packet_fits message dgn number r p a b =
           let g = s.given w.about w.long w.short one most in
           (g.0, ap (byte_at 0) g.1 ∙ numbered_in message number);
       other = λ n.
-          splitting_number_same r.answer Splitting.NoSuchPacket (s.fifteen w.about w.long w.short n);
+          splitting_number_same r.answer (Err NoSuchPacket) (s.fifteen w.about w.long w.short n);
     }
 
 pub too_many_to_announce : TooManyToAnnounce

@@ -1,26 +1,19 @@
 -- The splitter, case by case, and the bytes of a packet.
 -- Assumes nothing.
-use mathlib.Core.Path.{◌≡◌, sym, ap, ◌∙◌}
-use mathlib.Core.List.{List, ◌∷◌, ◌++◌}
+use mathlib.Core.Path.{◌≡◌, sym, ◌∙◌}
+use mathlib.Core.List.{List}
 use mathlib.Core.Logic.{◌⊎◌, inl, inr}
-use Prim.Native.Nat.{ℕ, suc, ◌+◌, ◌-◌, ◌*◌, ◌≤◌, ◌<◌, min}
+use Prim.Native.Nat.{ℕ, ◌≤◌, ◌<◌}
 use native.Mathlib.Omega.{arith}
 use borrow.Author.Tests.{eq-eqb, ne_eqb, lt-ltb, le-ltb, ltb-true, ltb-false}
-use lib.ListN.{length, take, drop, replicate, length-drop}
-use lib.Seq.{paste}
-use Rattle.words.specs.Words.{◌<?◌, Told, refused, gives}
-use Rattle.frame.specs.Frame.{frame_bytes}
+use lib.ListN.{length}
+use Rattle.words.specs.Words.{◌<?◌, refused, gives}
 use Rattle.frame.specs.Identifier.{greatest_dgn}
-use Rattle.frame.specs.Standard.{unused}
 use Rattle.words.proofs.Words.{refused_gives, gives_same, by_test}
 use Rattle.words.proofs.Tests.{tests}
-use Rattle.words.proofs.Lists.{filled}
-use Rattle.message.specs.LongMessage.{shortest, longest, packet_bytes, packets_of}
+use Rattle.message.specs.LongMessage.{shortest, longest, packets_of}
 use Rattle.message.specs.Splitter.{splits, numbered, announcement_bytes, packet_bytes_of}
 use Rattle.message.specs.Splitter.{announcement_of, packet_of}
-use Rattle.message.specs.Promises.{SplitBy, splitting_number}
-use Rattle.message.specs.declared.Splitting.{Splitting}
-use Rattle.message.specs.declared.Split.{Split}
 
 -- What the splitter says of a length and a DGN, case by case.
 
@@ -81,11 +74,6 @@ module _ (message : List ℕ) (dgn : ℕ) where
   unfolding packet_of
   packet_numbered number e = rw e
 
--- a refusal with zeros beside it
-pub split_refused : {t : Told (List ℕ)} {a : Splitting} {r : Split} → t ≡ refused (splitting_number a)
-    → (r.answer ≡ a) × (r.bytes ≡ replicate frame_bytes 0) → SplitBy t r
-split_refused {r = r} e k = rw e (record { number = ap splitting_number k.0; bytes = k.1 })
-
 module _ (message : List ℕ) (number count : ℕ) where
   pub numbered_zero : number ≡ 0 → numbered message number count ≡ refused 15
   unfolding numbered
@@ -98,16 +86,3 @@ module _ (message : List ℕ) (number count : ℕ) where
   pub numbered_given : (number ≡ 0 → ⊥) → number ≤ count → numbered message number count ≡ gives (packet_bytes_of message number)
   unfolding numbered
   numbered_given n h = rw (ne_eqb _ _ n, le-ltb _ _ h)
-
--- what was copied over the filling is the packet
-pub packet_copied : (message : List ℕ) (number : ℕ)
-    → paste (number ∷ replicate packet_bytes unused) 1 (drop (packet_bytes * (number - 1)) message) (min packet_bytes (length message - packet_bytes * (number - 1)))
-    ≡ packet_bytes_of message number
-unfolding packet_bytes_of
-packet_copied message number =
-    let l = drop (packet_bytes * (number - 1)) message in
-    let n = min packet_bytes (length message - packet_bytes * (number - 1)) in
-    let d = number ∷ replicate packet_bytes unused in
-    let e : 1 + n ≡ suc n = omega arith in
-    ap (λ (m : ℕ). take 1 d ++ take n l ++ drop m d) e
-    ∙ ap (λ (r : List ℕ). number ∷ r) (sym (filled packet_bytes unused n l (ap (λ (m : ℕ). min packet_bytes m) (sym (length-drop (packet_bytes * (number - 1)) message)))))

@@ -1,6 +1,6 @@
 -- What a pause makes of places that keep their rules: it leaves places that keep them. And pauses add up.
 -- Assumes nothing.
-use Rattle.std.specs.Prelude.{if◌then◌else◌}
+use Rattle.std.specs.Prelude.{Ok, Err, if◌then◌else◌}
 use mathlib.Core.Path.{◌≡◌, refl, ◌∙◌}
 use mathlib.Core.Bool.{true, false}
 use mathlib.Core.List.{List, map}
@@ -20,11 +20,11 @@ use Rattle.message.specs.LongMessage.{idle_limit}
 use Rattle.message.specs.OneSender.{long_messages}
 use Rattle.message.specs.Receiver.{free_place, is_free, layout, is_zero, place_keeps_rules, keeps_rules}
 use Rattle.message.specs.Receiver.{closes, idled, paused_places, paused_answer}
-use Rattle.message.specs.Promises.{told_pausing}
+use Rattle.message.specs.Promises.{Pausing, told_pausing}
 use Rattle.message.specs.Calls.{Held, Pauses}
 use Rattle.message.specs.Pauses.{pause_call, PausesAddUp}
 use Rattle.message.specs.declared.Place.{Place}
-use Rattle.message.specs.declared.Pausing.{Pausing}
+use Rattle.message.specs.declared.BadState.TheVariants.{BrokenState}
 use Rattle.message.proofs.Steps.{OpenRules, open_rules}
 
 -- an open place that keeps its rules
@@ -192,8 +192,8 @@ module _ (s : Held) where
   unfolding paused_answer
   some ms =
       by_test (keeps_rules ps)
-      (λ k. answers ms (Pausing.Closed (count (closes ms) ps)) (rw k))
-      (λ k. answers ms Pausing.BrokenState (rw k))
+      (λ k. answers ms (Ok (count (closes ms) ps)) (rw k))
+      (λ k. answers ms (Err BrokenState) (rw k))
     where
       answers : (ms : ℕ) (answer : Pausing) → told_pausing answer ≡ paused_answer ms ps
           → (told : Told ℕ) × (t : Held) × Pauses s ms told t

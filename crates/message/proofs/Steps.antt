@@ -1,47 +1,27 @@
--- A frame, case by case: what each definition leaves where its tests are known, and that a state with such places and such an answer is left
--- by it.
+-- A frame, case by case: what each definition leaves where its tests are known.
 -- Assumes nothing.
 use Rattle.std.specs.Prelude.{Option, Some, None}
-use mathlib.Core.Path.{◌≡◌, refl, sym, ap, ◌∙◌, subst⁻¹}
+use mathlib.Core.Path.{◌≡◌, refl, ap, ◌∙◌}
 use mathlib.Core.Bool.{Bool, true, false, not}
 use mathlib.Core.List.{List}
 use Prim.Native.Nat.{ℕ, ◌+◌, ◌<◌, ◌≤◌}
 use native.Mathlib.Omega.{arith}
 use borrow.Author.Tests.{leb-true, eqb-true, eqb-false, not-true, eq-eqb, ne_eqb, lt-ltb, le-ltb}
 use lib.ListN.{length, get_or, set}
-use Rattle.words.specs.Words.{◌≤?◌, ◌=?◌, Told, refused, gives}
+use Rattle.words.specs.Words.{◌≤?◌, ◌=?◌, refused, gives}
 use Rattle.words.specs.Lists.{every, first}
 use Rattle.frame.specs.Identifier.{greatest_dgn}
-use Rattle.frame.specs.Frame.{checked_of}
-use Rattle.frame.specs.declared.Parts.{Parts}
 use Rattle.words.proofs.Words.{both_true, by_test}
 use Rattle.words.proofs.Lists.{found_at, every_at}
 use Rattle.frame.specs.Standard.{greatest_address}
-use Rattle.places.specs.Telling.{Outcome, stored, finished}
-use Rattle.message.specs.LongMessage.{shortest, longest, packets_of, idle_limit, meant, meaning_of}
+use Rattle.places.specs.Telling.{stored, finished}
+use Rattle.message.specs.LongMessage.{shortest, longest, packets_of, idle_limit, meaning_of}
 use Rattle.message.specs.Receiver.{room, free_place, is_free, is_open_by, place_keeps_rules}
 use Rattle.message.specs.Receiver.{keeps_rules, whole_at, After, leaves}
 use Rattle.message.specs.Receiver.{place_for, opened_at, hears_announcement, kept_at, expecting, advanced, packet_at}
 use Rattle.message.specs.Receiver.{carries, by_meaning, heard}
-use Rattle.message.specs.Promises.{told_answer, LeftBy}
 use Rattle.message.specs.Private.{Live}
 use Rattle.message.specs.declared.Place.{Place}
-use Rattle.message.specs.declared.Receiver.{Receiver}
-use Rattle.message.specs.declared.Answer.{Answer}
-use Rattle.message.specs.declared.Heard.{Heard}
-
--- a state with these places, and an answer that tells this, is what is left
-pub left : {a : After} (ps : List Place) (s : List ℕ) (t : Told Outcome) → a ≡ leaves ps s t → (h : Heard) (q : Receiver) (x : Answer)
-    → (h.receiver ≡ q) × (h.answer ≡ x) → q.places ≡ ps → told_answer x ≡ t → LeftBy a h s
-left ps s t e h q x k p u =
-    record {
-      places = ap (λ (r : Receiver). r.places) k.0 ∙ p ∙ sym (ap (λ (a : After). a.places) e);
-      storage_bytes = sym (ap (λ (a : After). a.storage) e);
-      answer = ap told_answer k.1 ∙ u ∙ sym (ap (λ (a : After). a.answer) e);
-    }
-
-pub left_as : {a b : After} {h : Heard} {s : List ℕ} → a ≡ b → LeftBy b h s → LeftBy a h s
-left_as {h = h} {s = s} e k = subst⁻¹ (λ (x : After). LeftBy x h s) e k
 
 -- an announcement
 
@@ -159,13 +139,3 @@ module _ (id : ℕ) (bytes : List ℕ) (ps : List Place) (s : List ℕ) where
   pub heard_kept : room ≤ length s → keeps_rules ps ≡ true → heard id bytes ps s ≡ by_meaning (meaning_of id bytes) bytes ps s
   unfolding heard
   heard_kept h v = rw (le-ltb _ _ h, v)
-
--- by what the frame means
-
-pub meaning_refused : (id n : ℕ) (bytes : List ℕ) → checked_of id (length bytes) ≡ refused n → meaning_of id bytes ≡ refused n
-unfolding meaning_of
-meaning_refused id n bytes e = rw e
-
-pub meaning_given : (id : ℕ) (p : Parts) (bytes : List ℕ) → checked_of id (length bytes) ≡ gives p → meaning_of id bytes ≡ meant p.source p.dgn bytes
-unfolding meaning_of
-meaning_given id p bytes e = rw e

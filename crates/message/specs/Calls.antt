@@ -10,10 +10,8 @@ use Rattle.places.specs.Calls.{Calls}
 use Rattle.places.specs.Telling.{Tells, tells}
 use Rattle.message.specs.OneSender.{Open, long_messages}
 use Rattle.message.specs.Receiver.{room, layout, keeps_rules}
-use Rattle.message.specs.Promises.{told_answer, told_pausing, New, Hear, Message, Pause}
+use Rattle.message.specs.Promises.{Answer, Pausing, told_answer, told_pausing, New, Hear, Message, Pause}
 use Rattle.message.specs.declared.Receiver as Receivers
-use Rattle.message.specs.declared.Answer.{Answer}
-use Rattle.message.specs.declared.Pausing.{Pausing}
 
 -- A receiver with the storage that it is lent.
 pub record Held : Type 0 where

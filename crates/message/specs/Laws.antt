@@ -1,7 +1,7 @@
 -- The laws of this crate (RULES 4 and 5), each a named statement. proofs/Laws.antt has a proof of each, under the same
 -- name written small. The larger theorems, that a busy bus reads like a quiet one and that what is split is joined,
 -- stand in the crate `demands`.
-use Rattle.std.specs.Prelude.{Some}
+use Rattle.std.specs.Prelude.{Some, Ok, Err}
 use Rattle.std.specs.Prelude.{◌≡◌, true, false, List, ◌≢◌, ◌⊎◌, ℕ, ◌+◌, ◌-◌, ◌*◌, ◌≤◌, ◌<◌, length, get_or, set}
 use Rattle.words.specs.Words.{refused, gives}
 use Rattle.words.specs.Lists.{first}
@@ -12,20 +12,21 @@ use Rattle.message.specs.LongMessage.{shortest, longest, packet_bytes, packets_o
 use Rattle.message.specs.LongMessage.{meaning_of}
 use Rattle.message.specs.Receiver.{room, free_place, is_open_by, keeps_rules, heard}
 use Rattle.message.specs.Splitter.{announcement_bytes, packet_bytes_of}
-use Rattle.message.specs.Promises.{told_answer, told_pausing, announcing_number, splitting_number, New, Hear, Pause}
+use Rattle.message.specs.Promises.{Answer, Pausing, Announcing, Splitting, told_answer, told_pausing}
+use Rattle.message.specs.Promises.{announcing_number, splitting_number, New, Hear, Pause}
 use Rattle.message.specs.Promises.{Message, Announcement, Packet, AnswerRefusal, PausingRefusal}
-use Rattle.message.specs.Promises.{UnsplittableRefusal, AnnouncingRefusal, SplittingRefusal}
+use Rattle.message.specs.Promises.{NotHeardRefusal, BadStateRefusal, UnsplittableRefusal, AnnouncingRefusal}
+use Rattle.message.specs.Promises.{NotSplitRefusal, SplittingRefusal}
 use Rattle.message.specs.declared.Place.{Place}
 use Rattle.message.specs.declared.Receiver.{Receiver}
-use Rattle.message.specs.declared.Answer.{Answer}
-use Rattle.message.specs.declared.Answer.TheVariants.{UnexpectedPacket}
+use Rattle.message.specs.declared.NotHeard.{NotHeard}
+use Rattle.message.specs.declared.NotHeard.TheVariants.{UnexpectedPacket}
 use Rattle.message.specs.declared.Heard.{Heard}
-use Rattle.message.specs.declared.Pausing.{Pausing}
+use Rattle.message.specs.declared.BadState.{BadState}
 use Rattle.message.specs.declared.Paused.{Paused}
 use Rattle.message.specs.declared.Unsplittable.{Unsplittable}
-use Rattle.message.specs.declared.Announcing.{Announcing}
 use Rattle.message.specs.declared.Announced.{Announced}
-use Rattle.message.specs.declared.Splitting.{Splitting}
+use Rattle.message.specs.declared.NotSplit.{NotSplit}
 use Rattle.message.specs.declared.Split.{Split}
 
 -- An answer read as number and values loses nothing (RULES 2.10).
@@ -68,8 +69,14 @@ PacketOnly =
     (message : List ℕ) (dgn number : ℕ) (r s : Split)
     → Packet message dgn number r → Packet message dgn number s → r ≡ s
 
+abbrev pub NotHeardRefusalOnly : Type 0
+NotHeardRefusalOnly = (why : NotHeard) (r s : ℕ) → NotHeardRefusal why r → NotHeardRefusal why s → r ≡ s
+
 abbrev pub AnswerRefusalOnly : Type 0
 AnswerRefusalOnly = (answer : Answer) (r s : ℕ) → AnswerRefusal answer r → AnswerRefusal answer s → r ≡ s
+
+abbrev pub BadStateRefusalOnly : Type 0
+BadStateRefusalOnly = (why : BadState) (r s : ℕ) → BadStateRefusal why r → BadStateRefusal why s → r ≡ s
 
 abbrev pub PausingRefusalOnly : Type 0
 PausingRefusalOnly = (answer : Pausing) (r s : ℕ) → PausingRefusal answer r → PausingRefusal answer s → r ≡ s
@@ -80,6 +87,9 @@ UnsplittableRefusalOnly = (why : Unsplittable) (r s : ℕ) → UnsplittableRefus
 abbrev pub AnnouncingRefusalOnly : Type 0
 AnnouncingRefusalOnly =
     (answer : Announcing) (r s : ℕ) → AnnouncingRefusal answer r → AnnouncingRefusal answer s → r ≡ s
+
+abbrev pub NotSplitRefusalOnly : Type 0
+NotSplitRefusalOnly = (why : NotSplit) (r s : ℕ) → NotSplitRefusal why r → NotSplitRefusal why s → r ≡ s
 
 abbrev pub SplittingRefusalOnly : Type 0
 SplittingRefusalOnly = (answer : Splitting) (r s : ℕ) → SplittingRefusal answer r → SplittingRefusal answer s → r ≡ s
@@ -101,7 +111,7 @@ pub record ClosedAt (places : List Place) (storage : List ℕ) (after : List Pla
 abbrev pub TenCloses : Type 0
 TenCloses =
     (id : ℕ) (bytes : List ℕ) (places : List Place) (storage : List ℕ) (r : Heard) (exit : List ℕ)
-    → Hear id bytes places storage r exit → r.answer ≡ UnexpectedPacket
+    → Hear id bytes places storage r exit → r.answer ≡ Err UnexpectedPacket
     → (p : PacketFrom) × (i : ℕ) × (meaning_of id bytes ≡ gives (packet p))
     × (p.number ≢ (get_or places i free_place).expected)
     × ClosedAt places storage r.receiver.places exit p.sender i
@@ -165,7 +175,7 @@ pub record AnnouncementAnswers (message : List ℕ) (dgn : ℕ) (r : Announced) 
   pub thirteen :
       dgn ≤ greatest_dgn → (length message < shortest) ⊎ (longest < length message) → announcing_number r.answer ≡ 13
   pub given : dgn ≤ greatest_dgn → shortest ≤ length message → length message ≤ longest
-      → (r.answer ≡ Announcing.Bytes) × (r.bytes ≡ announcement_bytes (length message) dgn)
+      → (r.answer ≡ Ok tt) × (r.bytes ≡ announcement_bytes (length message) dgn)
 
 abbrev pub SplitterAnnounces : Type 0
 SplitterAnnounces =
@@ -181,7 +191,7 @@ pub record PacketAnswers (message : List ℕ) (dgn number : ℕ) (r : Split) : T
       → (number ≡ 0) ⊎ (packets_of (length message) < number) → splitting_number r.answer ≡ 15
   pub given : dgn ≤ greatest_dgn → shortest ≤ length message → length message ≤ longest
       → 1 ≤ number → number ≤ packets_of (length message)
-      → (r.answer ≡ Splitting.Bytes) × (r.bytes ≡ packet_bytes_of message number)
+      → (r.answer ≡ Ok tt) × (r.bytes ≡ packet_bytes_of message number)
 
 abbrev pub SplitterSplits : Type 0
 SplitterSplits =

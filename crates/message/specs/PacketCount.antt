@@ -1,16 +1,15 @@
 -- How many packets a message has (RULES 5.16 and 5.17, request #110). One that is split has no more than a byte can
 -- number; so no refusal is needed for that. The splitter, which had one, answers what it answered then.
 -- proofs/PacketCount.antt has a proof of each statement, under the same name written small.
-use Rattle.std.specs.Prelude.{◌≡◌, List, ◌≢◌, ◌⊎◌, ℕ, ◌≤◌, ◌<◌, length, if◌then◌else◌}
+use Rattle.std.specs.Prelude.{◌≡◌, List, ◌≢◌, ◌⊎◌, ℕ, ◌≤◌, ◌<◌, length, Ok, Err, if◌then◌else◌}
 use Rattle.words.specs.Words.{◌<?◌, Told, refused, gives, given◌then◌, number_in}
 use Rattle.frame.specs.Bytes.{byte_at}
 use Rattle.frame.specs.Identifier.{greatest_dgn}
 use Rattle.message.specs.LongMessage.{shortest, longest, packets_of}
 use Rattle.message.specs.Splitter.{announcement_bytes, numbered}
 use Rattle.message.specs.Promises.{announcing_number, splitting_number, AnnouncedBy, SplitBy, Announcement, Packet}
-use Rattle.message.specs.declared.Announcing.TheVariants as Announcing
 use Rattle.message.specs.declared.Announced.{Announced}
-use Rattle.message.specs.declared.Splitting.TheVariants as Splitting
+use Rattle.message.specs.declared.NotSplit.TheVariants.{NoSuchPacket}
 use Rattle.message.specs.declared.Split.{Split}
 
 -- as many as can be counted in byte 3 of an announcement, and numbered from 1 on in byte 0 of a packet
@@ -28,7 +27,7 @@ FitsExactly = (size : ℕ) → Fits size
 -- A message whose announcement is not refused for its DGN (12) or its length (13) is refused for nothing else. It has
 -- at most 255 packets, and byte 3 says how many.
 pub record CountedInByte (message : List ℕ) (r : Announced) : Type 0 where
-  pub announced : r.answer ≡ Announcing.Bytes
+  pub announced : r.answer ≡ Ok tt
   pub few : packets_of (length message) ≤ most_packets
   pub counted : byte_at 3 r.bytes ≡ packets_of (length message)
 
@@ -41,8 +40,8 @@ AnnouncementFits =
 pub record NumberedInByte (message : List ℕ) (number : ℕ) (r : Split) : Type 0 where
   pub few : packets_of (length message) ≤ most_packets
   pub each : 1 ≤ number → number ≤ packets_of (length message)
-      → (r.answer ≡ Splitting.Bytes) × (byte_at 0 r.bytes ≡ number)
-  pub other : (number ≡ 0) ⊎ (packets_of (length message) < number) → r.answer ≡ Splitting.NoSuchPacket
+      → (r.answer ≡ Ok tt) × (byte_at 0 r.bytes ≡ number)
+  pub other : (number ≡ 0) ⊎ (packets_of (length message) < number) → r.answer ≡ Err NoSuchPacket
 
 abbrev pub PacketFits : Type 0
 PacketFits =

@@ -4,23 +4,17 @@ use Rattle.words.specs.Words.{Told, refused, gives}
 use Rattle.words.specs.Lists.{count}
 use Rattle.message.specs.LongMessage.{longest, packets_of, Meaning, other, announcement, packet}
 use Rattle.message.specs.Receiver.{closes, idled}
-use Rattle.message.specs.Promises.{refusal_why, told_pausing}
+use Rattle.message.specs.Promises.{told_pausing}
 use Rattle.message.specs.declared.Place.{Place}
 use Rattle.message.specs.declared.Paused.{Paused}
 use Rattle.message.specs.declared.meaning.Meant.{Meant}
 use Rattle.message.specs.declared.meaning.Meant.TheVariants.{Malformed, Other, Announcement, Packet}
-use Rattle.message.specs.declared.splitter.Splits.{Splits}
-use Rattle.message.specs.declared.splitter.Splits.TheVariants.{Into, Refused}
 
 abbrev pub told_meant : Meant → Told Meaning
 told_meant Malformed = refused 7
 told_meant Other = gives other
 told_meant (Announcement sender size dgn) = gives (announcement (record { sender = sender; size = size; dgn = dgn }))
 told_meant (Packet sender number) = gives (packet (record { sender = sender; number = number }))
-
-abbrev pub told_splits : Splits → Told ℕ
-told_splits (Into packets) = gives packets
-told_splits (Refused why) = refused (refusal_why why)
 
 -- what an open place's message still needs
 pub record Live (p : Place) : Type 0 where

@@ -1,7 +1,7 @@
 -- What each public call of this crate promises (RULES 5 and 13.7): one proposition over answer, state and every lent
 -- byte. The answers are read as numbers and values (RULES 2.10).
-use Rattle.std.specs.Prelude.{◌≡◌, List, [], ℕ, length, replicate, if◌then◌else◌}
-use Rattle.words.specs.Words.{◌<?◌, Told, refused, gives, number_in}
+use Rattle.std.specs.Prelude.{◌≡◌, List, [], ℕ, length, replicate, Result, Ok, Err, if◌then◌else◌}
+use Rattle.words.specs.Words.{◌<?◌, Told, refused, gives, number_in, told, number_of_answer}
 use Rattle.frame.specs.Promises.{refusal_of}
 use Rattle.frame.specs.Standard.{bytes_in}
 use Rattle.places.specs.Places.{place_count}
@@ -12,18 +12,18 @@ use Rattle.message.specs.Receiver.{After, heard, paused_places, paused_answer}
 use Rattle.message.specs.Splitter.{announcement_of, packet_of}
 use Rattle.message.specs.declared.Place.{Place}
 use Rattle.message.specs.declared.Receiver.{Receiver}
-use Rattle.message.specs.declared.Answer.{Answer}
-use Rattle.message.specs.declared.Answer.TheVariants.{StorageTooShort, BrokenState, BadFrame}
-use Rattle.message.specs.declared.Answer.TheVariants.{MalformedAnnouncement, NoPlaceFree, NoOpenMessage}
-use Rattle.message.specs.declared.Answer.TheVariants.{UnexpectedPacket, NothingToDo, Opened, Stored, Finished}
+use Rattle.message.specs.declared.Event.{Event}
+use Rattle.message.specs.declared.Event.TheVariants.{NothingToDo, Opened, Stored, Finished}
+use Rattle.message.specs.declared.NotHeard.{NotHeard}
+use Rattle.message.specs.declared.NotHeard.TheVariants.{StorageTooShort, BadFrame, MalformedAnnouncement}
+use Rattle.message.specs.declared.NotHeard.TheVariants.{NoPlaceFree, NoOpenMessage, UnexpectedPacket}
 use Rattle.message.specs.declared.Heard.{Heard}
-use Rattle.message.specs.declared.Pausing.{Pausing}
+use Rattle.message.specs.declared.BadState.{BadState}
 use Rattle.message.specs.declared.Paused.{Paused}
 use Rattle.message.specs.declared.Unsplittable.{Unsplittable}
 use Rattle.message.specs.declared.Unsplittable.TheVariants.{NoCode, LengthNotSplit}
-use Rattle.message.specs.declared.Announcing.{Announcing}
 use Rattle.message.specs.declared.Announced.{Announced}
-use Rattle.message.specs.declared.Splitting.{Splitting}
+use Rattle.message.specs.declared.NotSplit.{NotSplit}
 use Rattle.message.specs.declared.Split.{Split}
 
 -- Receiver::new
@@ -33,25 +33,37 @@ pub record New (r : Receiver) : Type 0 where
 
 -- Receiver::hear
 
+abbrev pub Answer : Type 0
+Answer = Result Event NotHeard
+
+abbrev pub number_of_not_heard : NotHeard → ℕ
+number_of_not_heard StorageTooShort = 1
+number_of_not_heard NotHeard.BrokenState = 2
+number_of_not_heard (BadFrame why) = refusal_of why
+number_of_not_heard MalformedAnnouncement = 7
+number_of_not_heard NoPlaceFree = 8
+number_of_not_heard NoOpenMessage = 9
+number_of_not_heard UnexpectedPacket = 10
+
+abbrev pub outcome_of : Event → Outcome
+outcome_of NothingToDo = nothing_to_do
+outcome_of Opened = opened
+outcome_of Stored = stored
+outcome_of (Finished place sender dgn size) =
+    finished (record { place = place; sender = sender; dgn = dgn; size = size })
+
 abbrev pub told_answer : Answer → Told Outcome
-told_answer StorageTooShort = refused 1
-told_answer BrokenState = refused 2
-told_answer (BadFrame why) = refused (refusal_of why)
-told_answer MalformedAnnouncement = refused 7
-told_answer NoPlaceFree = refused 8
-told_answer NoOpenMessage = refused 9
-told_answer UnexpectedPacket = refused 10
-told_answer NothingToDo = gives nothing_to_do
-told_answer Opened = gives opened
-told_answer Stored = gives stored
-told_answer (Finished place sender dgn size) =
-    gives (finished (record { place = place; sender = sender; dgn = dgn; size = size }))
+told_answer (Ok event) = gives (outcome_of event)
+told_answer (Err why) = refused (number_of_not_heard why)
 
 -- state, storage and answer are those
 pub record LeftBy (after : After) (r : Heard) (storage : List ℕ) : Type 0 where
   pub places : r.receiver.places ≡ after.places
   pub storage_bytes : storage ≡ after.storage
   pub answer : told_answer r.answer ≡ after.answer
+
+pub record NotHeardRefusal (why : NotHeard) (r : ℕ) : Type 0 where
+  pub number : r ≡ number_of_not_heard why
 
 pub record AnswerRefusal (answer : Answer) (r : ℕ) : Type 0 where
   pub number : r ≡ number_in (told_answer answer)
@@ -61,13 +73,21 @@ Hear id bytes places storage r exit = LeftBy (heard id bytes places storage) r e
 
 -- Receiver::pause
 
+abbrev pub Pausing : Type 0
+Pausing = Result ℕ BadState
+
+abbrev pub number_of_bad_state : BadState → ℕ
+number_of_bad_state BadState.BrokenState = 2
+
 abbrev pub told_pausing : Pausing → Told ℕ
-told_pausing (Pausing.Closed n) = gives n
-told_pausing Pausing.BrokenState = refused 2
+told_pausing r = told number_of_bad_state r
 
 pub record Pause (ms : ℕ) (state : List Place) (r : Paused) : Type 0 where
   pub places : r.receiver.places ≡ paused_places ms state
   pub answer : told_pausing r.answer ≡ paused_answer ms state
+
+pub record BadStateRefusal (why : BadState) (r : ℕ) : Type 0 where
+  pub number : r ≡ number_of_bad_state why
 
 pub record PausingRefusal (answer : Pausing) (r : ℕ) : Type 0 where
   pub number : r ≡ number_in (told_pausing answer)
@@ -90,10 +110,12 @@ refusal_why LengthNotSplit = 13
 pub record UnsplittableRefusal (why : Unsplittable) (r : ℕ) : Type 0 where
   pub number : r ≡ refusal_why why
 
+abbrev pub Announcing : Type 0
+Announcing = Result (Unit {0}) Unsplittable
+
 -- 0 where the bytes are given
 abbrev pub announcing_number : Announcing → ℕ
-announcing_number Announcing.Bytes = 0
-announcing_number (Announcing.Refused why) = refusal_why why
+announcing_number answer = number_of_answer refusal_why answer
 
 pub record AnnouncingRefusal (answer : Announcing) (r : ℕ) : Type 0 where
   pub number : r ≡ announcing_number answer
@@ -107,10 +129,18 @@ Announcement message dgn r = AnnouncedBy (announcement_of message dgn) r
 
 -- packet
 
+abbrev pub Splitting : Type 0
+Splitting = Result (Unit {0}) NotSplit
+
+abbrev pub number_of_not_split : NotSplit → ℕ
+number_of_not_split (NotSplit.Unsplittable why) = refusal_why why
+number_of_not_split NotSplit.NoSuchPacket = 15
+
 abbrev pub splitting_number : Splitting → ℕ
-splitting_number Splitting.Bytes = 0
-splitting_number (Splitting.Refused why) = refusal_why why
-splitting_number Splitting.NoSuchPacket = 15
+splitting_number answer = number_of_answer number_of_not_split answer
+
+pub record NotSplitRefusal (why : NotSplit) (r : ℕ) : Type 0 where
+  pub number : r ≡ number_of_not_split why
 
 pub record SplittingRefusal (answer : Splitting) (r : ℕ) : Type 0 where
   pub number : r ≡ splitting_number answer

@@ -104,6 +104,10 @@ abbrev pub kept_at : ℕ → Place → List ℕ → List ℕ → List ℕ
 kept_at i p bytes storage =
     paste storage (longest * i + packet_bytes * (p.expected - 1)) (drop 1 bytes) (needed p.length p.expected)
 
+-- the place with other pauses
+abbrev pub waited : ℕ → Place → Place
+waited idle p = record { sender = p.sender; length = p.length; dgn = p.dgn; expected = p.expected; idle = idle }
+
 abbrev pub expecting : ℕ → Place → Place
 expecting number p = record { sender = p.sender; length = p.length; dgn = p.dgn; expected = number; idle = 0 }
 

@@ -1,16 +1,16 @@
 // Frames and pauses at the eight places of a state that keeps its rules.
 ghost use Rattle.std.specs.Prelude.{◌≡◌, true, List, ℕ, ◌<◌, ◌≤◌, length, get_or, set};
-ghost use Rattle.words.specs.Lists.{first};
 ghost use Rattle.message.specs.LongMessage.{meant, meaning_of};
-ghost use Rattle.message.specs.Receiver.{room, free_place, is_free, is_open_by, keeps_rules, place_for};
+ghost use Rattle.message.specs.Receiver.{room, free_place, keeps_rules};
 ghost use Rattle.message.specs.Receiver.{hears_announcement, packet_at, carries, by_meaning, advanced};
 ghost use Rattle.message.specs.Promises.{LeftBy};
 ghost use Rattle.message.specs.Private.{PausedBy, Live};
 
-use crate::limits::{PACKET_BYTES, PLACES};
+use crate::limits::{IDLE_LIMIT, PACKET_BYTES, STRETCH};
 use crate::meaning::Meant;
-use crate::{Answer, Heard, Paused, Pausing, Place, Receiver, meaning, one_place, storage};
-use frame::Verdict;
+use crate::{Answer, Event, Heard, NotHeard, Paused, Place, Receiver, meaning};
+use places::seats::Seat;
+use places::{seats, storage};
 
 // The state as it came, with an answer.
 pub fn keeps(r: Receiver, answer: Answer) -> Heard
@@ -23,6 +23,7 @@ pub fn keeps(r: Receiver, answer: Answer) -> Heard
 }
 
 // A frame.
+#[tactic(auto, unfolding(crate::specs::LongMessage::meaning_of))]
 pub fn hear(r: Receiver, storage: &mut [u8], id: u32, bytes: &[u8]) -> Heard
     requires { (keeps_rules r.places ≡ true) × (room ≤ length storage.old) }
     ensures { LeftBy
@@ -30,11 +31,9 @@ pub fn hear(r: Receiver, storage: &mut [u8], id: u32, bytes: &[u8]) -> Heard
         result storage.new }
 {
     let checked = frame::check(id, bytes);
-    let eight = checked.bytes;
-    let verdict = checked.verdict;
-    match verdict {
-        Verdict::Bad(why) => keeps(r, Answer::BadFrame(why)),
-        Verdict::Sound(parts) => heed(r, storage, parts.source, parts.dgn, eight),
+    match checked.verdict {
+        Err(why) => keeps(r, Err(NotHeard::BadFrame(why))),
+        Ok(parts) => heed(r, storage, parts.source, parts.dgn, checked.bytes),
     }
 }
 
@@ -46,18 +45,19 @@ fn heed(r: Receiver, storage: &mut [u8], sender: u8, dgn: u32, bytes: [u8; 8]) -
         result storage.new }
 {
     match meaning::meaning_of(sender, dgn, bytes) {
-        Meant::Malformed => keeps(r, Answer::MalformedAnnouncement),
-        Meant::Other => keeps(r, Answer::NothingToDo),
+        Meant::Malformed => keeps(r, Err(NotHeard::MalformedAnnouncement)),
+        Meant::Other => keeps(r, Ok(Event::NothingToDo)),
         Meant::Announcement { sender, size, dgn } => announce(r, sender, size, dgn),
         Meant::Packet { sender, number } => packet(r, storage, sender, number, bytes),
     }
 }
 
 // A well-formed announcement.
+#[tactic(auto, unfolding(crate::specs::Receiver::place_for, crate::specs::Receiver::hears_announcement))]
 fn announce(r: Receiver, sender: u8, size: u16, dgn: u32) -> Heard
     ensures { (s : List ℕ) → LeftBy (hears_announcement sender size dgn r.places s) result s }
 {
-    match place_for(r, sender) {
+    match seats::place_for(&r.places, u64::from(sender)) {
         Some(at) => {
             let p = Place {
                 sender,
@@ -66,81 +66,35 @@ fn announce(r: Receiver, sender: u8, size: u16, dgn: u32) -> Heard
                 expected: 1,
                 idle: 0,
             };
-            keeps(replace(r, at, p), Answer::Opened)
+            keeps(replace(r, at, p), Ok(Event::Opened))
         }
-        None => keeps(r, Answer::NoPlaceFree),
+        None => keeps(r, Err(NotHeard::NoPlaceFree)),
     }
-}
-
-// The place that a sender's announcement takes.
-fn place_for(r: Receiver, sender: u8) -> Option<usize>
-    ensures { result ≡ place_for sender r.places }
-{
-    match open_by(r, sender) {
-        Some(at) => Some(at),
-        None => lowest_free(r),
-    }
-}
-
-// The lowest-numbered free place.
-fn lowest_free(r: Receiver) -> Option<usize>
-    ensures { result ≡ first is_free r.places }
-{
-    let mut i: usize = 0;
-    let at = loop {
-        if PLACES <= i {
-            break i;
-        }
-        let p = r.places[i];
-        if p.length == 0 {
-            break i;
-        }
-        i += 1;
-    };
-    if at < PLACES {
-        Some(at)
-    } else {
-        None
-    }
-}
-
-// The place that is open by this sender.
-fn open_by(r: Receiver, sender: u8) -> Option<usize>
-    ensures { result ≡ first (is_open_by sender) r.places }
-{
-    let mut i: usize = 0;
-    while i < PLACES {
-        let p = r.places[i];
-        if one_place::is_open_by(p, sender) {
-            return Some(i);
-        }
-        i += 1;
-    }
-    None
 }
 
 // One place replaced.
-fn replace(r: Receiver, at: usize, p: Place) -> Receiver
+fn replace(mut r: Receiver, at: usize, p: Place) -> Receiver
     requires { at < 8 }
     ensures { result.places ≡ set r.places at p }
 {
-    let mut s = r;
-    s.places[at] = p;
-    s
+    r.places[at] = p;
+    r
 }
 
 // A data packet.
+#[tactic(auto, unfolding(crate::specs::Receiver::carries))]
 fn packet(r: Receiver, storage: &mut [u8], sender: u8, number: u8, bytes: [u8; 8]) -> Heard
     requires { (keeps_rules r.places ≡ true) × (room ≤ length storage.old) }
     ensures { LeftBy (carries sender number bytes r.places storage.old) result storage.new }
 {
-    match open_by(r, sender) {
+    match seats::open_by(&r.places, u64::from(sender)) {
         Some(at) => packet_at(r, storage, at, number, bytes),
-        None => keeps(r, Answer::NoOpenMessage),
+        None => keeps(r, Err(NotHeard::NoOpenMessage)),
     }
 }
 
 // A data packet for the open message in place `at`.
+#[tactic(auto, unfolding(crate::specs::Receiver::packet_at))]
 fn packet_at(r: Receiver, storage: &mut [u8], at: usize, number: u8, bytes: [u8; 8]) -> Heard
     requires { (at < 8) × (room ≤ length storage.old) × Live (get_or r.places at free_place) }
     ensures { LeftBy
@@ -149,54 +103,50 @@ fn packet_at(r: Receiver, storage: &mut [u8], at: usize, number: u8, bytes: [u8;
 {
     let p = r.places[at];
     if number != p.expected {
-        return keeps(replace(r, at, one_place::free()), Answer::UnexpectedPacket);
+        return keeps(
+            replace(r, at, Place::free()),
+            Err(NotHeard::UnexpectedPacket),
+        );
     }
-    let offset = PACKET_BYTES * (number as usize - 1);
-    let count = storage::at_most_seven(p.length as usize - offset);
-    storage::keep(storage, at, offset, count, bytes);
+    let offset = PACKET_BYTES * (usize::from(number) - 1);
+    let count = PACKET_BYTES.min(usize::from(p.length) - offset);
+    storage::keep(storage, STRETCH, at, offset, &bytes[1..1 + count]);
     advance(r, at, p)
 }
 
 // The open message in place `at` after its expected packet.
+#[tactic(auto, unfolding(crate::specs::Receiver::advanced))]
 fn advance(r: Receiver, at: usize, p: Place) -> Heard
     requires { (at < 8) × Live p }
     ensures { (s : List ℕ) → LeftBy (advanced at p r.places s) result s }
 {
-    let number = p.expected;
-    if number as u16 == (p.length + 6) / 7 {
+    if u16::from(p.expected) == (p.length + 6) / 7 {
         return keeps(
-            replace(r, at, one_place::free()),
-            Answer::Finished {
+            replace(r, at, Place::free()),
+            Ok(Event::Finished {
                 place: at,
                 sender: p.sender,
                 dgn: p.dgn,
                 length: p.length,
-            },
+            }),
         );
     }
-    keeps(
-        replace(r, at, one_place::expecting(p, number + 1)),
-        Answer::Stored,
-    )
+    let next = Place {
+        expected: p.expected + 1,
+        idle: 0,
+        ..p
+    };
+    keeps(replace(r, at, next), Ok(Event::Stored))
 }
 
 // A pause.
-pub fn pause(r: Receiver, ms: u16) -> Paused
+#[tactic(auto, unfolding(crate::specs::Receiver::closes, crate::specs::Receiver::idled))]
+pub fn pause(mut r: Receiver, ms: u16) -> Paused
     ensures { PausedBy ms r.places result }
 {
-    let mut places = r.places;
-    let mut closed: u8 = 0;
-    let mut i: usize = 0;
-    while i < PLACES {
-        let p = places[i];
-        if one_place::closes(p, ms) {
-            closed += 1;
-        }
-        places[i] = one_place::idled(p, ms);
-        i += 1;
-    }
+    let closed = seats::pause(&mut r.places, IDLE_LIMIT, ms);
     Paused {
-        receiver: Receiver { places },
-        answer: Pausing::Closed(closed),
+        receiver: r,
+        answer: Ok(closed),
     }
 }

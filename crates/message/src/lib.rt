@@ -7,18 +7,21 @@ mod meaning;
 mod one_place;
 mod rules;
 mod splitter;
-mod storage;
 
+ghost use Rattle.std.specs.Prelude.{◌≡◌};
 ghost use Rattle.message.specs.Promises.{New, Hear, Pause, Message, Announcement, Packet};
-ghost use Rattle.message.specs.Promises.{AnswerRefusal, PausingRefusal};
-ghost use Rattle.message.specs.Promises.{UnsplittableRefusal, AnnouncingRefusal, SplittingRefusal};
+ghost use Rattle.message.specs.Promises.{number_of_not_heard, number_of_bad_state, refusal_why, number_of_not_split};
+ghost use Rattle.message.specs.declared.NotSplit.TheVariants.{Unsplittable};
 
 use frame::BadFrame;
-use limits::STORAGE_BYTES;
+use limits::{STORAGE_BYTES, STRETCH};
+use places::seats::Seat;
+use places::storage;
+use words::Refusal;
 
 // An open message's place: its sender, what was announced, the packet expected next, and the pauses since its last
 // frame, in milliseconds. A free place is all zeros.
-#[derive(Clone, Copy)]
+#[derive(Clone, Copy, PartialEq)]
 pub struct Place {
     pub sender: u8,
     pub length: u16,
@@ -33,16 +36,9 @@ pub struct Receiver {
     pub places: [Place; 8],
 }
 
-// What a frame did: the refusals 1 to 10 by name, or the four ways in which it was heard.
+// The ways in which a frame is heard. The length of a message that is finished is what differs from a fast packet's.
 #[derive(Clone, Copy)]
-pub enum Answer {
-    StorageTooShort,
-    BrokenState,
-    BadFrame(BadFrame),
-    MalformedAnnouncement,
-    NoPlaceFree,
-    NoOpenMessage,
-    UnexpectedPacket,
+pub enum Event {
     NothingToDo,
     Opened,
     Stored,
@@ -54,6 +50,21 @@ pub enum Answer {
     },
 }
 
+// Why a frame is not heard: the refusals 1 to 10.
+#[derive(Clone, Copy)]
+pub enum NotHeard {
+    StorageTooShort,
+    BrokenState,
+    BadFrame(BadFrame),
+    MalformedAnnouncement,
+    NoPlaceFree,
+    NoOpenMessage,
+    UnexpectedPacket,
+}
+
+// What a frame did, or why it was not heard.
+pub type Answer = Result<Event, NotHeard>;
+
 // The state to go on with, and what the frame did.
 #[derive(Clone, Copy)]
 pub struct Heard {
@@ -61,12 +72,14 @@ pub struct Heard {
     pub answer: Answer,
 }
 
-// How many messages a pause closed, or refusal 2.
+// Why a pause does not pass: refusal 2.
 #[derive(Clone, Copy)]
-pub enum Pausing {
-    Closed(u8),
+pub enum BadState {
     BrokenState,
 }
+
+// How many messages a pause closed, or why it did not pass.
+pub type Pausing = Result<u8, BadState>;
 
 // The state to go on with, and how many messages the pause closed.
 #[derive(Clone, Copy)]
@@ -84,11 +97,7 @@ pub enum Unsplittable {
 }
 
 // The announcement is given, or why not.
-#[derive(Clone, Copy)]
-pub enum Announcing {
-    Bytes,
-    Refused(Unsplittable),
-}
+pub type Announcing = Result<(), Unsplittable>;
 
 // The announcement's eight bytes; zeros where it is refused.
 #[derive(Clone, Copy)]
@@ -97,13 +106,15 @@ pub struct Announced {
     pub bytes: [u8; 8],
 }
 
-// A packet, or why not; refusal 15 where the message has no packet of that number.
+// Why a packet is not given: the message cannot be split, or it has no packet of that number (15).
 #[derive(Clone, Copy)]
-pub enum Splitting {
-    Bytes,
-    Refused(Unsplittable),
+pub enum NotSplit {
+    Unsplittable(Unsplittable),
     NoSuchPacket,
 }
+
+// A packet is given, or why not.
+pub type Splitting = Result<(), NotSplit>;
 
 // A data packet's eight bytes; zeros where it is refused.
 #[derive(Clone, Copy)]
@@ -112,83 +123,59 @@ pub struct Split {
     pub bytes: [u8; 8],
 }
 
-impl Answer {
-    // The number of the refusal; 0 where the frame was heard.
-    pub fn refusal(self) -> u8
-        ensures { AnswerRefusal self result }
-    {
-        let answer = self;
-        match answer {
-            Answer::StorageTooShort => 1,
-            Answer::BrokenState => 2,
-            Answer::BadFrame(why) => why.refusal(),
-            Answer::MalformedAnnouncement => 7,
-            Answer::NoPlaceFree => 8,
-            Answer::NoOpenMessage => 9,
-            Answer::UnexpectedPacket => 10,
-            Answer::NothingToDo => 0,
-            Answer::Opened => 0,
-            Answer::Stored => 0,
-            Answer::Finished {
-                place: _,
-                sender: _,
-                dgn: _,
-                length: _,
-            } => 0,
+impl Refusal for NotHeard {
+    ghost number = { number_of_not_heard };
+
+    fn refusal(self) -> u8 {
+        match self {
+            NotHeard::StorageTooShort => 1,
+            NotHeard::BrokenState => 2,
+            NotHeard::BadFrame(why) => why.refusal(),
+            NotHeard::MalformedAnnouncement => 7,
+            NotHeard::NoPlaceFree => 8,
+            NotHeard::NoOpenMessage => 9,
+            NotHeard::UnexpectedPacket => 10,
         }
     }
 }
 
-impl Pausing {
-    // The number of the refusal; 0 where the pause has passed.
-    pub fn refusal(self) -> u8
-        ensures { PausingRefusal self result }
-    {
-        let answer = self;
-        match answer {
-            Pausing::Closed(_) => 0,
-            Pausing::BrokenState => 2,
+impl Refusal for BadState {
+    ghost number = { number_of_bad_state };
+
+    fn refusal(self) -> u8 {
+        match self {
+            BadState::BrokenState => 2,
         }
     }
 }
 
-impl Unsplittable {
-    // The number of the refusal.
-    pub fn refusal(self) -> u8
-        ensures { UnsplittableRefusal self result }
-    {
-        let why = self;
-        match why {
+impl Refusal for Unsplittable {
+    ghost number = { refusal_why };
+
+    fn refusal(self) -> u8 {
+        match self {
             Unsplittable::NoCode => 12,
             Unsplittable::LengthNotSplit => 13,
         }
     }
 }
 
-impl Announcing {
-    // The number of the refusal; 0 where the announcement is given.
-    pub fn refusal(self) -> u8
-        ensures { AnnouncingRefusal self result }
-    {
-        let answer = self;
-        match answer {
-            Announcing::Bytes => 0,
-            Announcing::Refused(why) => why.refusal(),
+impl Refusal for NotSplit {
+    ghost number = { number_of_not_split };
+
+    fn refusal(self) -> u8 {
+        match self {
+            NotSplit::Unsplittable(why) => why.refusal(),
+            NotSplit::NoSuchPacket => 15,
         }
     }
 }
 
-impl Splitting {
-    // The number of the refusal; 0 where the packet is given.
-    pub fn refusal(self) -> u8
-        ensures { SplittingRefusal self result }
-    {
-        let answer = self;
-        match answer {
-            Splitting::Bytes => 0,
-            Splitting::Refused(why) => why.refusal(),
-            Splitting::NoSuchPacket => 15,
-        }
+impl From<Unsplittable> for NotSplit {
+    ghost from_gives = { λ why e. e ≡ Unsplittable why };
+
+    fn from(why: Unsplittable) -> NotSplit {
+        NotSplit::Unsplittable(why)
     }
 }
 
@@ -199,21 +186,22 @@ impl Receiver {
         ensures { New result }
     {
         Receiver {
-            places: [one_place::free(); 8],
+            places: [Place::free(); 8],
         }
     }
 
     // Hears one frame. Refusals 1 to 10; only 10 changes anything: it closes that sender's message. What is heard
     // changes at most one place, and in the storage no bytes but those of that place. Go on with the receiver that is
     // answered, and read a finished message with `message` before the next frame is heard.
+    #[tactic(auto, unfolding(crate::specs::Receiver::heard))]
     pub fn hear(self, storage: &mut [u8], id: u32, bytes: &[u8]) -> Heard
         ensures { Hear id bytes.now self.places storage.old result storage.new }
     {
         if storage.len() < STORAGE_BYTES {
-            return eight_places::keeps(self, Answer::StorageTooShort);
+            return eight_places::keeps(self, Err(NotHeard::StorageTooShort));
         }
         if !rules::keep_rules(self) {
-            return eight_places::keeps(self, Answer::BrokenState);
+            return eight_places::keeps(self, Err(NotHeard::BrokenState));
         }
         eight_places::hear(self, storage, id, bytes)
     }
@@ -221,13 +209,14 @@ impl Receiver {
     // Hears that the bus was silent for so many milliseconds: how many messages that closed, each idle for more than
     // 750 by now. Refusal 2, which changes nothing. Call it for the time between two frames before the second is heard;
     // a longer time may be given in parts, which add up.
+    #[tactic(auto, unfolding(crate::specs::Receiver::paused_places, crate::specs::Receiver::paused_answer))]
     pub fn pause(self, ms: u16) -> Paused
         ensures { Pause ms self.places result }
     {
         if !rules::keep_rules(self) {
             return Paused {
                 receiver: self,
-                answer: Pausing::BrokenState,
+                answer: Err(BadState::BrokenState),
             };
         }
         eight_places::pause(self, ms)
@@ -241,16 +230,13 @@ pub fn message(storage: &[u8], answer: Answer) -> &[u8]
     ensures { Message storage.now answer result.now }
 {
     if storage.len() < STORAGE_BYTES {
-        return &storage[0..0];
+        return &storage[..0];
     }
     match answer {
-        Answer::Finished {
-            place,
-            sender: _,
-            dgn: _,
-            length,
-        } => storage::part(storage, place, length),
-        _ => &storage[0..0],
+        Ok(Event::Finished { place, length, .. }) => {
+            storage::part(storage, STRETCH, place, usize::from(length))
+        }
+        _ => &storage[..0],
     }
 }
 
@@ -258,15 +244,10 @@ pub fn message(storage: &[u8], answer: Answer) -> &[u8]
 pub fn announcement(message: &[u8], dgn: u32) -> Announced
     ensures { Announcement message.now dgn result }
 {
-    match splitter::splittable(message.len(), dgn) {
-        splitter::Splits::Refused(why) => Announced {
-            answer: Announcing::Refused(why),
-            bytes: [0u8; 8],
-        },
-        splitter::Splits::Into(count) => Announced {
-            answer: Announcing::Bytes,
-            bytes: splitter::announcement_bytes(message.len() as u16, dgn, count),
-        },
+    let announcement = splitter::announcement(message, dgn);
+    Announced {
+        answer: announcement.map(|_| ()),
+        bytes: announcement.unwrap_or([0; 8]),
     }
 }
 
@@ -275,8 +256,9 @@ pub fn announcement(message: &[u8], dgn: u32) -> Announced
 pub fn packet(message: &[u8], dgn: u32, number: u32) -> Split
     ensures { Packet message.now dgn number result }
 {
-    match splitter::splittable(message.len(), dgn) {
-        splitter::Splits::Refused(why) => splitter::refused(Splitting::Refused(why)),
-        splitter::Splits::Into(count) => splitter::numbered(message, number, count),
+    let packet = splitter::packet(message, dgn, number);
+    Split {
+        answer: packet.map(|_| ()),
+        bytes: packet.unwrap_or([0; 8]),
     }
 }

@@ -15,7 +15,7 @@ pub const IDLE_LIMIT: u16 = 750;
 pub const TO_ALL: u8 = 32;
 
 // The receiver's places, and the storage bytes that each owns.
-pub const PLACES: usize = 8;
+pub const PLACES: usize = places::storage::PLACES;
 
 pub const STRETCH: usize = 1785;
 

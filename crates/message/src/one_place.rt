@@ -1,113 +1,64 @@
-// One place: free or open, its rules, and what a pause does to it.
-ghost use Rattle.std.specs.Prelude.{◌≡◌};
-ghost use Rattle.message.specs.Receiver.{free_place, is_open_by, is_zero, place_keeps_rules, closes, idled, expecting};
+// One place: free or open, and its rules.
+ghost use Rattle.std.specs.Prelude.{◌≡◌, ◌+◌};
+ghost use Rattle.message.specs.Receiver.{free_place, is_free, place_keeps_rules, waited};
 
 use crate::Place;
 use crate::limits::{IDLE_LIMIT, LONGEST, SHORTEST};
 use frame::standard;
+use places::seats::Seat;
 
-pub fn free() -> Place
-    ensures { result ≡ free_place }
-{
-    Place {
-        sender: 0,
-        length: 0,
-        dgn: 0,
-        expected: 0,
-        idle: 0,
+// A sender has one message at a time, so that its address says whose message a place has.
+impl Seat for Place {
+    ghost is_free = { is_free };
+
+    ghost key_of = { λ p. p.sender };
+
+    ghost idle_after = { λ ms p. p.idle + ms };
+
+    ghost blank = { free_place };
+
+    ghost waited = { waited };
+
+    fn is_free(&self) -> bool {
+        self.length == 0
+    }
+
+    fn key(&self) -> u64 {
+        u64::from(self.sender)
+    }
+
+    fn idle_after(&self, ms: u16) -> u32 {
+        u32::from(self.idle) + u32::from(ms)
+    }
+
+    fn free() -> Place {
+        Place {
+            sender: 0,
+            length: 0,
+            dgn: 0,
+            expected: 0,
+            idle: 0,
+        }
+    }
+
+    fn waited(self, idle: u16) -> Place {
+        Place { idle, ..self }
     }
 }
 
-pub fn is_open_by(p: Place, sender: u8) -> bool
-    ensures { result ≡ is_open_by sender p }
+// Whether a place is all zeros, or open within its limits.
+#[tactic(auto, unfolding(crate::specs::Receiver::place_keeps_rules, crate::specs::Receiver::is_zero))]
+pub fn keeps_rules(p: &Place) -> bool
+    ensures { result ≡ place_keeps_rules p.now }
 {
-    if p.length == 0 {
-        return false;
+    if p.is_free() {
+        return *p == Place::free();
     }
-    p.sender == sender
-}
-
-pub fn keeps_rules(p: Place) -> bool
-    ensures { result ≡ place_keeps_rules p }
-{
-    if p.length == 0 {
-        return is_zero(p);
-    }
-    if standard::GREATEST_ADDRESS < p.sender {
-        return false;
-    }
-    if p.length < SHORTEST {
-        return false;
-    }
-    if LONGEST < p.length {
-        return false;
-    }
-    if standard::GREATEST_DGN < p.dgn {
-        return false;
-    }
-    if IDLE_LIMIT < p.idle {
-        return false;
-    }
-    if p.expected < 1 {
-        return false;
-    }
-    p.expected as u16 <= (p.length + 6) / 7
-}
-
-fn is_zero(p: Place) -> bool
-    ensures { result ≡ is_zero p }
-{
-    if p.sender != 0 {
-        return false;
-    }
-    if p.dgn != 0 {
-        return false;
-    }
-    if p.expected != 0 {
-        return false;
-    }
-    p.idle == 0
-}
-
-pub fn closes(p: Place, ms: u16) -> bool
-    ensures { result ≡ closes ms p }
-{
-    if p.length == 0 {
-        return false;
-    }
-    (IDLE_LIMIT as u32) < p.idle as u32 + ms as u32
-}
-
-// The place after a pause.
-pub fn idled(p: Place, ms: u16) -> Place
-    ensures { result ≡ idled ms p }
-{
-    if p.length == 0 {
-        return p;
-    }
-    let sum = p.idle as u32 + ms as u32;
-    if (IDLE_LIMIT as u32) < sum {
-        return free();
-    }
-    let idle = sum as u16;
-    Place {
-        sender: p.sender,
-        length: p.length,
-        dgn: p.dgn,
-        expected: p.expected,
-        idle,
-    }
-}
-
-// The place, its packets received up to the one before `number`.
-pub fn expecting(p: Place, number: u8) -> Place
-    ensures { result ≡ expecting number p }
-{
-    Place {
-        sender: p.sender,
-        length: p.length,
-        dgn: p.dgn,
-        expected: number,
-        idle: 0,
-    }
+    p.sender <= standard::GREATEST_ADDRESS
+        && SHORTEST <= p.length
+        && p.length <= LONGEST
+        && p.dgn <= standard::GREATEST_DGN
+        && p.idle <= IDLE_LIMIT
+        && 1 <= p.expected
+        && u16::from(p.expected) <= (p.length + 6) / 7
 }

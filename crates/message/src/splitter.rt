@@ -1,40 +1,52 @@
 // The splitter's parts: whether a message can be split, and the bytes of its frames.
-ghost use Rattle.std.specs.Prelude.{◌≡◌, ◌<◌, ◌≤◌, length, replicate};
-ghost use Rattle.frame.specs.Frame.{frame_bytes};
+ghost use Rattle.std.specs.Prelude.{◌≡◌, ◌≤◌, length};
+ghost use Rattle.words.specs.Words.{told};
 ghost use Rattle.message.specs.LongMessage.{longest, packets_of};
-ghost use Rattle.message.specs.Splitter.{splits, announcement_bytes, packet_bytes_of, numbered};
-ghost use Rattle.message.specs.Promises.{SplitBy};
-ghost use Rattle.message.specs.Private.{told_splits};
+ghost use Rattle.message.specs.Splitter.{splits, announcement_bytes, announcement_of, packet_bytes_of, packet_of};
+ghost use Rattle.message.specs.Promises.{refusal_why, number_of_not_split};
 
 use crate::limits::{LONGEST, PACKET_BYTES, SHORTEST, TO_ALL};
-use crate::{Split, Splitting, Unsplittable, storage};
+use crate::{NotSplit, Unsplittable};
 use frame::standard;
+use places::packets;
 
-#[derive(Clone, Copy)]
-pub enum Splits {
-    Into(u8),
-    Refused(Unsplittable),
+// The announcement of a message.
+#[tactic(auto, unfolding(crate::specs::Splitter::announcement_of))]
+pub fn announcement(message: &[u8], dgn: u32) -> Result<[u8; 8], Unsplittable>
+    ensures { told refusal_why result ≡ announcement_of message.now dgn }
+{
+    let count = splittable(message.len(), dgn)?;
+    Ok(announcement_bytes(message.len() as u16, dgn, count))
+}
+
+// Packet `number` of a message.
+#[tactic(auto, unfolding(crate::specs::Splitter::packet_of, crate::specs::Splitter::numbered))]
+pub fn packet(message: &[u8], dgn: u32, number: u32) -> Result<[u8; 8], NotSplit>
+    ensures { told number_of_not_split result ≡ packet_of message.now dgn number }
+{
+    let count = splittable(message.len(), dgn)?;
+    if number == 0 || u32::from(count) < number {
+        return Err(NotSplit::NoSuchPacket);
+    }
+    Ok(packet_bytes(message, number as u8))
 }
 
 // The number of packets of a message, or why it cannot be split.
-pub fn splittable(size: usize, dgn: u32) -> Splits
-    ensures { told_splits result ≡ splits size dgn }
+#[tactic(auto, unfolding(crate::specs::Splitter::splits))]
+fn splittable(size: usize, dgn: u32) -> Result<u8, Unsplittable>
+    ensures { told refusal_why result ≡ splits size dgn }
 {
     if standard::GREATEST_DGN < dgn {
-        return Splits::Refused(Unsplittable::NoCode);
+        return Err(Unsplittable::NoCode);
     }
-    if size < SHORTEST as usize {
-        return Splits::Refused(Unsplittable::LengthNotSplit);
+    if size < usize::from(SHORTEST) || usize::from(LONGEST) < size {
+        return Err(Unsplittable::LengthNotSplit);
     }
-    if (LONGEST as usize) < size {
-        return Splits::Refused(Unsplittable::LengthNotSplit);
-    }
-    let count = (size + 6) / 7;
-    Splits::Into(count as u8)
+    Ok(((size + 6) / 7) as u8)
 }
 
 // An announcement's eight bytes.
-pub fn announcement_bytes(size: u16, dgn: u32, count: u8) -> [u8; 8]
+fn announcement_bytes(size: u16, dgn: u32, count: u8) -> [u8; 8]
     requires { count ≡ packets_of size }
     ensures { result ≡ announcement_bytes size dgn }
 {
@@ -50,42 +62,12 @@ pub fn announcement_bytes(size: u16, dgn: u32, count: u8) -> [u8; 8]
     ]
 }
 
-// A refusal of a packet, with zeros beside it.
-pub fn refused(answer: Splitting) -> Split
-    ensures { (result.answer ≡ answer) × (result.bytes ≡ replicate frame_bytes 0) }
-{
-    Split {
-        answer,
-        bytes: [0u8; 8],
-    }
-}
-
-// Packet `number` of a message of `count` packets.
-pub fn numbered(message: &[u8], number: u32, count: u8) -> Split
-    requires { (count ≡ packets_of (length message.now)) × (length message.now ≤ longest) }
-    ensures { SplitBy (numbered message.now number count) result }
-{
-    if number == 0 {
-        return refused(Splitting::NoSuchPacket);
-    }
-    if (count as u32) < number {
-        return refused(Splitting::NoSuchPacket);
-    }
-    Split {
-        answer: Splitting::Bytes,
-        bytes: packet_bytes(message, number as u8),
-    }
-}
-
 // A packet's eight bytes: its number, its part of the message, and FFh for what is left.
+#[tactic(auto, unfolding(crate::specs::Splitter::packet_bytes_of))]
 fn packet_bytes(message: &[u8], number: u8) -> [u8; 8]
     requires { (1 ≤ number) × (number ≤ packets_of (length message.now)) × (length message.now ≤ longest) }
     ensures { result ≡ packet_bytes_of message.now number }
 {
-    let from = PACKET_BYTES * (number as usize - 1);
-    let count = storage::at_most_seven(message.len() - from);
-    let mut bytes = [standard::UNUSED; 8];
-    bytes[0] = number;
-    storage::copy(&mut bytes, 1, message, from, count);
-    bytes
+    let from = PACKET_BYTES * (usize::from(number) - 1);
+    packets::filled(&[number], &message[from..])
 }

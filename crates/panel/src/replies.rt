@@ -1,8 +1,8 @@
 // What the panel answers for two tanks whose senders are wired to the panel itself: requests for their status, and
 // commands.
-use crate::streams::Streams;
+use streams::Streams;
 use crate::{own_faults, show};
-use rvc::claims::{Claim, Standing};
+use rvc::claims::{Claim, Place};
 use rvc::commands::{
     Acknowledging, Acknowledgment, Edition, Entry, Host, Positions, Requested, Requesting, Routing,
 };
@@ -10,7 +10,7 @@ use rvc::diagnostics::Sender;
 use rvc::fields::dgns::{TANK_CALIBRATION_COMMAND, TANK_STATUS};
 use rvc::fields::names::tank_status;
 use rvc::fields::{Row, Value};
-use rvc::identifiers::Formed;
+use rvc::Refusal;
 
 // What the sender of a wired tank says, in quarters.
 #[derive(Clone, Copy)]
@@ -120,35 +120,23 @@ fn send_nak(claim: Claim, requester: u8, instance: u8, streams: &mut Streams) {
 
 // Statuses are sent from a held address only; without one the request is refused already.
 fn send_statuses(claim: Claim, positions: Positions, streams: &mut Streams) {
-    let standing = claim.stands();
-    if let Standing::Held(address) = standing {
+    if let Ok(Place::Held(address)) = claim.stands() {
         send_each(address, positions, streams);
     }
 }
 
 // One frame for each tank, and no long message (6.28.2).
 fn send_each(address: u8, positions: Positions, streams: &mut Streams) {
-    let at = positions.at;
-    let count = positions.count;
-    let mut i: usize = 0;
-    while i < 16 {
-        if i < count {
-            send_status(address, at[i], streams);
-        }
-        i += 1;
+    for position in positions.at.iter().take(positions.count) {
+        send_status(address, *position, streams);
     }
 }
 
 // The status of a wired tank, with priority 6 (6.28.2).
 fn send_status(address: u8, position: u8, streams: &mut Streams) {
-    let formed = rvc::identifiers::form(6, TANK_STATUS, address);
-    match formed {
-        Formed::Identifier(id) => show::send(
-            id,
-            status(id, sender_says(position), streams),
-            streams,
-        ),
-        Formed::NoCode => show::refused(formed.refusal(), streams),
+    match rvc::identifiers::form(6, TANK_STATUS, address) {
+        Ok(id) => show::send(id, status(id, sender_says(position), streams), streams),
+        Err(why) => show::refused(why.refusal(), streams),
     }
 }
 

@@ -18,21 +18,6 @@ use Rattle.words.specs.Words.{◌<?◌}
 use Rattle.words.proofs.Words.{by_test}
 use Rattle.places.specs.Layout.{stretch, AgreeBut}
 
--- a copy into the part from a on that was lent, put back, is a copy into the whole
-pub paste_part : (xs s : List ℕ) (a o n : ℕ) → put_mid a (length xs - a) xs (paste (take (length xs - a) (drop a xs)) o s n) ≡ paste xs (a + o) s n
-paste_part xs s a o n =
-    let h : length (drop a xs) ≤ length xs - a = rw length-drop (le_refl _) in
-    let e₁ = take_all (length xs - a) (drop a xs) h in
-    let e₂ = drop_of_length-le (drop a xs) h in
-    rw (e₁, e₂) (simp (append-nil, append_assoc, take-add, drop-drop, add_assoc))
-
--- a turn of a loop that copies a frame's bytes from its byte `from` on
-pub paste_turn : (d part bytes : List ℕ) (at from j : ℕ) → at + j < length d → from + j < length bytes → part ≡ paste d at (drop from bytes) j
-    → set part (at + j) (get_or bytes (from + j) 0) ≡ paste d at (drop from bytes) (j + 1)
-paste_turn d part bytes at from j h k e =
-    let k' : j < length (drop from bytes) = rw length-drop (omega arith) in
-    rw (e, ← get_or-drop from bytes j 0, add-one) (paste-suc d at (drop from bytes) j 0 h k')
-
 -- a part that lies in the first of two lists
 in_first : (p q : List ℕ) (n m : ℕ) → n + m ≤ length p → take m (drop n (p ++ q)) ≡ take m (drop n p)
 in_first p q n m h =

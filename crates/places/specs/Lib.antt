@@ -5,6 +5,8 @@ pub mod Places
 pub mod Statements
 pub mod Telling
 pub mod Layout
+pub mod Packets
+pub mod Seats
 pub mod Calls
 pub mod Tiny
 pub mod TinyReceiver

@@ -4,7 +4,6 @@
 
 mod show;
 mod state;
-mod streams;
 mod tile_line;
 mod values;
 

@@ -2,7 +2,7 @@
 ghost use Rattle.std.specs.Prelude.{◌<◌, ◌≤◌};
 
 use crate::state::{Label, Wall};
-use crate::streams::Streams;
+use streams::Streams;
 use crate::{state, values};
 use rvc::texts;
 use tiles::{Asking, Panel, Reading, TILES};

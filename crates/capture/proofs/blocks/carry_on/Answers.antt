@@ -20,5 +20,5 @@ returns c =
     let e = sym c.too_long.ensures ∙ c.if-too_long.false in
     let h = not_too_long a.cutter.length (length a.part.now) e in
     let l : length a.cutter.carry ≡ 80 = search rules in
-    let w = put_placed c.put-end.ensures (omega arith) in
+    let w = put_placed c.put-length.ensures (omega arith) in
     rw (e, w.0, w.1)

@@ -12,11 +12,11 @@ pub returns-then-length-gt-LONGEST_LINE : goal.returns-then-length-gt-LONGEST_LI
 unfolding is_too_long
 returns-then-length-gt-LONGEST_LINE c =
     let a = c.args in
-    sym (lt-ltb 80 (a.length + a.more) (omega arith))
+    lt-ltb 80 a.length (omega arith) ∙ sym (lt-ltb 80 (a.length + a.more) (omega arith))
 
-pub returns : goal.returns
+pub returns-else-length-gt-LONGEST_LINE : goal.returns-else-length-gt-LONGEST_LINE
 unfolding is_too_long
-returns c =
+returns-else-length-gt-LONGEST_LINE c =
     let a = c.args in
     by_test (80 - a.length <? a.more)
     (λ e. e ∙ sym (lt-ltb 80 (a.length + a.more) (omega (arith, ltb-true (80 - a.length) a.more e))))

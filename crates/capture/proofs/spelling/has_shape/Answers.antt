@@ -7,9 +7,9 @@ use Rattle.capture.specs.Line.{has_shape}
 use Rattle.words.proofs.Tests.{tests}
 use Rattle.capture.proofs.spelling.has_shape.Goals as goal
 
-pub returns-then-line-lt39 : goal.returns-then-line-lt39
+pub returns-then-line-lt-SHORTEST_LINE : goal.returns-then-line-lt-SHORTEST_LINE
 unfolding has_shape
-returns-then-line-lt39 c = search tests
+returns-then-line-lt-SHORTEST_LINE c = search tests
 
 pub returns-then-line-gt-TEXT_BYTES : goal.returns-then-line-gt-TEXT_BYTES
 unfolding has_shape

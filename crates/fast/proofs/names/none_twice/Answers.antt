@@ -1,33 +1,16 @@
 -- `fast::names::none_twice` meets its contract. Assumes nothing.
-use mathlib.Core.Path.{refl, sym, ◌∙◌}
-use Prim.Native.Nat.{◌≤◌, ◌<◌}
-use native.Mathlib.Omega.{arith}
-use borrow.Author.Rules.{rules}
-use lib.ListN.{length}
+use Rattle.std.proofs.Common.{ℕ, rules, ◌≡◌, false, sym, ◌∙◌, ◌∷◌, List}
 use Rattle.words.specs.Words.{◌=?◌}
-use Rattle.words.proofs.Lists.{no_two_pass, no_two_stop, no_two_end}
+use Rattle.words.specs.Lists.{any, no_two}
 use Rattle.fast.proofs.names.none_twice.Goals as goal
 
-pub loop-i-init : goal.loop-i-init
-loop-i-init c = (search rules, refl)
+-- a turn that passes a DGN
+passed : (dgn : ℕ) (others all : List ℕ) → all ≡ dgn ∷ others → any (◌=?◌ dgn) others ≡ false → no_two ◌=?◌ all ≡ no_two ◌=?◌ others
+passed dgn others all e h = rw (e, h)
 
-pub returns-then-is_named : goal.returns-then-is_named
-returns-then-is_named c =
-    let l = c.loop-i in
-    let s = c.args.names.now in
-    let h : l.i < length s = omega arith in
-    sym (l.invariant.1 ∙ no_two_stop ◌=?◌ s l.i 0 h (sym c.is_named.ensures ∙ c.if-is_named.true))
-
-pub loop-i-preserved : goal.loop-i-preserved
-loop-i-preserved c =
-    let l = c.loop-i in
-    let s = c.args.names.now in
-    let h : l.i < length s = omega arith in
-    (search rules, l.invariant.1 ∙ no_two_pass ◌=?◌ s l.i 0 h (sym c.is_named.ensures ∙ c.if-is_named.false))
-
-pub returns : goal.returns
-returns c =
-    let l = c.loop-i in
-    let s = c.args.names.now in
-    let h : length s ≤ l.i = omega arith in
-    sym (l.invariant.1 ∙ no_two_end ◌=?◌ s l.i h)
+pub loop-dgn-preserved : goal.loop-dgn-preserved
+loop-dgn-preserved c =
+    let p = c.in-Some in
+    let alone : any (◌=?◌ p.dgn.now) p.others.now ≡ false = sym c.is_named.ensures ∙ c.if-is_named.false in
+    let split : c.loop-dgn.rest.now ≡ p.dgn.now ∷ p.others.now = search rules in
+    c.loop-dgn.invariant ∙ passed p.dgn.now p.others.now c.loop-dgn.rest.now split alone

@@ -1,13 +1,11 @@
 -- What the loop of `fast::names::none_twice` keeps, and why it ends.
-use mathlib.Core.Path.{◌≡◌}
-use Prim.Native.Nat.{◌≤◌, ◌-◌}
-use lib.ListN.{length, drop}
+use Rattle.std.proofs.Common.{◌≡◌, length}
 use Rattle.words.specs.Words.{◌=?◌}
 use Rattle.words.specs.Lists.{no_two}
 use Rattle.fast.proofs.names.none_twice.Given as goal
 
-abbrev pub invariant-loop-i : goal.invariant-loop-i
-invariant-loop-i l = (l.i ≤ length l.names) × (no_two ◌=?◌ l.names ≡ no_two ◌=?◌ (drop l.i l.names))
+abbrev pub invariant-loop-dgn : goal.invariant-loop-dgn
+invariant-loop-dgn l = no_two ◌=?◌ l.initial.rest ≡ no_two ◌=?◌ l.rest
 
-abbrev pub decreases-loop-i : goal.decreases-loop-i
-decreases-loop-i l = length l.names - l.i
+abbrev pub decreases-loop-dgn : goal.decreases-loop-dgn
+decreases-loop-dgn l = length l.rest

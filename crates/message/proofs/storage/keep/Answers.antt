@@ -1,9 +1,0 @@
--- `message::storage::keep` meets its contract. Assumes nothing.
-use Prim.Native.Nat.{◌*◌}
-use Rattle.places.proofs.Stretch.{paste_part}
-use Rattle.message.proofs.storage.keep.Goals as goal
-
-pub returns : goal.returns
-returns c =
-    let a = c.args in
-    rw c.copy.ensures (paste_part a.storage.now _ (1785 * a.at) a.offset a.count)
