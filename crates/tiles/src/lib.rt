@@ -13,7 +13,8 @@ ghost use Rattle.tiles.specs.Private.{named_beside, heard_beside};
 ghost use Rattle.tiles.specs.Promises.{New, Name, Hear, ReadTile, number_of_not_named, number_of_not_heard};
 ghost use Rattle.tiles.specs.Promises.{number_of_not_shown};
 
-use rvc::identifiers::{BadFrame, Refusal};
+use rvc::Refusal;
+use rvc::identifiers::BadFrame;
 
 // A panel has 32 tiles, with numbers from 0.
 pub const TILES: usize = 32;
