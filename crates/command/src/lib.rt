@@ -263,7 +263,7 @@ impl Host {
         }
         Started {
             host: hosted::begun(host),
-            answer: Ok(()),
+            answer: Ok(()), // hosted
         }
     }
 
