@@ -1,4 +1,6 @@
 // The records of a table: whether they keep the rules, what is found in them, and what an event makes of each.
+// They are a slice of the lent table, and that there are 254 is asked for: with an array, `hear` and `pause` would have
+// to test the length again that `judge` has tested.
 ghost use Rattle.std.specs.Prelude.{◌≡◌, length, count_by};
 ghost use Rattle.words.specs.Words.{◌and◌, gives, done};
 ghost use Rattle.words.specs.Lists.{any, every, first, no_two};
@@ -113,7 +115,7 @@ pub fn challenger(records: &[Node], address: u8) -> Option<Challenger>
     }
 }
 
-// The first address whose record has the NAME.
+// The first address whose record has the NAME: in its arm the position is known to fit.
 pub fn address(records: &[Node], name: u64) -> Option<u8>
     requires { length records.now ≡ addresses }
     ensures { result ≡ first (has_name name) records.now }
