@@ -85,7 +85,7 @@ pub reading_refusal_only : ReadingRefusalOnly
 reading_refusal_only answer r s p q = p.number ∙ sym q.number
 
 pub reading_refusal_told : ReadingRefusalTold
-reading_refusal_told (Ok given) = record { number = refl }
+reading_refusal_told (Ok value) = record { number = refl }
 reading_refusal_told (Err why) = record { number = refl }
 
 -- what a refusal leaves

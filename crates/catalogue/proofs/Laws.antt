@@ -174,28 +174,28 @@ pub looked_refusal_only : Laws.LookedRefusalOnly
 looked_refusal_only answer r s p q = p.number ∙ sym q.number
 
 pub looked_refusal_told : LookedRefusalTold
-looked_refusal_told (Ok given) = record { number = refl }
+looked_refusal_told (Ok value) = record { number = refl }
 looked_refusal_told (Err why) = record { number = refl }
 
 pub reading_refusal_only : Laws.ReadingRefusalOnly
 reading_refusal_only answer r s p q = p.number ∙ sym q.number
 
 pub reading_refusal_told : ReadingRefusalTold
-reading_refusal_told (Ok given) = record { number = refl }
+reading_refusal_told (Ok value) = record { number = refl }
 reading_refusal_told (Err why) = record { number = refl }
 
 pub scaled_reading_refusal_only : Laws.ScaledReadingRefusalOnly
 scaled_reading_refusal_only answer r s p q = p.number ∙ sym q.number
 
 pub scaled_reading_refusal_told : ScaledReadingRefusalTold
-scaled_reading_refusal_told (Ok given) = record { number = refl }
+scaled_reading_refusal_told (Ok value) = record { number = refl }
 scaled_reading_refusal_told (Err why) = record { number = refl }
 
 pub writing_refusal_only : Laws.WritingRefusalOnly
 writing_refusal_only answer r s p q = p.number ∙ sym q.number
 
 pub writing_refusal_told : WritingRefusalTold
-writing_refusal_told (Ok given) = record { number = refl }
+writing_refusal_told (Ok value) = record { number = refl }
 writing_refusal_told (Err why) = record { number = refl }
 
 kept : (t : Told (List ℕ)) (bytes : List ℕ) (k : ℕ) → done_if t ≡ refused k → bytes_after t bytes ≡ bytes

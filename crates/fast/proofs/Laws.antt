@@ -208,28 +208,28 @@ pub starting_refusal_only : StartingRefusalOnly
 starting_refusal_only answer r s p q = p.number ∙ sym q.number
 
 pub starting_refusal_told : StartingRefusalTold
-starting_refusal_told (Ok given) = record { number = refl }
+starting_refusal_told (Ok value) = record { number = refl }
 starting_refusal_told (Err why) = record { number = refl }
 
 pub answer_refusal_only : AnswerRefusalOnly
 answer_refusal_only answer r s p q = p.number ∙ sym q.number
 
 pub answer_refusal_told : AnswerRefusalTold
-answer_refusal_told (Ok given) = record { number = refl }
+answer_refusal_told (Ok value) = record { number = refl }
 answer_refusal_told (Err why) = record { number = refl }
 
 pub pausing_refusal_only : PausingRefusalOnly
 pausing_refusal_only answer r s p q = p.number ∙ sym q.number
 
 pub pausing_refusal_told : PausingRefusalTold
-pausing_refusal_told (Ok given) = record { number = refl }
+pausing_refusal_told (Ok value) = record { number = refl }
 pausing_refusal_told (Err why) = record { number = refl }
 
 pub splitting_refusal_only : SplittingRefusalOnly
 splitting_refusal_only answer r s p q = p.number ∙ sym q.number
 
 pub splitting_refusal_told : SplittingRefusalTold
-splitting_refusal_told (Ok given) = record { number = refl }
+splitting_refusal_told (Ok value) = record { number = refl }
 splitting_refusal_told (Err why) = record { number = refl }
 
 -- the numbers of a pair, of a first byte, and of the last frame

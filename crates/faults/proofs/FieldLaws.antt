@@ -68,7 +68,7 @@ pub service_point_refusal_only : the.ServicePointRefusalOnly
 service_point_refusal_only answer r s p q = p.number ∙ sym q.number
 
 pub service_point_refusal_told : the.ServicePointRefusalTold
-service_point_refusal_told (Ok given) = record { number = refl }
+service_point_refusal_told (Ok value) = record { number = refl }
 service_point_refusal_told (Err why) = record { number = refl }
 
 -- the rows

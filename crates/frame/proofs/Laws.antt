@@ -109,7 +109,7 @@ pub apart_refusal_only : ApartRefusalOnly
 apart_refusal_only answer r s p q = p.number ∙ sym q.number
 
 pub apart_refusal_told : ApartRefusalTold
-apart_refusal_told (Ok given) = record { number = refl }
+apart_refusal_told (Ok value) = record { number = refl }
 apart_refusal_told (Err why) = record { number = refl }
 
 pub not_formed_refusal_only : NotFormedRefusalOnly
@@ -119,7 +119,7 @@ pub formed_refusal_only : FormedRefusalOnly
 formed_refusal_only answer r s p q = p.number ∙ sym q.number
 
 pub formed_refusal_told : FormedRefusalTold
-formed_refusal_told (Ok given) = record { number = refl }
+formed_refusal_told (Ok value) = record { number = refl }
 formed_refusal_told (Err why) = record { number = refl }
 
 pub bad_frame_refusal_only : BadFrameRefusalOnly
@@ -129,7 +129,7 @@ pub verdict_refusal_only : VerdictRefusalOnly
 verdict_refusal_only answer r s p q = p.number ∙ sym q.number
 
 pub verdict_refusal_told : VerdictRefusalTold
-verdict_refusal_told (Ok given) = record { number = refl }
+verdict_refusal_told (Ok value) = record { number = refl }
 verdict_refusal_told (Err why) = record { number = refl }
 
 pub refused_keeps : RefusedKeeps

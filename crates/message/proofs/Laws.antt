@@ -202,14 +202,14 @@ pub answer_refusal_only : AnswerRefusalOnly
 answer_refusal_only answer r s p q = p.number ∙ sym q.number
 
 pub answer_refusal_told : AnswerRefusalTold
-answer_refusal_told (Ok given) = record { number = refl }
+answer_refusal_told (Ok value) = record { number = refl }
 answer_refusal_told (Err why) = record { number = refl }
 
 pub pausing_refusal_only : PausingRefusalOnly
 pausing_refusal_only answer r s p q = p.number ∙ sym q.number
 
 pub pausing_refusal_told : PausingRefusalTold
-pausing_refusal_told (Ok given) = record { number = refl }
+pausing_refusal_told (Ok value) = record { number = refl }
 pausing_refusal_told (Err why) = record { number = refl }
 
 pub unsplittable_refusal_only : UnsplittableRefusalOnly
@@ -219,14 +219,14 @@ pub announcing_refusal_only : AnnouncingRefusalOnly
 announcing_refusal_only answer r s p q = p.number ∙ sym q.number
 
 pub announcing_refusal_told : AnnouncingRefusalTold
-announcing_refusal_told (Ok given) = record { number = refl }
+announcing_refusal_told (Ok value) = record { number = refl }
 announcing_refusal_told (Err why) = record { number = refl }
 
 pub splitting_refusal_only : SplittingRefusalOnly
 splitting_refusal_only answer r s p q = p.number ∙ sym q.number
 
 pub splitting_refusal_told : SplittingRefusalTold
-splitting_refusal_told (Ok given) = record { number = refl }
+splitting_refusal_told (Ok value) = record { number = refl }
 splitting_refusal_told (Err why) = record { number = refl }
 
 -- A frame, by its outcomes: either a refusal or an announcement that leaves the storage, or a packet at its sender's place.

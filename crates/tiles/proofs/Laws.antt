@@ -137,21 +137,21 @@ pub naming_refusal_only : Laws.NamingRefusalOnly
 naming_refusal_only answer r s p q = p.number ∙ sym q.number
 
 pub naming_refusal_told : NamingRefusalTold
-naming_refusal_told (Ok given) = record { number = refl }
+naming_refusal_told (Ok value) = record { number = refl }
 naming_refusal_told (Err why) = record { number = refl }
 
 pub hearing_refusal_only : Laws.HearingRefusalOnly
 hearing_refusal_only answer r s p q = p.number ∙ sym q.number
 
 pub hearing_refusal_told : HearingRefusalTold
-hearing_refusal_told (Ok given) = record { number = refl }
+hearing_refusal_told (Ok value) = record { number = refl }
 hearing_refusal_told (Err why) = record { number = refl }
 
 pub asking_refusal_only : Laws.AskingRefusalOnly
 asking_refusal_only answer r s p q = p.number ∙ sym q.number
 
 pub asking_refusal_told : AskingRefusalTold
-asking_refusal_told (Ok given) = record { number = refl }
+asking_refusal_told (Ok value) = record { number = refl }
 asking_refusal_told (Err why) = record { number = refl }
 
 -- a refusal leaves the panel
