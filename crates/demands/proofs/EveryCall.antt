@@ -3,6 +3,7 @@
 use mathlib.Core.Path.{◌≡◌, refl, sym, ap, ◌∙◌}
 use seplogic.Ra.Ura.{Ura}
 use contract.Notation.{connectives}
+use Rattle.words.proofs.ResultRefusal.refusal.Met as words_result_refusal
 use Rattle.frame.specs.Promises as frame_promises
 use Rattle.frame.proofs.Laws as Frame
 use Rattle.frame.proofs.take_apart.Met as frame_take_apart
@@ -152,6 +153,13 @@ lent all both = (both.0, ap all both.1)
 pub every_call : EveryCall
 every_call M =
     record {
+      words_result_refusal = record {
+        meets = words_result_refusal.met;
+        each = λ T E tc td refusals rd ec ed. record {
+          asks_nothing = λ 𝓤 𝓛 mem run κs args ghost. refl;
+          promises = λ 𝓤 𝓛 mem run κs args ghost r. refl;
+        };
+      };
       frame_take_apart = record {
         meets = frame_take_apart.met;
         asks_nothing = free;

@@ -3,21 +3,30 @@
 -- see.
 use Rattle.std.specs.Prelude.{◌≡◌}
 use seplogic.Ra.Ura.{Ura}
-use base.Logic.{SProp}
+use base.Logic.{SProp, sep, emp}
 use prog.Memory.{Memory}
 use prog.Model.{Model}
 use prog.Routine.{Routine}
 use prog.Wired.{Code, Wired}
-use mir.Syntax.{Callee}
+use mir.Syntax.{Callee, Dict}
 use types.Logic.{Logic}
 use contract.Monad.{Fun}
 use contract.Lifetimes.{Lfts}
 use contract.Notation.{connectives}
+use contract.BorrowLft.{◌⊑◌}
+use contract.Fact.{fact}
 use contract.Running.{Running}
+use denote.RattleType.{RattleType}
 use denote.Signature.{Signature}
 use denote.Triple.Clauses.{Ended, Lasts, AtExit, at_exit}
 use denote.Triple.Entry.{Args, Res}
 use denote.Triple.Spec.{Spec, Meets, exits}
+use Rattle.std.specs.declared.clone.Clone as Clone
+use Rattle.words.specs.Words.{number_of_answer}
+use Rattle.words.specs.declared.Refusal as Refusal
+use Rattle.words.specs.contracts.ResultRefusal.refusal as words_result_refusal
+use Rattle.words.proofs.ResultRefusal.refusal.Symbol as words_result_refusal_symbol
+use Rattle.words.proofs.ResultRefusal.refusal.Statement as words_result_refusal_statement
 use Rattle.frame.specs.Laws as Frame
 use Rattle.frame.specs.contracts.take_apart as frame_take_apart
 use Rattle.frame.proofs.take_apart.Symbol as frame_take_apart_symbol
@@ -294,7 +303,40 @@ module _ (M : Type 1) where
     abbrev pub Answers : Code → Callee → Contract → Type 0 → Type 2
     Answers code name contract Only = AnswersBy code name contract (λ κs r s. r ≡ s) Only
 
+  -- The number of an answer, at what the answer gives, `T`, and what it may refuse for, `E`, whose numbers are
+  -- `refusals`.
+  module _ (T E : RattleType) (tc : Clone.Ghosts T.Denot) (td : Dict) (refusals : Refusal.Ghosts E.Denot) (rd : Dict)
+      (ec : Clone.Ghosts E.Denot) (ed : Dict) where
+    abbrev Number : Ended
+    Number = words_result_refusal.ended T E tc td refusals rd ec ed
+
+    abbrev NumberContract : (𝓤 : Ura M) (𝓛 : Logic 𝓤) → (Memory → SProp 𝓤) → (Routine → Fun 𝓤) → Spec 𝓤 Number.signature
+    NumberContract 𝓤 𝓛 = words_result_refusal.spec T E tc td refusals rd ec ed 𝓛
+
+    pub record NumberOf : Type 2 where
+      -- The contract asks nothing of its caller but that the answer may be held.
+      pub asks_nothing : (𝓤 : Ura M) (𝓛 : Logic 𝓤) (mem : Memory → SProp 𝓤) (run : Routine → Fun 𝓤)
+          (κs : Lfts Number.signature.lifetimes) (args : Args Number.signature κs)
+          (ghost : (NumberContract 𝓤 𝓛 mem run κs args).ghost)
+          → (NumberContract 𝓤 𝓛 mem run κs args).requires ghost
+          ≡ sep 𝓤 (fact 𝓤 (κs.0 ⊑ T.lives)) (sep 𝓤 (fact 𝓤 (κs.1.0 ⊑ E.lives)) (emp 𝓤))
+      -- Its `ensures` is one promise: the number of the answer, which leaves no second one.
+      pub promises : (𝓤 : Ura M) (𝓛 : Logic 𝓤) (mem : Memory → SProp 𝓤) (run : Routine → Fun 𝓤)
+          (κs : Lfts Number.signature.lifetimes) (args : Args Number.signature κs)
+          (ghost : (NumberContract 𝓤 𝓛 mem run κs args).ghost) (r : Res Number.signature κs)
+          → (NumberContract 𝓤 𝓛 mem run κs args).ensures ghost r
+          ≡ exits 𝓛 Number.signature Number.kept κs args
+          (λ end. (connectives 𝓤).⌜◌⌝ (r ≡ number_of_answer refusals.number args.0))
+
+  -- The code meets this contract at every two types, and the contract is that promise.
+  pub record EveryAnswerNumbered : Type 2 where
+    pub meets : words_result_refusal_statement.statement M
+    pub each : (T E : RattleType) (tc : Clone.Ghosts T.Denot) (td : Dict) (refusals : Refusal.Ghosts E.Denot) (rd : Dict)
+        (ec : Clone.Ghosts E.Denot) (ed : Dict) → NumberOf T E tc td refusals rd ec ed
+
   pub record EveryCallOver : Type 2 where
+    -- The number of every answer
+    pub words_result_refusal : EveryAnswerNumbered
     -- Identifier
     pub frame_take_apart :
         Answers frame_take_apart.ended frame_take_apart_symbol.code frame_take_apart_symbol.name
