@@ -42,6 +42,7 @@ use Rattle.fast.specs.Receiver as Receiver
 use Rattle.fast.specs.Splitter.{refusal_in, frame_bytes_of, frame_of}
 use Rattle.fast.specs.Promises.{Starting, Answer, Pausing, Splitting, number_of_not_heard, outcome_of}
 use Rattle.fast.specs.Promises.{starting_number, told_answer, told_pausing, splitting_number, naming, naming_none}
+use Rattle.fast.specs.Laws.{AnswerRefused}
 use Rattle.fast.specs.Laws.{BadListRefusalOnly, NotHeardRefusalOnly, BadStateRefusalOnly, NotSplitRefusalOnly}
 use Rattle.fast.specs.Laws.{StartingNumberSame, ToldAnswerSame, ToldPausingSame, SplittingNumberSame, StartOnly}
 use Rattle.fast.specs.Laws.{HearOnly, PauseOnly, MessageOnly, FrameOfOnly, StartingRefusalOnly, AnswerRefusalOnly}
@@ -205,6 +206,10 @@ not_split_refusal_only why r s p q = p.number ∙ sym q.number
 
 pub starting_refusal_only : StartingRefusalOnly
 starting_refusal_only answer r s p q = p.number ∙ sym q.number
+
+pub answer_refused : AnswerRefused
+answer_refused (Ok event) = record { number = refl }
+answer_refused (Err why) = record { number = refl }
 
 pub answer_refusal_only : AnswerRefusalOnly
 answer_refusal_only answer r s p q = p.number ∙ sym q.number

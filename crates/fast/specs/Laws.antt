@@ -3,7 +3,7 @@
 -- the crate `demands`.
 use Rattle.std.specs.Prelude.{Ok, Err, Some}
 use Rattle.std.specs.Prelude.{◌≡◌, true, false, List, ◌≢◌, ◌⊎◌, ℕ, ◌+◌, ◌-◌, ◌*◌, ◌≤◌, ◌<◌, length, get_or, replicate}
-use Rattle.words.specs.Words.{refused, gives, bits}
+use Rattle.words.specs.Words.{refused, gives, bits, number_of_answer}
 use Rattle.words.specs.Lists.{first}
 use Rattle.frame.specs.Identifier.{greatest_dgn}
 use Rattle.frame.specs.Frame.{checked_of, frame_bytes}
@@ -18,6 +18,7 @@ use Rattle.fast.specs.FastPacket.{NewMessage, LaterFrame, begins, continues, mea
 use Rattle.fast.specs.Names.{most_named, may_be_named, is_named}
 use Rattle.fast.specs.Receiver.{room, free_place, is_open_by, names_of, keeps_rules, placing, place_for}
 use Rattle.fast.specs.Splitter.{frame_bytes_of}
+use Rattle.fast.specs.Promises.{number_of_not_heard}
 use Rattle.fast.specs.Promises.{starting_number, naming_none, told_answer, told_pausing, splitting_number, Start, Hear}
 use Rattle.fast.specs.Promises.{Pause, Message, FrameOf, StartingRefusal, AnswerRefusal, PausingRefusal}
 use Rattle.fast.specs.Promises.{SplittingRefusal, BadListRefusal, NotHeardRefusal, BadStateRefusal, NotSplitRefusal}
@@ -78,6 +79,10 @@ StartingRefusalOnly = (answer : Starting) (r s : ℕ) → StartingRefusal answer
 
 abbrev pub NotHeardRefusalOnly : Type 0
 NotHeardRefusalOnly = (why : NotHeard) (r s : ℕ) → NotHeardRefusal why r → NotHeardRefusal why s → r ≡ s
+
+-- the number that an answer's refusal has by its kind is the one that is told
+abbrev pub AnswerRefused : Type 0
+AnswerRefused = (answer : Answer) → AnswerRefusal answer (number_of_answer number_of_not_heard answer)
 
 abbrev pub AnswerRefusalOnly : Type 0
 AnswerRefusalOnly = (answer : Answer) (r s : ℕ) → AnswerRefusal answer r → AnswerRefusal answer s → r ≡ s

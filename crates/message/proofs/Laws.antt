@@ -34,6 +34,7 @@ use Rattle.message.specs.Receiver as Receiver
 use Rattle.message.specs.Splitter.{numbered}
 use Rattle.message.specs.Promises.{Answer, Pausing, Announcing, Splitting, number_of_not_heard, outcome_of, told_answer}
 use Rattle.message.specs.Promises.{told_pausing, announcing_number, splitting_number}
+use Rattle.message.specs.Laws.{AnswerRefused}
 use Rattle.message.specs.Laws.{ToldAnswerSame, ToldPausingSame, AnnouncingNumberSame, SplittingNumberSame}
 use Rattle.message.specs.Laws.{NewOnly, HearOnly, PauseOnly, MessageOnly, AnnouncementOnly, PacketOnly}
 use Rattle.message.specs.Laws.{NotHeardRefusalOnly, BadStateRefusalOnly, NotSplitRefusalOnly}
@@ -196,6 +197,10 @@ bad_state_refusal_only why r s p q = p.number ∙ sym q.number
 
 pub not_split_refusal_only : NotSplitRefusalOnly
 not_split_refusal_only why r s p q = p.number ∙ sym q.number
+
+pub answer_refused : AnswerRefused
+answer_refused (Ok event) = record { number = refl }
+answer_refused (Err why) = record { number = refl }
 
 pub answer_refusal_only : AnswerRefusalOnly
 answer_refusal_only answer r s p q = p.number ∙ sym q.number

@@ -3,7 +3,7 @@
 -- stand in the crate `demands`.
 use Rattle.std.specs.Prelude.{Some, Ok, Err}
 use Rattle.std.specs.Prelude.{◌≡◌, true, false, List, ◌≢◌, ◌⊎◌, ℕ, ◌+◌, ◌-◌, ◌*◌, ◌≤◌, ◌<◌, length, get_or, set}
-use Rattle.words.specs.Words.{refused, gives}
+use Rattle.words.specs.Words.{refused, gives, number_of_answer}
 use Rattle.words.specs.Lists.{first}
 use Rattle.frame.specs.Identifier.{greatest_dgn}
 use Rattle.frame.specs.Frame.{checked_of}
@@ -12,6 +12,7 @@ use Rattle.message.specs.LongMessage.{shortest, longest, packet_bytes, packets_o
 use Rattle.message.specs.LongMessage.{meaning_of}
 use Rattle.message.specs.Receiver.{room, free_place, is_open_by, keeps_rules, heard}
 use Rattle.message.specs.Splitter.{announcement_bytes, packet_bytes_of}
+use Rattle.message.specs.Promises.{number_of_not_heard}
 use Rattle.message.specs.Promises.{Answer, Pausing, Announcing, Splitting, told_answer, told_pausing}
 use Rattle.message.specs.Promises.{announcing_number, splitting_number, New, Hear, Pause}
 use Rattle.message.specs.Promises.{Message, Announcement, Packet, AnswerRefusal, PausingRefusal}
@@ -71,6 +72,10 @@ PacketOnly =
 
 abbrev pub NotHeardRefusalOnly : Type 0
 NotHeardRefusalOnly = (why : NotHeard) (r s : ℕ) → NotHeardRefusal why r → NotHeardRefusal why s → r ≡ s
+
+-- the number that an answer's refusal has by its kind is the one that is told
+abbrev pub AnswerRefused : Type 0
+AnswerRefused = (answer : Answer) → AnswerRefusal answer (number_of_answer number_of_not_heard answer)
 
 abbrev pub AnswerRefusalOnly : Type 0
 AnswerRefusalOnly = (answer : Answer) (r s : ℕ) → AnswerRefusal answer r → AnswerRefusal answer s → r ≡ s
