@@ -16,10 +16,11 @@ use Rattle.catalogue.specs.Rows.{rows}
 use Rattle.catalogue.specs.Table.{no_row, row_in, row_at, row_of, span_of}
 use Rattle.catalogue.specs.Catalogue.{field_in}
 use Rattle.catalogue.specs.Packed.{packed_rows, table_row, table_span}
-use Rattle.catalogue.specs.Promises.{RowIn, RowsIn, told_looked}
+use Rattle.catalogue.specs.Promises.{Looked, RowIn, RowsIn, told_looked}
 use Rattle.catalogue.specs.declared.Row.{Row}
 use Rattle.catalogue.specs.declared.Span.{Span}
-use Rattle.catalogue.specs.declared.Looked.{Looked}
+use Rattle.std.specs.Prelude.{Ok, Err}
+use Rattle.catalogue.specs.declared.NotFound.{NotFound}
 use Rattle.catalogue.proofs.Laws.{row_count_lem, within, row_in_packed, rows_in_packed}
 use Rattle.busread.specs.Step.{line_room}
 use Rattle.busread.specs.Report.{field_text, fields_text, rows_of}
@@ -34,11 +35,11 @@ found {n = n} e h k =
     h.answer ∙ ap (λ (t : List ℕ). table_row t n) e ∙ row_in_packed n ∙ rw t
 
 pub row_there : {table : List ℕ} {n : ℕ} {r : Looked} {row : Row}
-    → table ≡ packed_rows → RowIn table n r → r ≡ Looked.Is row → n < 375 → row ≡ row_at n
+    → table ≡ packed_rows → RowIn table n r → r ≡ Ok row → n < 375 → row ≡ row_at n
 row_there t h e k = gives_same (sym (ap told_looked e) ∙ found t h k)
 
-pub row_missing : {table : List ℕ} {n : ℕ} {r : Looked} {A : Type 0}
-    → table ≡ packed_rows → RowIn table n r → r ≡ Looked.NoSuchRow → n < 375 → A
+pub row_missing : {table : List ℕ} {n : ℕ} {r : Looked} {why : NotFound} {A : Type 0}
+    → table ≡ packed_rows → RowIn table n r → r ≡ Err why → n < 375 → A
 row_missing t h e k = refused_gives (sym (ap told_looked e) ∙ found t h k)
 
 -- and so are the rows of a DGN

@@ -15,14 +15,17 @@ use Rattle.places.specs.Telling.{Outcome, nothing_to_do, opened, stored, finishe
 use Rattle.message.specs.LongMessage.{longest}
 use Rattle.message.specs.Receiver.{room}
 use Rattle.message.specs.Promises.{told_answer, message_in, Message, Hear, Pause}
-use Rattle.message.specs.declared.Answer.{Answer}
+use Rattle.std.specs.Prelude.{Ok, Err}
+use Rattle.message.specs.Promises.{Answer}
 use Rattle.message.specs.declared.Receiver.{Receiver}
 use Rattle.message.specs.declared.Heard.{Heard}
 use Rattle.message.specs.declared.Paused.{Paused}
 use Rattle.capture.specs.Line.{Frame, line_read}
 use Rattle.capture.specs.Promises.{TakeApart, frame_in, told_reading}
 use Rattle.capture.specs.declared.Line.{Line}
-use Rattle.capture.specs.declared.Reading.{Reading}
+use Rattle.capture.specs.Promises.{Reading}
+use Rattle.capture.specs.declared.NotRead.{NotRead}
+use Rattle.capture.specs.declared.NotRead.TheVariants.{Malformed}
 use Rattle.text.specs.Pieces.{Wrote}
 use Rattle.busread.specs.Report.{refusal_text, print_of, printed, answer_text, counted, heard_in, line_text, kept_after}
 use Rattle.busread.specs.Step.{line_room, kept, Counting, Took}
@@ -87,8 +90,8 @@ passed {counts = counts} storage w b n k =
 
 -- a line taken apart says what its answer says
 
-pub sound_line : {text : List ℕ} {line : Line} → TakeApart text line → line.answer ≡ Reading.Sound → line_read text ≡ gives (frame_in line)
+pub sound_line : {text : List ℕ} {line : Line} → TakeApart text line → line.answer ≡ Ok tt → line_read text ≡ gives (frame_in line)
 sound_line {line = line} t e = sym t.answer ∙ ap (λ (r : Reading). told_reading r (frame_in line)) e
 
-pub malformed_line : {text : List ℕ} {line : Line} → TakeApart text line → line.answer ≡ Reading.Malformed → line_read text ≡ refused 19
-malformed_line {line = line} t e = sym t.answer ∙ ap (λ (r : Reading). told_reading r (frame_in line)) e
+pub malformed_line : {text : List ℕ} {line : Line} {why : NotRead} → TakeApart text line → line.answer ≡ Err why → line_read text ≡ refused 19
+malformed_line {line = line} {why = Malformed} t e = sym t.answer ∙ ap (λ (r : Reading). told_reading r (frame_in line)) e

@@ -10,7 +10,6 @@ ghost use Rattle.busread.specs.Reader.{out_room, Ready};
 mod reader;
 mod report;
 mod step;
-mod streams;
 
 use message::limits::STORAGE_BYTES;
 use reader::{Going, Reader};
@@ -66,7 +65,7 @@ fn output() -> [u8; 131072]
     [0; 131072]
 }
 
-// Block after block. Nothing says that an input ends, so the loop counts down from a number that no input uses up.
+// Block after block. Nothing says that an input ends, so the loop goes up to a number that no input reaches.
 fn read_all(
     reader: Reader,
     streams: &mut Streams,
@@ -79,14 +78,12 @@ fn read_all(
     ensures { Ready result }
 {
     let mut reader = reader;
-    let mut turns = u64::MAX;
-    while turns > 0 {
+    for _ in 0..u64::MAX {
         let fed = read_block(reader, streams, block, storage, out, table);
         reader = fed.reader;
         if !fed.more {
-            return reader;
+            break;
         }
-        turns -= 1;
     }
     reader
 }

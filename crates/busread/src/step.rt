@@ -1,6 +1,6 @@
 // One line of the capture: what it prints, and what is kept for the next.
 ghost use Rattle.std.specs.Prelude.{◌≡◌, ◌+◌, ◌≤◌, ◌<◌, length};
-ghost use Rattle.words.specs.Words.{gives, number_in};
+ghost use Rattle.words.specs.Words.{gives};
 ghost use Rattle.frame.specs.Bytes.{number_of};
 ghost use Rattle.frame.specs.Identifier.{source_of, dgn_of};
 ghost use Rattle.message.specs.Receiver.{room};
@@ -12,12 +12,12 @@ ghost use Rattle.capture.specs.Stream.{most_lines};
 ghost use Rattle.text.specs.Pieces.{Wrote};
 ghost use Rattle.busread.specs.Report.{head_text, print_of, fields_text, rows_of, answer_text, counted};
 ghost use Rattle.busread.specs.Step.{line_room, kept, Counting, Took, Passed};
-ghost use Rattle.busread.specs.declared.step.Print.TheVariants.{Refused};
 
 use crate::report;
 use crate::report::Counts;
 use capture::Line;
-use message::{Answer, Receiver};
+use message::{Answer, Event, Receiver};
+use words::Refusal;
 
 // What an answer of the receiver prints.
 #[derive(Clone, Copy)]
@@ -36,33 +36,14 @@ pub struct Step {
     pub written_to: usize,
 }
 
-// A refusal prints its number.
-fn refused(answer: Answer) -> Print
-    ensures { result ≡ Refused (number_in (told_answer answer)) }
-{
-    Print::Refused(answer.refusal() as u32)
-}
-
 fn print_of(answer: Answer) -> Print
     ensures { result ≡ print_of (told_answer answer) }
 {
     match answer {
-        Answer::StorageTooShort => refused(answer),
-        Answer::BrokenState => refused(answer),
-        Answer::BadFrame(_) => refused(answer),
-        Answer::MalformedAnnouncement => refused(answer),
-        Answer::NoPlaceFree => refused(answer),
-        Answer::NoOpenMessage => refused(answer),
-        Answer::UnexpectedPacket => refused(answer),
-        Answer::NothingToDo => Print::Fields,
-        Answer::Opened => Print::Nothing,
-        Answer::Stored => Print::Nothing,
-        Answer::Finished {
-            place: _,
-            sender,
-            dgn,
-            length: _,
-        } => Print::Message { sender, dgn },
+        Err(why) => Print::Refused(why.refusal() as u32),
+        Ok(Event::NothingToDo) => Print::Fields,
+        Ok(Event::Opened | Event::Stored) => Print::Nothing,
+        Ok(Event::Finished { sender, dgn, .. }) => Print::Message { sender, dgn },
     }
 }
 
@@ -76,23 +57,14 @@ fn count(counts: Counts, print: Print) -> Counts
         Print::Refused(_) => Counts {
             frames,
             refused: counts.refused + 1,
-            messages: counts.messages,
+            ..counts
         },
-        Print::Message { sender: _, dgn: _ } => Counts {
+        Print::Message { .. } => Counts {
             frames,
-            refused: counts.refused,
             messages: counts.messages + 1,
+            ..counts
         },
-        Print::Fields => Counts {
-            frames,
-            refused: counts.refused,
-            messages: counts.messages,
-        },
-        Print::Nothing => Counts {
-            frames,
-            refused: counts.refused,
-            messages: counts.messages,
-        },
+        Print::Fields | Print::Nothing => Counts { frames, ..counts },
     }
 }
 
@@ -114,18 +86,15 @@ fn put_fields(
     let dgn = id / 256 % 131072;
     let content = frame::number_of(bytes);
     let span = catalogue::rows_in(table, dgn);
-    let mut head = [0u8; 48];
+    let mut head = [0; 48];
     let size = report::put_head(&mut head, 0, number, source, dgn);
     let mut end = at;
-    let mut i: usize = 0;
-    while i < span.count {
-        let looked = catalogue::row_in(table, span.start + i);
-        let catalogue::Looked::Is(row) = looked else {
+    for i in 0..span.count {
+        let Ok(row) = catalogue::row_in(table, span.start + i) else {
             return end;
         };
         let field = catalogue::classify(row, content);
         end = report::put_field(out, end, &head[..size], row, field);
-        i += 1;
     }
     end
 }
@@ -144,8 +113,7 @@ fn put_answer(
     ensures { Wrote out.old at (answer_text number (frame_in line) storage.now (told_answer answer))
         out.new result × (result ≤ at + line_room) }
 {
-    let print = print_of(answer);
-    match print {
+    match print_of(answer) {
         Print::Refused(refusal) => report::put_refusal(out, at, number, refusal),
         Print::Message { sender, dgn } => {
             let bytes = message::message(storage, answer);
@@ -225,9 +193,8 @@ pub fn take(
         written_to result storage.new out.new }
 {
     let line = capture::take_apart(text);
-    let answer = line.answer;
-    match answer {
-        capture::Reading::Sound => hear(receiver, counts, line, storage, out, written_to, table),
-        capture::Reading::Malformed => malformed(receiver, counts, out, written_to),
+    match line.answer {
+        Ok(()) => hear(receiver, counts, line, storage, out, written_to, table),
+        Err(_) => malformed(receiver, counts, out, written_to),
     }
 }

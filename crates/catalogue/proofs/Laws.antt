@@ -9,14 +9,15 @@ use Prim.Native.Nat.{ℕ, ◌+◌, ◌^◌, ◌≤◌, ◌<◌}
 use native.Mathlib.Omega.{arith}
 use borrow.Author.Tests.{eq-eqb, le-ltb, le-leb, ltb-true, ltb-false, leb-true, leb-false}
 use lib.ListN.{length, get_or-eq_default}
-use Rattle.words.specs.Words.{given◌then◌, ◌<?◌, ◌≤?◌, ◌=?◌, Told, refused, gives, Done}
+use Rattle.words.specs.Words.{given◌then◌, ◌<?◌, ◌≤?◌, ◌=?◌, Told, refused, gives}
 use Rattle.frame.specs.Bytes.{number_of, AreBytes}
 use Rattle.frame.specs.Frame.{frame_bytes}
 use Rattle.frame.specs.Promises.{refusal_of}
 use Rattle.frame.specs.declared.BadFrame.{BadFrame}
 use Rattle.frame.specs.declared.BadFrame.TheVariants.{IdentifierTooLarge, NotEightBytes, ReservedBitSet}
 use Rattle.frame.specs.declared.BadFrame.TheVariants.{SourceNotAllowed}
-use Rattle.words.proofs.Words.{by_test, refused_gives, gives_same}
+use Rattle.std.specs.Prelude.{Ok, Err}
+use Rattle.words.proofs.Words.{by_test, refused_gives, refused_same, gives_same, told_same}
 use Rattle.frame.proofs.Bytes.{number_below, number_of_bytes, length_bytes, bytes_small}
 use Rattle.frame.proofs.Laws.{bad_back, bad_back_lem}
 use Rattle.catalogue.specs.Rows.{rows, row_count}
@@ -27,17 +28,17 @@ use Rattle.catalogue.specs.Scale.{scaled_of, value_as, value_of}
 use Rattle.catalogue.specs.Codes.{code_where, class_code, code_of}
 use Rattle.catalogue.specs.Catalogue.{field_in, opened_for, read_row_of, scaled_row_of, written_row_of, read_of}
 use Rattle.catalogue.specs.Catalogue.{scaled_read_of, replaced, written_of}
-use Rattle.catalogue.specs.Promises.{told_looked, told_reading, told_scaled, told_writing, done_if, bytes_after}
+use Rattle.catalogue.specs.Promises.{number_of_not_found, number_of_not_read, number_of_not_written}
+use Rattle.catalogue.specs.Promises.{done_if, bytes_after}
 use Rattle.catalogue.specs.Laws as Laws
 use Rattle.catalogue.specs.declared.Row.{Row}
 use Rattle.catalogue.specs.declared.Field.{Field}
 use Rattle.catalogue.specs.declared.Class.{Class}
 use Rattle.catalogue.specs.declared.Class.TheVariants.{Number, NoData, OutOfRange, Reserved}
 use Rattle.catalogue.specs.declared.Value.{Value}
-use Rattle.catalogue.specs.declared.Looked.{Looked}
-use Rattle.catalogue.specs.declared.Reading.{Reading}
-use Rattle.catalogue.specs.declared.ScaledReading.{ScaledReading}
-use Rattle.catalogue.specs.declared.Writing.{Writing}
+use Rattle.catalogue.specs.declared.NotFound.{NotFound}
+use Rattle.catalogue.specs.declared.NotRead.{NotRead}
+use Rattle.catalogue.specs.declared.NotWritten.{NotWritten}
 use Rattle.catalogue.proofs.Rule as Rule
 use Rattle.catalogue.proofs.Packing as Packing
 use Rattle.catalogue.proofs.Bits as Bits
@@ -50,19 +51,10 @@ use Rattle.catalogue.proofs.Codes.{scaled_of_lem, code_given}
 use Rattle.catalogue.proofs.Found.{given_then, found, found_frame, for_bad, for_sound, read_none, read_row}
 use Rattle.catalogue.proofs.Found.{scaled_none, scaled_row, write_none, write_uncoded}
 
--- an answer is read back from what it tells
-
-looked_back : Told Row → Looked
-looked_back (gives row) = Looked.Is row
-looked_back (refused n) = Looked.NoSuchRow
-
-looked_back_lem : (r : Looked) → looked_back (told_looked r) ≡ r
-unfolding looked_back
-looked_back_lem (Looked.Is row) = refl
-looked_back_lem Looked.NoSuchRow = refl
+-- an answer is read back from what it tells: no two refusals of a call have one number
 
 pub told_looked_same : Laws.ToldLookedSame
-told_looked_same r s e = sym (looked_back_lem r) ∙ ap looked_back e ∙ looked_back_lem s
+told_looked_same = told_same number_of_not_found (elim [ NotFound.NoSuchRow ↦ elim [ NotFound.NoSuchRow ↦ λ e. refl ] ])
 
 -- 3 to 6 are other numbers than 11 and 12
 
@@ -78,45 +70,40 @@ not_twelve NotEightBytes = refl
 not_twelve ReservedBitSet = refl
 not_twelve SourceNotAllowed = refl
 
-reading_back : Told Field → Reading
-reading_back (gives field) = Reading.Is field
-reading_back (refused n) = if n =? 11 then Reading.NoSuchRow else Reading.BadFrame (bad_back n)
+not_read_back : ℕ → NotRead
+not_read_back n = if n =? 11 then NotRead.NoSuchRow else NotRead.BadFrame (bad_back n)
 
-reading_back_lem : (r : Reading) → reading_back (told_reading r) ≡ r
-unfolding reading_back
-reading_back_lem (Reading.Is field) = refl
-reading_back_lem (Reading.BadFrame why) = rw (not_eleven why) (ap Reading.BadFrame (bad_back_lem why))
-reading_back_lem Reading.NoSuchRow = refl
+not_read_back_lem : (w : NotRead) → not_read_back (number_of_not_read w) ≡ w
+unfolding not_read_back
+not_read_back_lem (NotRead.BadFrame why) = rw (not_eleven why) (ap NotRead.BadFrame (bad_back_lem why))
+not_read_back_lem NotRead.NoSuchRow = refl
+
+pub not_read_same : (v w : NotRead) → number_of_not_read v ≡ number_of_not_read w → v ≡ w
+not_read_same v w e = sym (not_read_back_lem v) ∙ ap not_read_back e ∙ not_read_back_lem w
 
 pub told_reading_same : Laws.ToldReadingSame
-told_reading_same r s e = sym (reading_back_lem r) ∙ ap reading_back e ∙ reading_back_lem s
-
-scaled_back : Told Value → ScaledReading
-scaled_back (gives value) = ScaledReading.Is value
-scaled_back (refused n) = if n =? 11 then ScaledReading.NoSuchRow else ScaledReading.BadFrame (bad_back n)
-
-scaled_back_lem : (r : ScaledReading) → scaled_back (told_scaled r) ≡ r
-unfolding scaled_back
-scaled_back_lem (ScaledReading.Is value) = refl
-scaled_back_lem (ScaledReading.BadFrame why) = rw (not_eleven why) (ap ScaledReading.BadFrame (bad_back_lem why))
-scaled_back_lem ScaledReading.NoSuchRow = refl
+told_reading_same = told_same number_of_not_read not_read_same
 
 pub told_scaled_same : Laws.ToldScaledSame
-told_scaled_same r s e = sym (scaled_back_lem r) ∙ ap scaled_back e ∙ scaled_back_lem s
+told_scaled_same = told_same number_of_not_read not_read_same
 
-writing_back : Told Done → Writing
-writing_back (gives d) = Writing.Written
-writing_back (refused n) = if n =? 11 then Writing.NoSuchRow else if n =? 12 then Writing.NoCode else Writing.BadFrame (bad_back n)
+not_written_back : ℕ → NotWritten
+not_written_back n = if n =? 11 then NotWritten.NoSuchRow else if n =? 12 then NotWritten.NoCode else NotWritten.BadFrame (bad_back n)
 
-writing_back_lem : (r : Writing) → writing_back (told_writing r) ≡ r
-unfolding writing_back
-writing_back_lem Writing.Written = refl
-writing_back_lem (Writing.BadFrame why) = rw (not_eleven why, not_twelve why) (ap Writing.BadFrame (bad_back_lem why))
-writing_back_lem Writing.NoSuchRow = refl
-writing_back_lem Writing.NoCode = refl
+not_written_back_lem : (w : NotWritten) → not_written_back (number_of_not_written w) ≡ w
+unfolding not_written_back
+not_written_back_lem (NotWritten.BadFrame why) = rw (not_eleven why, not_twelve why) (ap NotWritten.BadFrame (bad_back_lem why))
+not_written_back_lem NotWritten.NoSuchRow = refl
+not_written_back_lem NotWritten.NoCode = refl
+
+not_written_same : (v w : NotWritten) → number_of_not_written v ≡ number_of_not_written w → v ≡ w
+not_written_same v w e = sym (not_written_back_lem v) ∙ ap not_written_back e ∙ not_written_back_lem w
 
 pub told_writing_same : Laws.ToldWritingSame
-told_writing_same r s e = sym (writing_back_lem r) ∙ ap writing_back e ∙ writing_back_lem s
+told_writing_same (Ok a) (Ok b) e = refl
+told_writing_same (Ok a) (Err w) e = refused_gives (sym e)
+told_writing_same (Err v) (Ok b) e = refused_gives e
+told_writing_same (Err v) (Err w) e = ap Err (not_written_same v w (refused_same e))
 
 -- no second answer
 
@@ -172,6 +159,15 @@ read_row_scaled_only row id bytes r s p q = told_scaled_same r s (p.answer ∙ s
 pub write_row_only : Laws.WriteRowOnly
 write_row_only row id bytes value r s after after' p q =
     (told_writing_same r s (p.answer ∙ sym q.answer), p.data_bytes ∙ sym q.data_bytes)
+
+pub not_found_refusal_only : Laws.NotFoundRefusalOnly
+not_found_refusal_only why r s p q = p.number ∙ sym q.number
+
+pub not_read_refusal_only : Laws.NotReadRefusalOnly
+not_read_refusal_only why r s p q = p.number ∙ sym q.number
+
+pub not_written_refusal_only : Laws.NotWrittenRefusalOnly
+not_written_refusal_only why r s p q = p.number ∙ sym q.number
 
 pub looked_refusal_only : Laws.LookedRefusalOnly
 looked_refusal_only answer r s p q = p.number ∙ sym q.number

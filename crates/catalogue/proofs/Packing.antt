@@ -1,20 +1,21 @@
 -- A table of packed rows, and the catalogue as one.
 -- Assumes nothing.
 use mathlib.Core.Path.{◌≡◌, refl, sym, ap, ◌∙◌}
-use mathlib.Core.Bool.{true, false}
-use mathlib.Core.List.{List, ◌∷◌}
+use mathlib.Core.Bool.{true}
+use mathlib.Core.List.{List, [], ◌∷◌}
+use Rattle.std.specs.Prelude.{Option, Some, None}
+use Rattle.std.specs.List.{find}
 use Prim.Native.Nat.{ℕ, ◌+◌, ◌≤◌, ◌<◌}
-use native.Mathlib.Numerals.{add-one}
 use native.Mathlib.Omega.{arith}
 use borrow.Author.Tests.{lt-ltb, le-ltb, ltb-true}
-use lib.ListN.{length, drop, get_or, length-map, get_or-map, get_or-eq_default, drop_of_length-le}
-use lib.Seq.{drop-cons}
-use Rattle.words.specs.Words.{given◌then◌, ◌and◌, ◌<?◌, ◌=?◌, Told, refused, gives}
+use lib.ListN.{length, get_or, length-map, get_or-map, get_or-eq_default}
+use Rattle.words.specs.Words.{given◌then◌, ◌<?◌, Told, refused, gives}
 use Rattle.words.proofs.Words.{by_test}
 use Rattle.catalogue.specs.Rows.{rows}
 use Rattle.catalogue.specs.Table.{no_row, nth, row_in, row_with, lies_in_frame, KeepsRule, row_of, span_in, span_of}
 use Rattle.catalogue.specs.Packed.{unit_of, unpacked, pack, packed_rows, table_rows, lying, table_row, table_row_with}
 use Rattle.catalogue.specs.Packed.{table_span}
+use Rattle.catalogue.specs.Private.{begins}
 use Rattle.catalogue.specs.declared.Row.{Row}
 use Rattle.catalogue.proofs.Rule.{whole, lies_at, found_with}
 use Rattle.catalogue.proofs.Halving.{halved_below, halved_having, halved_within, halved_rises}
@@ -42,33 +43,26 @@ unfolding table_row row_in
 row_there table n h =
     sym (rw (lt-ltb n (length (table_rows table)) (rw (length-map table unpacked) h), table_at table n))
 
--- the first row with a DGN and a first bit, from a row on
+-- the first row with a DGN and a first bit is what a search for it finds
+
+told_found : Option Row → Told Row
+told_found (Some row) = gives row
+told_found None = refused 11
+
+found_is : (list : List Row) (dgn first : ℕ) → row_with list dgn first ≡ told_found (find (begins dgn first) list)
+unfolding row_with told_found
+found_is [] dgn first = refl
+found_is (r ∷ rs) dgn first =
+    by_test (begins dgn first r) (λ t. rw t) (λ t. rw t (found_is rs dgn first))
 
 module _ (table : List ℕ) (dgn first : ℕ) where
-  abbrev pub From : ℕ → Type 0
-  From i = (given row_with (table_rows (drop i table)) dgn first then λ row. lying row) ≡ table_row_with table dgn first
+  pub found_row : (row : Row) → find (begins dgn first) (table_rows table) ≡ Some row → lying row ≡ table_row_with table dgn first
+  unfolding table_row_with told_found
+  found_row row e = sym (rw (found_is (table_rows table) dgn first, e))
 
-  pub from_first : From 0
-  unfolding table_row_with
-  from_first = refl
-
-  pub from_next : (i : ℕ) (row : Row) → i < length table → row ≡ unpacked (get_or table i 0)
-      → (row.dgn =? dgn and row.first =? first) ≡ false → From i → From (i + 1)
-  unfolding row_with
-  from_next i row h e b f =
-      let d : drop i table ≡ get_or table i 0 ∷ drop (i + 1) table = rw add-one (drop-cons table i 0 h) in
-      sym (rw (d, ← e, b)) ∙ f
-
-  pub from_here : (i : ℕ) (row : Row) → i < length table → row ≡ unpacked (get_or table i 0)
-      → (row.dgn =? dgn and row.first =? first) ≡ true → From i → lying row ≡ table_row_with table dgn first
-  unfolding row_with
-  from_here i row h e b f =
-      let d : drop i table ≡ get_or table i 0 ∷ drop (i + 1) table = rw add-one (drop-cons table i 0 h) in
-      sym (rw (d, ← e, b)) ∙ f
-
-  pub from_last : (i : ℕ) → length table ≤ i → From i → refused 11 ≡ table_row_with table dgn first
-  unfolding row_with
-  from_last i h f = sym (rw (drop_of_length-le table h)) ∙ f
+  pub found_none : find (begins dgn first) (table_rows table) ≡ None → refused 11 ≡ table_row_with table dgn first
+  unfolding table_row_with told_found
+  found_none e = sym (rw (found_is (table_rows table) dgn first, e))
 
 -- in a table that keeps the rule every row lies in a frame
 

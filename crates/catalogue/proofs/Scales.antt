@@ -1,25 +1,20 @@
 -- Scaled values as step and offset, and what signed words ask.
 -- Assumes nothing.
 use mathlib.Core.Path.{◌≡◌, refl, sym, ap, ◌∙◌}
-use mathlib.Core.Bool.{true, false}
 use Prim.Native.Nat.{ℕ, zero, suc, ◌*◌, ◌-◌, ◌^◌, ◌≤◌, ◌<◌}
-use native.Mathlib.Nat.{one-mul, not-suc-le-zero, mul-le-mul_right}
+use native.Mathlib.Nat.{one-mul, mul-le-mul_right}
 use native.Mathlib.Omega.{arith}
 use lib.Dec.{lit<, lit≤}
 use lib.IntN.{ℤ, pos, negsuc, neg_ℤ, ◌-ℤ◌, ◌*ℤ◌, sub_ℕ}
-use lib.Signed.{lt_z}
 use borrow.Author.Tests.{lt-ltb, le-ltb, ltb-true, ltb-false}
 use mir.Syntax.{w64}
-use mir.Val.{SFits, to_z, of_z}
-use mir.ValLaws.{to_z-of_z}
+use mir.Val.{SFits, to_z}
 use Rattle.words.specs.Words.{◌<?◌, ◌=?◌}
-use Rattle.words.proofs.Words.{by_test, true_false}
+use Rattle.words.proofs.Words.{by_test}
 use Rattle.catalogue.specs.Scale.{scaled_of, celsius_steps, ampere_steps, steps_of}
-use Rattle.catalogue.specs.Private.{sign_of}
 use Rattle.catalogue.specs.declared.Unit.{Unit}
 use Rattle.catalogue.specs.declared.Unit.TheVariants.{Other, Percent, Celsius, Volt, Ampere, Hertz}
 use Rattle.catalogue.specs.declared.scale.Steps.{Steps}
-use Rattle.catalogue.specs.declared.scale.Sign.TheVariants.{From}
 
 -- the difference of two numbers from 0 up
 
@@ -44,32 +39,6 @@ word_small a h = rw (lt-ltb a (2 ^ 63) h)
 
 pub word_minus : (a b : ℕ) → a < 2 ^ 62 → b < 2 ^ 62 → to_z w64 a -ℤ to_z w64 b ≡ sub_ℕ a b
 word_minus a b h g = rw (word_small a (omega arith), word_small b (omega arith)) (minus_is a b)
-
-below_minus_one : (n : ℕ) → negsuc 0 -ℤ negsuc n ≡ pos n
-below_minus_one n = rw (le-ltb (suc n) 1 (omega arith)) (ap pos (omega arith))
-
-below_0 : (v : ℤ) → SFits w64 v → lt_z v (pos 0) ≡ true → (n : ℕ) × (v ≡ negsuc n) × (n < 2 ^ 63)
-below_0 (pos n) s t = absurd (not-suc-le-zero (ltb-true n 0 t))
-below_0 (negsuc n) s t = (n, refl, s.sfits)
-
-from_0 : (v : ℤ) → SFits w64 v → lt_z v (pos 0) ≡ false → (n : ℕ) × (v ≡ pos n) × (n < 2 ^ 63)
-from_0 (pos n) s t = (n, refl, s.sfits)
-from_0 (negsuc n) s t = true_false t
-
--- what a test of a signed word says
-pub is_below : (v : ℤ) → SFits w64 v → lt_z (to_z w64 (of_z w64 v)) (pos 0) ≡ true → (n : ℕ) × (v ≡ negsuc n) × (n < 2 ^ 63)
-is_below v s t = below_0 v s (ap (λ (x : ℤ). lt_z x (pos 0)) (sym (to_z-of_z w64 v s)) ∙ t)
-
-pub is_from : (v : ℤ) → SFits w64 v → lt_z (to_z w64 (of_z w64 v)) (pos 0) ≡ false → (n : ℕ) × (v ≡ pos n) × (n < 2 ^ 63)
-is_from v s t = from_0 v s (ap (λ (x : ℤ). lt_z x (pos 0)) (sym (to_z-of_z w64 v s)) ∙ t)
-
--- -1 - v of a v below 0, and back from its bits
-pub flip : (v : ℤ) (n : ℕ) → v ≡ negsuc n → n < 2 ^ 63 → negsuc 0 -ℤ to_z w64 (of_z w64 v) ≡ pos n
-flip v n e h = rw (e, to_z-of_z w64 (negsuc n) (record { sfits = h }), below_minus_one n)
-
-pub from_small : (v : ℤ) (n : ℕ) → SFits w64 v → sign_of v ≡ From n → n < 2 ^ 63
-from_small (pos m) n s e = let d : m ≡ n = cc in rw d at s.sfits
-from_small (negsuc m) n s e = let z : ◌≡◌ {A = ℕ} 0 1 = cc in omega arith
 
 -- steps and offsets are small
 pub record Small (s : Steps) : Type 0 where

@@ -20,10 +20,15 @@ use Rattle.catalogue.specs.Codes.{code_of}
 use Rattle.catalogue.specs.Catalogue.{field_in}
 use Rattle.catalogue.specs.Catalogue.{matching, opened_for, read_row_of, scaled_row_of, written_row_of, row_of_dgn, row_for}
 use Rattle.catalogue.specs.Catalogue.{read_of, scaled_read_of, replaced, written_of}
+use Rattle.catalogue.specs.Promises.{Looked, Reading, ScaledReading, Writing}
 use Rattle.catalogue.specs.Promises.{told_looked, told_reading, told_scaled, told_writing, Rows, RowAt, RowsOf, RowOf}
 use Rattle.catalogue.specs.Promises.{PackedRows, RowIn, RowsIn, RowOfIn, Classify, ReadField, ReadScaled}
 use Rattle.catalogue.specs.Promises.{WriteField, ReadRow, ReadRowScaled, WriteRow, LookedRefusal, ReadingRefusal}
+use Rattle.catalogue.specs.Promises.{NotFoundRefusal, NotReadRefusal, NotWrittenRefusal}
 use Rattle.catalogue.specs.Promises.{ScaledReadingRefusal, WritingRefusal, HasInstance, StepsInOne}
+use Rattle.catalogue.specs.declared.NotFound.{NotFound}
+use Rattle.catalogue.specs.declared.NotRead.{NotRead}
+use Rattle.catalogue.specs.declared.NotWritten.{NotWritten}
 use Rattle.catalogue.specs.declared.Row.{Row}
 use Rattle.catalogue.specs.declared.Unit.{Unit}
 use Rattle.catalogue.specs.declared.Unit.TheVariants.{Other, Percent, Celsius, Volt, Ampere, Hertz}
@@ -32,10 +37,6 @@ use Rattle.catalogue.specs.declared.Field.{Field}
 use Rattle.catalogue.specs.declared.Class.{Class}
 use Rattle.catalogue.specs.declared.Class.TheVariants.{Number, NoData, OutOfRange, Reserved}
 use Rattle.catalogue.specs.declared.Value.{Value}
-use Rattle.catalogue.specs.declared.Looked.{Looked}
-use Rattle.catalogue.specs.declared.Reading.{Reading}
-use Rattle.catalogue.specs.declared.ScaledReading.{ScaledReading}
-use Rattle.catalogue.specs.declared.Writing.{Writing}
 
 -- An answer read as number and values loses nothing (RULES 2.10).
 
@@ -113,6 +114,15 @@ abbrev pub WriteRowOnly : Type 0
 WriteRowOnly =
     (row : Row) (id : ℕ) (bytes : List ℕ) (value : Value) (r s : Writing) (after after' : List ℕ)
     → WriteRow row id bytes value r after → WriteRow row id bytes value s after' → (r ≡ s) × (after ≡ after')
+
+abbrev pub NotFoundRefusalOnly : Type 0
+NotFoundRefusalOnly = (why : NotFound) (r s : ℕ) → NotFoundRefusal why r → NotFoundRefusal why s → r ≡ s
+
+abbrev pub NotReadRefusalOnly : Type 0
+NotReadRefusalOnly = (why : NotRead) (r s : ℕ) → NotReadRefusal why r → NotReadRefusal why s → r ≡ s
+
+abbrev pub NotWrittenRefusalOnly : Type 0
+NotWrittenRefusalOnly = (why : NotWritten) (r s : ℕ) → NotWrittenRefusal why r → NotWrittenRefusal why s → r ≡ s
 
 abbrev pub LookedRefusalOnly : Type 0
 LookedRefusalOnly = (answer : Looked) (r s : ℕ) → LookedRefusal answer r → LookedRefusal answer s → r ≡ s

@@ -1,23 +1,25 @@
 -- What the private functions of this crate promise, where it is no definition of the others (for RULES 7.9 and 7.10).
-use Rattle.std.specs.Prelude.{ℕ, ◌+◌, ◌-◌, ℤ, pos, negsuc, if◌then◌else◌}
-use Rattle.words.specs.Words.{◌≤?◌, Told, refused, gives}
-use Rattle.catalogue.specs.Codes.{stepped_code}
+use Rattle.std.specs.Prelude.{Bool, ℕ, Option, Some, None}
+use Rattle.words.specs.Words.{◌=?◌, ◌and◌, Told, refused, gives}
+use Rattle.frame.specs.Identifier.{catalogue_form}
+use Rattle.catalogue.specs.Table.{lies_in_frame}
 use Rattle.catalogue.specs.declared.Row.{Row}
-use Rattle.catalogue.specs.declared.scale.Sign.{Sign}
-use Rattle.catalogue.specs.declared.scale.Sign.TheVariants.{From, Below}
-use Rattle.catalogue.specs.declared.scale.Coded.{Coded}
-use Rattle.catalogue.specs.declared.scale.Coded.TheVariants.{Code, NoCode}
+use Rattle.catalogue.specs.declared.NotRead.{NotRead}
+use Rattle.catalogue.specs.declared.NotWritten.{NotWritten}
 
-abbrev pub told_coded : Coded → Told ℕ
-told_coded (Code code) = gives code
-told_coded NoCode = refused 12
+abbrev pub told_coded : Option ℕ → Told ℕ
+told_coded (Some code) = gives code
+told_coded None = refused 12
 
--- a signed number, from 0 up or so many below -1
-abbrev pub sign_of : ℤ → Sign
-sign_of (pos n) = From n
-sign_of (negsuc n) = Below n
+-- whether a row has a DGN and a first bit
+abbrev pub begins : ℕ → ℕ → Row → Bool
+begins dgn first r = (r.dgn =? dgn) and (r.first =? first)
 
--- the code of a value to which the offset is added: none where the value lies as far below 0
-abbrev pub raised_code : Row → ℕ → ℕ → Sign → Told ℕ
-raised_code row step offset (From n) = stepped_code row step (offset + n)
-raised_code row step offset (Below n) = if offset ≤? n then refused 12 else stepped_code row step (offset - (n + 1))
+-- whether a row lies in a frame, and its DGN is this one (an addressed DGN with 00h for its destination)
+abbrev pub is_of : Row → ℕ → Bool
+is_of row dgn = lies_in_frame row and (row.dgn =? catalogue_form dgn)
+
+-- what is not read is not written, for the same reason
+abbrev pub not_written : NotRead → NotWritten
+not_written (NotRead.BadFrame why) = NotWritten.BadFrame why
+not_written NotRead.NoSuchRow = NotWritten.NoSuchRow

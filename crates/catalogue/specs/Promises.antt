@@ -1,11 +1,10 @@
 -- What each public call of this crate promises (RULES 6.13, 6.14, 7.7 to 7.12 and 13.7): one proposition over all that
 -- it answers. The answers are read as numbers and values (RULES 2.10).
-use Rattle.std.specs.Prelude.{◌≡◌, Bool, List, ℕ, length}
-use Rattle.words.specs.Words.{Told, refused, gives, number_in, Done, done}
+use Rattle.std.specs.Prelude.{◌≡◌, Bool, List, ℕ, length, Result, Ok, Err}
+use Rattle.words.specs.Words.{given◌then◌, Told, refused, gives, number_in, Done, done, told}
 use Rattle.frame.specs.Bytes.{number_of}
 use Rattle.frame.specs.Identifier.{catalogue_form}
-use Rattle.frame.specs.Frame.{checked_of}
-use Rattle.frame.specs.Promises.{refusal_of, bytes_if}
+use Rattle.frame.specs.Promises.{refusal_of}
 use Rattle.catalogue.specs.Rows.{rows}
 use Rattle.catalogue.specs.Instances.{has_instance}
 use Rattle.catalogue.specs.Table.{row_with, row_of, span_of}
@@ -14,16 +13,13 @@ use Rattle.catalogue.specs.Scale.{steps_in_one}
 use Rattle.catalogue.specs.Catalogue.{field_in, opened_for, read_row_of, scaled_row_of, written_row_of, read_of}
 use Rattle.catalogue.specs.Catalogue.{scaled_read_of, written_of}
 use Rattle.catalogue.specs.declared.Row.{Row}
-use Rattle.catalogue.specs.declared.Unit.{Unit}
+use Rattle.catalogue.specs.declared.Unit as Units
 use Rattle.catalogue.specs.declared.Span.{Span}
 use Rattle.catalogue.specs.declared.Field.{Field}
 use Rattle.catalogue.specs.declared.Value.{Value}
-use Rattle.catalogue.specs.declared.Looked.{Looked}
-use Rattle.catalogue.specs.declared.Reading.{Reading}
-use Rattle.catalogue.specs.declared.ScaledReading.{ScaledReading}
-use Rattle.catalogue.specs.declared.Writing.{Writing}
-use Rattle.catalogue.specs.declared.Outcome.{Outcome}
-use Rattle.catalogue.specs.declared.Opened.{Opened}
+use Rattle.catalogue.specs.declared.NotFound.{NotFound}
+use Rattle.catalogue.specs.declared.NotRead.{NotRead}
+use Rattle.catalogue.specs.declared.NotWritten.{NotWritten}
 
 -- rows
 
@@ -32,12 +28,20 @@ pub record Rows (r : ℕ) : Type 0 where
 
 -- row_at
 
+abbrev pub Looked : Type 0
+Looked = Result Row NotFound
+
+abbrev pub number_of_not_found : NotFound → ℕ
+number_of_not_found NotFound.NoSuchRow = 11
+
 abbrev pub told_looked : Looked → Told Row
-told_looked (Looked.Is row) = gives row
-told_looked Looked.NoSuchRow = refused 11
+told_looked r = told number_of_not_found r
 
 pub record RowAt (n : ℕ) (r : Looked) : Type 0 where
   pub answer : told_looked r ≡ row_of n
+
+pub record NotFoundRefusal (why : NotFound) (r : ℕ) : Type 0 where
+  pub number : r ≡ number_of_not_found why
 
 pub record LookedRefusal (answer : Looked) (r : ℕ) : Type 0 where
   pub number : r ≡ number_in (told_looked answer)
@@ -73,7 +77,7 @@ pub record HasInstance (dgn : ℕ) (r : Bool) : Type 0 where
 
 -- steps_in_one
 
-pub record StepsInOne (unit : Unit) (width r : ℕ) : Type 0 where
+pub record StepsInOne (unit : Units.Unit) (width r : ℕ) : Type 0 where
   pub answer : r ≡ steps_in_one unit width
 
 -- classify
@@ -83,10 +87,18 @@ pub record Classify (row : Row) (number : ℕ) (r : Field) : Type 0 where
 
 -- read, and read_row
 
+abbrev pub Reading : Type 0
+Reading = Result Field NotRead
+
+abbrev pub number_of_not_read : NotRead → ℕ
+number_of_not_read (NotRead.BadFrame why) = refusal_of why
+number_of_not_read NotRead.NoSuchRow = 11
+
 abbrev pub told_reading : Reading → Told Field
-told_reading (Reading.Is field) = gives field
-told_reading (Reading.BadFrame why) = refused (refusal_of why)
-told_reading Reading.NoSuchRow = refused 11
+told_reading r = told number_of_not_read r
+
+pub record NotReadRefusal (why : NotRead) (r : ℕ) : Type 0 where
+  pub number : r ≡ number_of_not_read why
 
 pub record ReadField (n id : ℕ) (bytes : List ℕ) (r : Reading) : Type 0 where
   pub answer : told_reading r ≡ read_of n id bytes
@@ -99,10 +111,11 @@ pub record ReadingRefusal (answer : Reading) (r : ℕ) : Type 0 where
 
 -- read_scaled, and read_row_scaled
 
+abbrev pub ScaledReading : Type 0
+ScaledReading = Result Value NotRead
+
 abbrev pub told_scaled : ScaledReading → Told Value
-told_scaled (ScaledReading.Is value) = gives value
-told_scaled (ScaledReading.BadFrame why) = refused (refusal_of why)
-told_scaled ScaledReading.NoSuchRow = refused 11
+told_scaled r = told number_of_not_read r
 
 pub record ReadScaled (n id : ℕ) (bytes : List ℕ) (r : ScaledReading) : Type 0 where
   pub answer : told_scaled r ≡ scaled_read_of n id bytes
@@ -115,11 +128,20 @@ pub record ScaledReadingRefusal (answer : ScaledReading) (r : ℕ) : Type 0 wher
 
 -- write, and write_row: the answer, and the frame's bytes afterwards
 
+abbrev pub Writing : Type 0
+Writing = Result Unit NotWritten
+
+abbrev pub number_of_not_written : NotWritten → ℕ
+number_of_not_written (NotWritten.BadFrame why) = refusal_of why
+number_of_not_written NotWritten.NoSuchRow = 11
+number_of_not_written NotWritten.NoCode = 12
+
 abbrev pub told_writing : Writing → Told Done
-told_writing Writing.Written = gives done
-told_writing (Writing.BadFrame why) = refused (refusal_of why)
-told_writing Writing.NoSuchRow = refused 11
-told_writing Writing.NoCode = refused 12
+told_writing (Ok nothing) = gives done
+told_writing (Err why) = refused (number_of_not_written why)
+
+pub record NotWrittenRefusal (why : NotWritten) (r : ℕ) : Type 0 where
+  pub number : r ≡ number_of_not_written why
 
 abbrev pub done_if : Told (List ℕ) → Told Done
 done_if (gives bytes) = gives done
@@ -141,13 +163,7 @@ pub record WriteRow (row : Row) (id : ℕ) (bytes : List ℕ) (value : Value) (r
 pub record WritingRefusal (answer : Writing) (r : ℕ) : Type 0 where
   pub number : r ≡ number_in (told_writing answer)
 
--- open_row, which the three calls on a row share: the row for a frame, and the frame's bytes as a number
+-- open_row, which the calls on a row share: the frame's bytes as a number, where the row is for the frame
 
-abbrev pub told_outcome : Outcome → Told Row
-told_outcome (Outcome.At row) = gives row
-told_outcome (Outcome.Bad why) = refused (refusal_of why)
-told_outcome Outcome.NoSuchRow = refused 11
-
-pub record Opens (row : Row) (id : ℕ) (bytes : List ℕ) (r : Opened) : Type 0 where
-  pub outcome : told_outcome r.outcome ≡ opened_for row id (length bytes)
-  pub number : r.number ≡ number_of (bytes_if (checked_of id (length bytes)) bytes)
+pub record Opens (row : Row) (id : ℕ) (bytes : List ℕ) (r : Result ℕ NotRead) : Type 0 where
+  pub answer : told number_of_not_read r ≡ (given opened_for row id (length bytes) then λ _. gives (number_of bytes))

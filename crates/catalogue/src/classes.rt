@@ -12,29 +12,24 @@ const TWO_STATES: u8 = 2;
 
 const ERROR_CODE: u64 = 2;
 
+#[tactic(auto, unfolding(crate::specs::Classes::class_in))]
 pub fn class_in(row: Row, code: u64) -> Class
     ensures { result ≡ class_in row code }
 {
     if row.plain {
-        return Class::Number;
+        Class::Number
+    } else if is_error(row, code) {
+        Class::OutOfRange
+    } else {
+        class_at(row.width, code)
     }
-    if is_error(row, code) {
-        return Class::OutOfRange;
-    }
-    class_at(row.width, code)
 }
 
 // Whether a code is 10b in a row of two states.
 fn is_error(row: Row, code: u64) -> bool
     ensures { result ≡ is_error row code }
 {
-    if row.width != TWO_STATES {
-        return false;
-    }
-    if code != ERROR_CODE {
-        return false;
-    }
-    row.two_state
+    row.two_state && row.width == TWO_STATES && code == ERROR_CODE
 }
 
 // How far below the greatest code a class stands.
@@ -54,10 +49,7 @@ pub fn below_greatest(class: Class) -> u64
 fn class_at(width: u8, code: u64) -> Class
     ensures { result ≡ class_at width code }
 {
-    if width < LEAST_CLASSED {
-        return Class::Number;
-    }
-    if fields::FRAME_BITS < width {
+    if width < LEAST_CLASSED || fields::FRAME_BITS < width {
         return Class::Number;
     }
     let greatest = greatest_code(width);
@@ -88,11 +80,5 @@ fn greatest_code(width: u8) -> u64
 fn has_three(width: u8) -> bool
     ensures { result ≡ has_three width }
 {
-    if width == fields::UINT8 {
-        return true;
-    }
-    if width == fields::UINT16 {
-        return true;
-    }
-    width == fields::UINT32
+    width == fields::UINT8 || width == fields::UINT16 || width == fields::UINT32
 }

@@ -1,15 +1,13 @@
 // Fields of a frame whose eight bytes are one number, low byte first.
-ghost use Rattle.std.specs.Prelude.{◌≡◌, ◌%◌, ◌^◌, ◌<◌, length};
+ghost use Rattle.std.specs.Prelude.{◌≡◌, ◌^◌, ◌<◌, length};
 ghost use Rattle.frame.specs.Bytes.{bytes_of};
 ghost use Rattle.frame.specs.Frame.{frame_bytes};
 ghost use Rattle.catalogue.specs.Field.{field_of, with_field, InFrame};
 
-// The greatest width, the bits of a frame, and its bytes.
+// The greatest width, and the bits of a frame.
 pub const WIDEST: u8 = 32;
 
 pub const FRAME_BITS: u8 = 64;
-
-const FRAME_BYTES: usize = 8;
 
 // The widths that have all three classes (000, Table 3.2.3b).
 pub const UINT8: u8 = 8;
@@ -18,21 +16,17 @@ pub const UINT16: u8 = 16;
 
 pub const UINT32: u8 = 32;
 
-// How many values a byte has.
-const BYTE_VALUES: u64 = 256;
-
 // The code in a field; 0 beyond the frame.
 pub fn cut(number: u64, first: u8, width: u8) -> u64
     ensures { result ≡ field_of first width number }
 {
     if FRAME_BITS <= first {
-        return 0;
+        0
+    } else if FRAME_BITS <= width {
+        number >> first
+    } else {
+        (number >> first) % power(width)
     }
-    let rest = number >> first;
-    if FRAME_BITS <= width {
-        return rest;
-    }
-    rest % power(width)
 }
 
 // The number with another code in a field.
@@ -50,13 +44,7 @@ pub fn store(bytes: &mut [u8], number: u64)
     requires { length bytes.old ≡ frame_bytes }
     ensures { bytes.new ≡ bytes_of frame_bytes number }
 {
-    let mut rest = number;
-    let mut i: usize = 0;
-    while i < FRAME_BYTES {
-        bytes[i] = low(rest);
-        rest = rest / BYTE_VALUES;
-        i += 1;
-    }
+    bytes.copy_from_slice(&number.to_le_bytes());
 }
 
 pub fn power(k: u8) -> u64
@@ -64,10 +52,4 @@ pub fn power(k: u8) -> u64
     ensures { result ≡ 2 ^ k }
 {
     1u64 << k
-}
-
-fn low(number: u64) -> u8
-    ensures { result ≡ number % 256 }
-{
-    (number % BYTE_VALUES) as u8
 }

@@ -16,15 +16,20 @@ ghost use Rattle.words.specs.Words.{◌=?◌};
 ghost use Rattle.words.specs.Lists.{any};
 ghost use Rattle.catalogue.specs.Instances.{instance_dgns};
 ghost use Rattle.catalogue.specs.Table.{row_at};
-ghost use Rattle.catalogue.specs.Catalogue.{matching};
+ghost use Rattle.catalogue.specs.Private.{is_of, not_written};
 ghost use Rattle.catalogue.specs.Promises.{Rows, RowAt, RowsOf, RowOf, PackedRows, RowIn, RowsIn, RowOfIn};
 ghost use Rattle.catalogue.specs.Promises.{Classify, ReadField, ReadScaled, WriteField, ReadRow, ReadRowScaled};
-ghost use Rattle.catalogue.specs.Promises.{WriteRow, LookedRefusal, ReadingRefusal, ScaledReadingRefusal};
-ghost use Rattle.catalogue.specs.Promises.{WritingRefusal, HasInstance, StepsInOne, Opens, told_outcome};
+ghost use Rattle.catalogue.specs.Promises.{WriteRow, HasInstance, StepsInOne, Opens, number_of_not_found};
+ghost use Rattle.catalogue.specs.Promises.{number_of_not_read, number_of_not_written};
+ghost use Rattle.catalogue.specs.declared.NotRead.{NotRead};
+
+use frame::BadFrame;
+use words::Refusal;
 
 // What a row's numbers count; `Other` is any unit that has no scale here, or none.
-#[derive(Clone, Copy)]
+#[derive(Clone, Copy, Default)]
 pub enum Unit {
+    #[default]
     Other,
     Percent,
     Celsius,
@@ -34,8 +39,8 @@ pub enum Unit {
 }
 
 // A field of a DGN (RULES 6.1): its bits are counted over the bytes, 8 to each. A plain row is always a number; in a
-// two-state row, which has two bits, 10b is out-of-range (RULES 7.13).
-#[derive(Clone, Copy)]
+// two-state row, which has two bits, 10b is out-of-range (RULES 7.13). The default row is all zeros, and lies in no frame.
+#[derive(Clone, Copy, Default)]
 pub struct Row {
     pub dgn: u32,
     pub first: u8,
@@ -45,12 +50,14 @@ pub struct Row {
     pub two_state: bool,
 }
 
-// A row, or refusal 11.
+// Why no row is found: refusal 11.
 #[derive(Clone, Copy)]
-pub enum Looked {
-    Is(Row),
+pub enum NotFound {
     NoSuchRow,
 }
+
+// A row, or why not.
+pub type Looked = Result<Row, NotFound>;
 
 // The rows of a DGN: `count` of them, from number `start`.
 #[derive(Clone, Copy)]
@@ -59,7 +66,7 @@ pub struct Span {
     pub count: usize,
 }
 
-#[derive(Clone, Copy)]
+#[derive(Clone, Copy, PartialEq)]
 pub enum Class {
     Number,
     NoData,
@@ -74,13 +81,15 @@ pub struct Field {
     pub code: u64,
 }
 
-// A field read, or refusals 3 to 6, or 11: no such row, or a frame of another DGN.
+// Why a field is not read: refusals 3 to 6, or 11: no such row, or a frame of another DGN.
 #[derive(Clone, Copy)]
-pub enum Reading {
-    Is(Field),
-    BadFrame(frame::BadFrame),
+pub enum NotRead {
+    BadFrame(BadFrame),
     NoSuchRow,
 }
+
+// A field read, or why not.
+pub type Reading = Result<Field, NotRead>;
 
 // A number of the row's steps, or a class that is none.
 #[derive(Clone, Copy)]
@@ -91,75 +100,69 @@ pub enum Value {
     Reserved,
 }
 
-// A field's value read, or refusals 3 to 6, or 11.
-#[derive(Clone, Copy)]
-pub enum ScaledReading {
-    Is(Value),
-    BadFrame(frame::BadFrame),
-    NoSuchRow,
-}
+// A field's value read, or why not.
+pub type ScaledReading = Result<Value, NotRead>;
 
-// A field written, or refusals 3 to 6, 11, 12.
+// Why a field is not written: refusals 3 to 6, 11, 12.
 #[derive(Clone, Copy)]
-pub enum Writing {
-    Written,
-    BadFrame(frame::BadFrame),
+pub enum NotWritten {
+    BadFrame(BadFrame),
     NoSuchRow,
     NoCode,
 }
 
-impl Looked {
-    // The number of the refusal; 0 where there is a row.
-    pub fn refusal(self) -> u8
-        ensures { LookedRefusal self result }
-    {
-        let answer = self;
-        match answer {
-            Looked::Is(_) => 0,
-            Looked::NoSuchRow => 11,
+// A field written, or why not.
+pub type Writing = Result<(), NotWritten>;
+
+impl Refusal for NotFound {
+    ghost number = { number_of_not_found };
+
+    fn refusal(self) -> u8 {
+        match self {
+            NotFound::NoSuchRow => 11,
         }
     }
 }
 
-impl Reading {
-    // The number of the refusal; 0 where the field is read.
-    pub fn refusal(self) -> u8
-        ensures { ReadingRefusal self result }
-    {
-        let answer = self;
-        match answer {
-            Reading::Is(_) => 0,
-            Reading::BadFrame(why) => why.refusal(),
-            Reading::NoSuchRow => 11,
+impl Refusal for NotRead {
+    ghost number = { number_of_not_read };
+
+    fn refusal(self) -> u8 {
+        match self {
+            NotRead::BadFrame(why) => why.refusal(),
+            NotRead::NoSuchRow => 11,
         }
     }
 }
 
-impl ScaledReading {
-    // The number of the refusal; 0 where the value is read.
-    pub fn refusal(self) -> u8
-        ensures { ScaledReadingRefusal self result }
-    {
-        let answer = self;
-        match answer {
-            ScaledReading::Is(_) => 0,
-            ScaledReading::BadFrame(why) => why.refusal(),
-            ScaledReading::NoSuchRow => 11,
+impl Refusal for NotWritten {
+    ghost number = { number_of_not_written };
+
+    fn refusal(self) -> u8 {
+        match self {
+            NotWritten::BadFrame(why) => why.refusal(),
+            NotWritten::NoSuchRow => 11,
+            NotWritten::NoCode => 12,
         }
     }
 }
 
-impl Writing {
-    // The number of the refusal; 0 where the field is written.
-    pub fn refusal(self) -> u8
-        ensures { WritingRefusal self result }
-    {
-        let answer = self;
-        match answer {
-            Writing::Written => 0,
-            Writing::BadFrame(why) => why.refusal(),
-            Writing::NoSuchRow => 11,
-            Writing::NoCode => 12,
+impl From<BadFrame> for NotRead {
+    ghost from_gives = { λ why r. r ≡ NotRead.BadFrame why };
+
+    fn from(why: BadFrame) -> NotRead {
+        NotRead::BadFrame(why)
+    }
+}
+
+// What is not read is not written, for the same reason.
+impl From<NotRead> for NotWritten {
+    ghost from_gives = { λ why r. r ≡ not_written why };
+
+    fn from(why: NotRead) -> NotWritten {
+        match why {
+            NotRead::BadFrame(why) => NotWritten::BadFrame(why),
+            NotRead::NoSuchRow => NotWritten::NoSuchRow,
         }
     }
 }
@@ -235,7 +238,8 @@ pub fn has_instance(dgn: u32) -> bool
 }
 
 // How many steps of a scaled value make one of a unit, at a width: 2 halves of a percent, 32 of a °C, 20 of a volt or
-// an ampere, 128 of a hertz. 0 where the width has no scale, and a scaled value is the code.
+// an ampere, 128 of a hertz. 0 where the width has no scale, and a scaled value is the code: the promise `StepsInOne` has
+// this 0, so it is no `Option`.
 pub fn steps_in_one(unit: Unit, width: u8) -> u8
     ensures { StepsInOne unit width result }
 {
@@ -259,13 +263,8 @@ pub fn classify(row: Row, number: u64) -> Field
 pub fn read_row(row: Row, id: u32, bytes: &[u8]) -> Reading
     ensures { ReadRow row id bytes.now result }
 {
-    let opened = open_row(row, id, bytes);
-    let outcome = opened.outcome;
-    match outcome {
-        Outcome::Bad(why) => Reading::BadFrame(why),
-        Outcome::NoSuchRow => Reading::NoSuchRow,
-        Outcome::At(row) => Reading::Is(classify(row, opened.number)),
-    }
+    let number = open_row(row, id, bytes)?;
+    Ok(classify(row, number))
 }
 
 // Reads a row's field from a frame as a scaled value: a whole number of the unit's steps, or the class where the code
@@ -273,13 +272,8 @@ pub fn read_row(row: Row, id: u32, bytes: &[u8]) -> Reading
 pub fn read_row_scaled(row: Row, id: u32, bytes: &[u8]) -> ScaledReading
     ensures { ReadRowScaled row id bytes.now result }
 {
-    let opened = open_row(row, id, bytes);
-    let outcome = opened.outcome;
-    match outcome {
-        Outcome::Bad(why) => ScaledReading::BadFrame(why),
-        Outcome::NoSuchRow => ScaledReading::NoSuchRow,
-        Outcome::At(row) => ScaledReading::Is(scale::value_in(row, classify(row, opened.number))),
-    }
+    let field = read_row(row, id, bytes)?;
+    Ok(scale::value_in(row, field))
 }
 
 // Writes a value into a row's field of a frame, and alters no other bit. Refusals 3 to 6 and 11 as of `read_row`, then
@@ -287,22 +281,10 @@ pub fn read_row_scaled(row: Row, id: u32, bytes: &[u8]) -> ScaledReading
 pub fn write_row(row: Row, id: u32, bytes: &mut [u8], value: Value) -> Writing
     ensures { WriteRow row id bytes.old value result bytes.new }
 {
-    let opened = open_row(row, id, bytes);
-    let outcome = opened.outcome;
-    match outcome {
-        Outcome::Bad(why) => Writing::BadFrame(why),
-        Outcome::NoSuchRow => Writing::NoSuchRow,
-        Outcome::At(row) => {
-            let scale::Coded::Code(code) = scale::code_of(row, value) else {
-                return Writing::NoCode;
-            };
-            fields::store(
-                bytes,
-                fields::put(opened.number, row.first, row.width, code),
-            );
-            Writing::Written
-        }
-    }
+    let number = open_row(row, id, bytes)?;
+    let code = scale::code_of(row, value).ok_or(NotWritten::NoCode)?;
+    fields::store(bytes, fields::put(number, row.first, row.width, code));
+    Ok(())
 }
 
 // Reads the field of the catalogue's row with this number. Refusals 3 to 6; then 11 where there is no such row, or it
@@ -332,66 +314,37 @@ pub fn write(n: usize, id: u32, bytes: &mut [u8], value: Value) -> Writing
 fn is_marked(dgn: u32) -> bool
     ensures { result ≡ any (◌=?◌ dgn) instance_dgns }
 {
-    let marked = instance_dgns::DGNS;
-    let mut i: usize = 0;
-    while i < instance_dgns::COUNT {
-        if dgn == marked[i] {
-            return true;
-        }
-        i += 1;
-    }
-    false
+    is_among(&instance_dgns::DGNS, dgn)
+}
+
+fn is_among(list: &[u32], dgn: u32) -> bool
+    ensures { result ≡ any (◌=?◌ dgn) list.now }
+{
+    list.contains(&dgn)
 }
 
 // The row with this number; past the end one that lies in no frame.
 fn nth(n: usize) -> Row
     ensures { result ≡ row_at n }
 {
-    let table = packed_rows();
-    table::at(&table, n)
+    row_at(n).unwrap_or_default()
 }
 
-// A frame of a row's DGN, or why not.
-#[derive(Clone, Copy)]
-enum Outcome {
-    At(Row),
-    Bad(frame::BadFrame),
-    NoSuchRow,
-}
-
-#[derive(Clone, Copy)]
-struct Opened {
-    outcome: Outcome,
-    number: u64,
-}
-
-fn open_row(row: Row, id: u32, bytes: &[u8]) -> Opened
+// The eight bytes of a frame as a number, where a row lies in it and the frame is of the row's DGN; or why not.
+fn open_row(row: Row, id: u32, bytes: &[u8]) -> Result<u64, NotRead>
     ensures { Opens row id bytes.now result }
 {
     let checked = frame::check(id, bytes);
-    let verdict = checked.verdict;
-    let eight = checked.bytes;
-    let number = frame::number_of(eight);
-    match verdict {
-        frame::Verdict::Bad(why) => Opened {
-            outcome: Outcome::Bad(why),
-            number,
-        },
-        frame::Verdict::Sound(parts) => Opened {
-            outcome: match_row(row, parts.dgn),
-            number,
-        },
+    let parts = checked.verdict?;
+    if !is_of(row, parts.dgn) {
+        return Err(NotRead::NoSuchRow);
     }
+    Ok(frame::number_of(checked.bytes))
 }
 
-fn match_row(row: Row, dgn: u32) -> Outcome
-    ensures { told_outcome result ≡ matching row dgn }
+// Whether a row lies in a frame, and is of a DGN as it stands in a frame.
+fn is_of(row: Row, dgn: u32) -> bool
+    ensures { result ≡ is_of row dgn }
 {
-    if !table::lies_in_frame(row) {
-        return Outcome::NoSuchRow;
-    }
-    if row.dgn != frame::catalogue_form(dgn) {
-        return Outcome::NoSuchRow;
-    }
-    Outcome::At(row)
+    table::lies_in_frame(row) && row.dgn == frame::catalogue_form(dgn)
 }

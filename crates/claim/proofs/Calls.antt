@@ -1,5 +1,6 @@
 -- What the answers of the calls show of the state that was handed in, and of the one that is handed back.
 -- Assumes nothing.
+use Rattle.std.specs.Prelude.{Ok, Err}
 use mathlib.Core.Path.{◌≡◌, refl, sym, ap, ◌∙◌}
 use mathlib.Core.Bool.{true, false, not}
 use mathlib.Core.List.{List}
@@ -7,23 +8,21 @@ use Prim.Native.Nat.{ℕ, ◌≤◌, ◌<◌}
 use native.Mathlib.Omega.{arith}
 use borrow.Author.Tests.{eq-eqb, ne_eqb}
 use lib.ListN.{length}
-use Rattle.words.specs.Words.{◌=?◌, Told, refused, gives, given◌then◌, done}
+use Rattle.words.specs.Words.{◌=?◌, Told, refused, gives, given◌then◌, Done, done}
 use Rattle.frame.specs.Bytes.{number_of}
 use Rattle.frame.specs.Frame.{checked_of}
 use Rattle.frame.specs.Standard.{claim_dgn, no_frame}
-use Rattle.frame.specs.Promises.{told_verdict, refusal_of, bytes_if}
+use Rattle.frame.specs.Promises.{Verdict, told_verdict, refusal_of, bytes_if}
 use Rattle.frame.specs.declared.Parts.{Parts}
 use Rattle.frame.specs.declared.BadFrame.{BadFrame}
-use Rattle.frame.specs.declared.Verdict.{Verdict}
-use Rattle.frame.specs.declared.Verdict.TheVariants.{Sound, Bad}
 use Rattle.words.proofs.Words.{past_refusal, refused_gives, gives_same, not_flips, by_test}
 use Rattle.claim.specs.Candidates.{padded}
 use Rattle.claim.specs.Claim.{keeps_rules, holds_list, claim_id, claim_bytes, begun, Outcome, nothing_to_do, own_name}
 use Rattle.claim.specs.Claim.{repeated, moved, fell_silent, outcome_of, after}
+use Rattle.claim.specs.Promises.{Hearing}
 use Rattle.claim.specs.Promises.{Hear, told_hearing, meets_frame, heard_of, after_told, is_sent_told, is_sound, sound_of}
 use Rattle.claim.specs.Private.{met_of}
 use Rattle.claim.specs.declared.Claim.{Claim}
-use Rattle.claim.specs.declared.Hearing.{Hearing}
 use Rattle.claim.specs.declared.Heard.{Heard}
 use Rattle.claim.proofs.Sound.{Rules, rules_of, count_bounded, Holds, holds_of}
 use Rattle.claim.proofs.Outcomes.{rules_heard}
@@ -47,6 +46,26 @@ sound_ill c k h = (rw (k, h), rw (k, h))
 pub sound_well : (c : Claim) → keeps_rules c ≡ true → holds_list c ≡ true → (sound_of c ≡ gives done) × (is_sound c ≡ true)
 unfolding sound_of
 sound_well c k h = (rw (k, h), rw (k, h))
+
+-- and read back from what is told
+
+pub sound_given : (c : Claim) (d : Done) → sound_of c ≡ gives d
+    → (keeps_rules c ≡ true) × (holds_list c ≡ true) × (is_sound c ≡ true)
+unfolding sound_of
+sound_given c d e =
+    let a = past_refusal (not (keeps_rules c)) 2 _ e in
+    let b = past_refusal (not (holds_list c)) 16 _ a.1 in
+    let k = not_flips _ a.0 in
+    let h = not_flips _ b.0 in
+    (k, h, (sound_well c k h).1)
+
+pub sound_refused : (c : Claim) (n : ℕ) → sound_of c ≡ refused n → is_sound c ≡ false
+sound_refused c n e =
+    by_test (keeps_rules c)
+    (λ k. by_test (holds_list c)
+    (λ h. refused_gives (sym e ∙ (sound_well c k h).0))
+    (λ h. (sound_ill c k h).1))
+    (λ k. (sound_broken c k).1)
 
 -- a position of a sound state is a place of its array
 pub in_array : (c : Claim) → keeps_rules c ≡ true → holds_list c ≡ true → c.position < 16
@@ -109,13 +128,13 @@ heard_given id bytes c o e =
 -- a verdict on the frame, as the code has it
 
 pub heard_bad : (id : ℕ) (bytes : List ℕ) (c : Claim) (v : Verdict) (why : BadFrame) → keeps_rules c ≡ true
-    → told_verdict v ≡ checked_of id (length bytes) → v ≡ Bad why → refused (refusal_of why) ≡ heard_of id bytes c
+    → told_verdict v ≡ checked_of id (length bytes) → v ≡ Err why → refused (refusal_of why) ≡ heard_of id bytes c
 heard_bad id bytes c v why k t e =
     let b : checked_of id (length bytes) ≡ refused (refusal_of why) = sym t ∙ ap told_verdict e in
     sym (heard_past id bytes c k ∙ rw b)
 
 pub heard_sound : (id : ℕ) (bytes eight : List ℕ) (c : Claim) (v : Verdict) (parts : Parts) → keeps_rules c ≡ true
-    → told_verdict v ≡ checked_of id (length bytes) → eight ≡ bytes_if (checked_of id (length bytes)) bytes → v ≡ Sound parts
+    → told_verdict v ≡ checked_of id (length bytes) → eight ≡ bytes_if (checked_of id (length bytes)) bytes → v ≡ Ok parts
     → met_of parts eight c ≡ heard_of id bytes c
 heard_sound id bytes eight c v parts k t b e =
     let g : checked_of id (length bytes) ≡ gives parts = sym t ∙ ap told_verdict e in

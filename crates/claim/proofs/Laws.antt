@@ -1,8 +1,8 @@
 -- The other statements of specs/Laws.antt, proved: what is told of the answers, and what the promises of the calls come to.
 -- Assumes nothing.
-use Rattle.std.specs.Prelude.{if◌then◌else◌}
+use Rattle.std.specs.Prelude.{Ok, Err, if◌then◌else◌}
 use mathlib.Core.Path.{◌≡◌, refl, sym, ap, ◌∙◌}
-use mathlib.Core.Bool.{Bool, true, false, not}
+use mathlib.Core.Bool.{Bool, true, false}
 use mathlib.Core.List.{List, [], ◌∷◌, ◌++◌}
 use Prim.Native.Nat.{ℕ, ◌-◌, ◌≤◌}
 use native.Mathlib.Omega.{arith}
@@ -18,7 +18,7 @@ use Rattle.frame.specs.Laws.{told_but_priority}
 use Rattle.frame.specs.declared.Parts.{Parts}
 use Rattle.frame.specs.declared.BadFrame.TheVariants.{IdentifierTooLarge, NotEightBytes, ReservedBitSet}
 use Rattle.frame.specs.declared.BadFrame.TheVariants.{SourceNotAllowed}
-use Rattle.words.proofs.Words.{past_refusal, before_refusal, refused_gives, not_flips, by_test, both_true, true_false}
+use Rattle.words.proofs.Words.{before_refusal, refused_gives, gives_same, refused_same, by_test, both_true, true_false}
 use Rattle.frame.proofs.Bytes.{length_bytes}
 use Rattle.frame.proofs.Laws as frame_laws
 use Rattle.frame.proofs.Sent.{formed_checked}
@@ -27,105 +27,133 @@ use Rattle.claim.specs.Claim.{claim_priority, keeps_rules, holds_list, address, 
 use Rattle.claim.specs.Claim.{Stand, held, claiming, silent, begun, Outcome, nothing_to_do, own_name, repeated}
 use Rattle.claim.specs.Claim.{moved, fell_silent, outcome_of, after, pause}
 use Rattle.claim.specs.History.{Event, paused, step, run}
-use Rattle.claim.specs.Promises.{Pause, told_starting, told_hearing, told_pausing, told_standing, told_sending}
-use Rattle.claim.specs.Promises.{started_of, meets_frame, heard_of, after_told, is_sent_told, is_sound, sound_of}
+use Rattle.claim.specs.Promises.{number_of_not_started, number_of_not_heard, number_of_bad_state, outcome_in, stands_at}
+use Rattle.claim.specs.Promises.{Pause}
+use Rattle.claim.specs.Promises.{started_of, meets_frame, heard_of, after_told, is_sent_told, is_sound}
 use Rattle.claim.specs.Private.{met_of}
 use Rattle.claim.specs.Calls.{no_call, a_hear, a_pause, claim_in, events_of, events_in}
 use Rattle.claim.specs.Laws as the
 use Rattle.claim.specs.declared.Claim.{Claim}
-use Rattle.claim.specs.declared.Starting.{Starting}
-use Rattle.claim.specs.declared.Hearing.{Hearing}
-use Rattle.claim.specs.declared.Pausing.{Pausing}
+use Rattle.claim.specs.declared.NotStarted.{NotStarted}
+use Rattle.claim.specs.declared.Reaction.{Reaction}
+use Rattle.claim.specs.declared.NotHeard.{NotHeard}
+use Rattle.claim.specs.declared.BadState.{BadState}
 use Rattle.claim.specs.declared.Paused.{Paused}
-use Rattle.claim.specs.declared.Standing.{Standing}
-use Rattle.claim.specs.declared.Sending.{Sending}
+use Rattle.claim.specs.declared.Place.{Place}
 use Rattle.claim.proofs.Candidates.{well_formed}
 use Rattle.claim.proofs.Sound.{Rules, rules_of, of_rules, holds_of, address_low}
 use Rattle.claim.proofs.Outcomes.{rules_paused}
-use Rattle.claim.proofs.Calls.{heard_broken, heard_past, heard_given, sound_broken, sound_ill, sound_well}
+use Rattle.claim.proofs.Calls.{heard_broken, heard_past, heard_given, sound_well, sound_refused}
 use Rattle.claim.proofs.Machine.{same_self, node_after, node_paused, sound_same}
 
 -- an answer is read back from what it tells
 
-starting_back : Told Done → Starting
-starting_back (gives d) = Starting.SendClaim
-starting_back (refused n) = Starting.ListMalformed
+not_started_same : (v w : NotStarted) → number_of_not_started v ≡ number_of_not_started w → v ≡ w
+not_started_same NotStarted.ListMalformed NotStarted.ListMalformed e = refl
 
-starting_back_lem : (r : Starting) → starting_back (told_starting r) ≡ r
-unfolding starting_back
-starting_back_lem Starting.SendClaim = refl
-starting_back_lem Starting.ListMalformed = refl
+not_heard_back : ℕ → NotHeard
+not_heard_back n =
+    if n =? 2 then NotHeard.BrokenState else
+    if n =? 16 then NotHeard.ListMalformed else
+    NotHeard.BadFrame (frame_laws.bad_back n)
+
+not_heard_back_lem : (w : NotHeard) → not_heard_back (number_of_not_heard w) ≡ w
+unfolding not_heard_back
+not_heard_back_lem NotHeard.BrokenState = refl
+not_heard_back_lem (NotHeard.BadFrame IdentifierTooLarge) = ap NotHeard.BadFrame (frame_laws.bad_back_lem IdentifierTooLarge)
+not_heard_back_lem (NotHeard.BadFrame NotEightBytes) = ap NotHeard.BadFrame (frame_laws.bad_back_lem NotEightBytes)
+not_heard_back_lem (NotHeard.BadFrame ReservedBitSet) = ap NotHeard.BadFrame (frame_laws.bad_back_lem ReservedBitSet)
+not_heard_back_lem (NotHeard.BadFrame SourceNotAllowed) = ap NotHeard.BadFrame (frame_laws.bad_back_lem SourceNotAllowed)
+not_heard_back_lem NotHeard.ListMalformed = refl
+
+bad_state_back : ℕ → BadState
+bad_state_back n = if n =? 2 then BadState.BrokenState else BadState.ListMalformed
+
+bad_state_back_lem : (w : BadState) → bad_state_back (number_of_bad_state w) ≡ w
+unfolding bad_state_back
+bad_state_back_lem BadState.BrokenState = refl
+bad_state_back_lem BadState.ListMalformed = refl
+
+bad_state_same : (v w : BadState) → number_of_bad_state v ≡ number_of_bad_state w → v ≡ w
+bad_state_same v w e = sym (bad_state_back_lem v) ∙ ap bad_state_back e ∙ bad_state_back_lem w
+
+reaction_back : Outcome → Reaction
+reaction_back nothing_to_do = Reaction.NothingToDo
+reaction_back own_name = Reaction.OwnName
+reaction_back repeated = Reaction.SendClaimAgain
+reaction_back moved = Reaction.SendNextClaim
+reaction_back fell_silent = Reaction.SendCannotClaim
+
+reaction_back_lem : (r : Reaction) → reaction_back (outcome_in r) ≡ r
+unfolding reaction_back
+reaction_back_lem Reaction.NothingToDo = refl
+reaction_back_lem Reaction.OwnName = refl
+reaction_back_lem Reaction.SendClaimAgain = refl
+reaction_back_lem Reaction.SendNextClaim = refl
+reaction_back_lem Reaction.SendCannotClaim = refl
+
+place_back : Stand → Place
+place_back (held a) = Place.Held a
+place_back (claiming a) = Place.Claiming a
+place_back silent = Place.Silent
+
+place_back_lem : (place : Place) → place_back (stands_at place) ≡ place
+unfolding place_back
+place_back_lem (Place.Held a) = refl
+place_back_lem (Place.Claiming a) = refl
+place_back_lem Place.Silent = refl
 
 pub told_starting_same : the.ToldStartingSame
-told_starting_same r s e = sym (starting_back_lem r) ∙ ap starting_back e ∙ starting_back_lem s
-
-hearing_back : Told Outcome → Hearing
-hearing_back (gives nothing_to_do) = Hearing.NothingToDo
-hearing_back (gives own_name) = Hearing.OwnName
-hearing_back (gives repeated) = Hearing.SendClaimAgain
-hearing_back (gives moved) = Hearing.SendNextClaim
-hearing_back (gives fell_silent) = Hearing.SendCannotClaim
-hearing_back (refused n) = if n =? 2 then Hearing.BrokenState else if n =? 16 then Hearing.ListMalformed else Hearing.BadFrame (frame_laws.bad_back n)
-
-hearing_back_lem : (r : Hearing) → hearing_back (told_hearing r) ≡ r
-unfolding hearing_back
-hearing_back_lem Hearing.NothingToDo = refl
-hearing_back_lem Hearing.OwnName = refl
-hearing_back_lem Hearing.SendClaimAgain = refl
-hearing_back_lem Hearing.SendNextClaim = refl
-hearing_back_lem Hearing.SendCannotClaim = refl
-hearing_back_lem Hearing.BrokenState = refl
-hearing_back_lem (Hearing.BadFrame IdentifierTooLarge) = ap Hearing.BadFrame (frame_laws.bad_back_lem IdentifierTooLarge)
-hearing_back_lem (Hearing.BadFrame NotEightBytes) = ap Hearing.BadFrame (frame_laws.bad_back_lem NotEightBytes)
-hearing_back_lem (Hearing.BadFrame ReservedBitSet) = ap Hearing.BadFrame (frame_laws.bad_back_lem ReservedBitSet)
-hearing_back_lem (Hearing.BadFrame SourceNotAllowed) = ap Hearing.BadFrame (frame_laws.bad_back_lem SourceNotAllowed)
-hearing_back_lem Hearing.ListMalformed = refl
+told_starting_same (Ok u) (Ok v) e = refl
+told_starting_same (Ok u) (Err w) e = refused_gives (sym e)
+told_starting_same (Err v) (Ok u) e = refused_gives e
+told_starting_same (Err v) (Err w) e = ap Err (not_started_same v w (refused_same e))
 
 pub told_hearing_same : the.ToldHearingSame
-told_hearing_same r s e = sym (hearing_back_lem r) ∙ ap hearing_back e ∙ hearing_back_lem s
-
-pausing_back : Told Done → Pausing
-pausing_back (gives d) = Pausing.Waited
-pausing_back (refused n) = if n =? 2 then Pausing.BrokenState else Pausing.ListMalformed
-
-pausing_back_lem : (r : Pausing) → pausing_back (told_pausing r) ≡ r
-unfolding pausing_back
-pausing_back_lem Pausing.Waited = refl
-pausing_back_lem Pausing.BrokenState = refl
-pausing_back_lem Pausing.ListMalformed = refl
+told_hearing_same (Ok a) (Ok b) e =
+    ap Ok (sym (reaction_back_lem a) ∙ ap reaction_back (gives_same e) ∙ reaction_back_lem b)
+told_hearing_same (Ok a) (Err w) e = refused_gives (sym e)
+told_hearing_same (Err v) (Ok b) e = refused_gives e
+told_hearing_same (Err v) (Err w) e =
+    ap Err (sym (not_heard_back_lem v) ∙ ap not_heard_back (refused_same e) ∙ not_heard_back_lem w)
 
 pub told_pausing_same : the.ToldPausingSame
-told_pausing_same r s e = sym (pausing_back_lem r) ∙ ap pausing_back e ∙ pausing_back_lem s
-
-standing_back : Told Stand → Standing
-standing_back (gives (held a)) = Standing.Held a
-standing_back (gives (claiming a)) = Standing.Claiming a
-standing_back (gives silent) = Standing.Silent
-standing_back (refused n) = if n =? 2 then Standing.BrokenState else Standing.ListMalformed
-
-standing_back_lem : (r : Standing) → standing_back (told_standing r) ≡ r
-unfolding standing_back
-standing_back_lem (Standing.Held a) = refl
-standing_back_lem (Standing.Claiming a) = refl
-standing_back_lem Standing.Silent = refl
-standing_back_lem Standing.BrokenState = refl
-standing_back_lem Standing.ListMalformed = refl
+told_pausing_same (Ok u) (Ok v) e = refl
+told_pausing_same (Ok u) (Err w) e = refused_gives (sym e)
+told_pausing_same (Err v) (Ok u) e = refused_gives e
+told_pausing_same (Err v) (Err w) e = ap Err (bad_state_same v w (refused_same e))
 
 pub told_standing_same : the.ToldStandingSame
-told_standing_same r s e = sym (standing_back_lem r) ∙ ap standing_back e ∙ standing_back_lem s
-
-sending_back : Told Done → Sending
-sending_back (gives d) = Sending.Frame
-sending_back (refused n) = if n =? 2 then Sending.BrokenState else Sending.ListMalformed
-
-sending_back_lem : (r : Sending) → sending_back (told_sending r) ≡ r
-unfolding sending_back
-sending_back_lem Sending.Frame = refl
-sending_back_lem Sending.BrokenState = refl
-sending_back_lem Sending.ListMalformed = refl
+told_standing_same (Ok a) (Ok b) e =
+    ap Ok (sym (place_back_lem a) ∙ ap place_back (gives_same e) ∙ place_back_lem b)
+told_standing_same (Ok a) (Err w) e = refused_gives (sym e)
+told_standing_same (Err v) (Ok b) e = refused_gives e
+told_standing_same (Err v) (Err w) e = ap Err (bad_state_same v w (refused_same e))
 
 pub told_sending_same : the.ToldSendingSame
-told_sending_same r s e = sym (sending_back_lem r) ∙ ap sending_back e ∙ sending_back_lem s
+told_sending_same = told_pausing_same
+
+-- the number of a refusal, as an answer gives it, is that of the refusal which is told
+
+pub starting_refusal_told : the.StartingRefusalTold
+starting_refusal_told (Ok u) = record { number = refl }
+starting_refusal_told (Err why) = record { number = refl }
+
+pub hearing_refusal_told : the.HearingRefusalTold
+hearing_refusal_told (Ok reaction) = record { number = refl }
+hearing_refusal_told (Err why) = record { number = refl }
+
+pub pausing_refusal_told : the.PausingRefusalTold
+pausing_refusal_told (Ok u) = record { number = refl }
+pausing_refusal_told (Err why) = record { number = refl }
+
+pub standing_refusal_told : the.StandingRefusalTold
+standing_refusal_told (Ok place) = record { number = refl }
+standing_refusal_told (Err why) = record { number = refl }
+
+pub sending_refusal_told : the.SendingRefusalTold
+sending_refusal_told (Ok u) = record { number = refl }
+sending_refusal_told (Err why) = record { number = refl }
 
 -- no second answer, state or frame
 
@@ -167,11 +195,20 @@ keeps_rules_only c r s p q = p.answer ∙ sym q.answer
 pub holds_list_only : the.HoldsListOnly
 holds_list_only c r s p q = p.answer ∙ sym q.answer
 
+pub not_started_refusal_only : the.NotStartedRefusalOnly
+not_started_refusal_only why r s p q = p.number ∙ sym q.number
+
 pub starting_refusal_only : the.StartingRefusalOnly
 starting_refusal_only answer r s p q = p.number ∙ sym q.number
 
+pub not_heard_refusal_only : the.NotHeardRefusalOnly
+not_heard_refusal_only why r s p q = p.number ∙ sym q.number
+
 pub hearing_refusal_only : the.HearingRefusalOnly
 hearing_refusal_only answer r s p q = p.number ∙ sym q.number
+
+pub bad_state_refusal_only : the.BadStateRefusalOnly
+bad_state_refusal_only why r s p q = p.number ∙ sym q.number
 
 pub pausing_refusal_only : the.PausingRefusalOnly
 pausing_refusal_only answer r s p q = p.number ∙ sym q.number
@@ -195,22 +232,6 @@ pub hear_refused_keeps : the.HearRefusedKeeps
 hear_refused_keeps id bytes c r n p e =
     let t : heard_of id bytes c ≡ refused n = sym p.answer ∙ e in
     (p.state ∙ rw t, (p.sent_id ∙ rw t, p.sent_bytes ∙ rw t))
-
--- a state that gives is sound, and one that is refused is not
-sound_given : (c : Claim) (d : Done) → sound_of c ≡ gives d → is_sound c ≡ true
-unfolding sound_of
-sound_given c d e =
-    let a = past_refusal (not (keeps_rules c)) 2 _ e in
-    let b = past_refusal (not (holds_list c)) 16 _ a.1 in
-    (sound_well c (not_flips _ a.0) (not_flips _ b.0)).1
-
-sound_refused : (c : Claim) (n : ℕ) → sound_of c ≡ refused n → is_sound c ≡ false
-sound_refused c n e =
-    by_test (keeps_rules c)
-    (λ k. by_test (holds_list c)
-    (λ h. refused_gives (sym e ∙ (sound_well c k h).0))
-    (λ h. (sound_ill c k h).1))
-    (λ k. (sound_broken c k).1)
 
 pub pause_refused_keeps : the.PauseRefusedKeeps
 pause_refused_keeps ms c r n p e = p.state ∙ rw (sound_refused c n (sym p.answer ∙ e))

@@ -1,6 +1,6 @@
 -- How often a node moves (specs/Moves.antt), proved.
 -- Assumes nothing.
-use Rattle.std.specs.Prelude.{if◌then◌else◌}
+use Rattle.std.specs.Prelude.{Ok, Err, if◌then◌else◌}
 use mathlib.Core.Path.{◌≡◌, refl, sym, ap, ◌∙◌}
 use mathlib.Core.Bool.{true, false}
 use mathlib.Core.List.{List, [], ◌∷◌}
@@ -22,6 +22,7 @@ use Rattle.claim.specs.Claim.{held_after, claim_priority, keeps_rules, holds_lis
 use Rattle.claim.specs.Claim.{claim_bytes, Stand, held, claiming, silent, stand_of, begun, at_next, fallen, Outcome}
 use Rattle.claim.specs.Claim.{nothing_to_do, own_name, repeated, moved, fell_silent, outcome_of, after, is_sent, pause}
 use Rattle.claim.specs.History.{Event, heard, paused, step, run, mark_of, history, loss_of, repeat_of, losses_in}
+use Rattle.claim.specs.Promises.{Hearing, Pausing, Standing}
 use Rattle.claim.specs.Promises.{Hear, Pause, Stands, told_hearing, told_pausing, told_standing, meets_frame, heard_of}
 use Rattle.claim.specs.Promises.{after_told, is_sent_told, frame_sent, is_sound, sound_of}
 use Rattle.claim.specs.Private.{met_of}
@@ -30,12 +31,12 @@ use Rattle.claim.specs.Laws.{SameNode}
 use Rattle.claim.specs.Moves.{EveryRunRuns, Counts, LossesExactly, LossesAsTold, WrongCountRefused, Repeats}
 use Rattle.claim.specs.Moves.{RepeatsUnlimited, GivesUp, EveryCountReached, SentForEach}
 use Rattle.claim.specs.declared.Claim.{Claim}
-use Rattle.claim.specs.declared.Hearing.{Hearing}
+use Rattle.claim.specs.declared.Reaction.{Reaction}
+use Rattle.claim.specs.declared.NotHeard.{NotHeard}
 use Rattle.claim.specs.declared.Heard.{Heard}
-use Rattle.claim.specs.declared.Pausing.{Pausing}
+use Rattle.claim.specs.declared.BadState.{BadState}
 use Rattle.claim.specs.declared.Paused.{Paused}
-use Rattle.claim.specs.declared.Standing.{Standing}
-use Rattle.claim.specs.declared.Standing.TheVariants.{Held, Claiming, Silent}
+use Rattle.claim.specs.declared.Place.TheVariants.{Held, Claiming, Silent}
 use Rattle.claim.proofs.Sound.{Rules, rules_of, count_awake, count_silent, count_bounded, holds_of, address_low}
 use Rattle.claim.proofs.Sound.{pause_silent, pause_awake}
 use Rattle.claim.proofs.Outcomes.{Went, deaf, apart, same, wins, goes, ends, went}
@@ -49,24 +50,24 @@ use Rattle.claim.proofs.Laws.{told_standing_same}
 -- every call answers, so that there is a run for any calls
 
 outcome_told : (o : Outcome) → (a : Hearing) × (told_hearing a ≡ gives o)
-outcome_told nothing_to_do = (Hearing.NothingToDo, refl)
-outcome_told own_name = (Hearing.OwnName, refl)
-outcome_told repeated = (Hearing.SendClaimAgain, refl)
-outcome_told moved = (Hearing.SendNextClaim, refl)
-outcome_told fell_silent = (Hearing.SendCannotClaim, refl)
+outcome_told nothing_to_do = ((Ok Reaction.NothingToDo), refl)
+outcome_told own_name = ((Ok Reaction.OwnName), refl)
+outcome_told repeated = ((Ok Reaction.SendClaimAgain), refl)
+outcome_told moved = ((Ok Reaction.SendNextClaim), refl)
+outcome_told fell_silent = ((Ok Reaction.SendCannotClaim), refl)
 
 met_told : (parts : Parts) (bytes : List ℕ) (c : Claim) → (a : Hearing) × (told_hearing a ≡ met_of parts bytes c)
 unfolding met_of
 met_told parts bytes c =
     by_test (holds_list c)
     (λ h. rw h (outcome_told (meets_frame parts bytes c)))
-    (λ h. rw h (Hearing.ListMalformed, refl))
+    (λ h. rw h (Err NotHeard.ListMalformed, refl))
 
 checked_told : (t : Told Parts) (id : ℕ) (bytes : List ℕ) (c : Claim) → checked_of id (length bytes) ≡ t
     → (a : Hearing) × (told_hearing a ≡ (given t then λ parts. met_of parts bytes c))
 checked_told (refused n) id bytes c e =
     let w = refused_for_reason id (length bytes) n e in
-    (Hearing.BadFrame w.0, ap refused w.1)
+    (Err (NotHeard.BadFrame w.0), ap refused w.1)
 checked_told (gives parts) id bytes c e = met_told parts bytes c
 
 hearing_told : (id : ℕ) (bytes : List ℕ) (c : Claim) → (a : Hearing) × (told_hearing a ≡ heard_of id bytes c)
@@ -75,7 +76,7 @@ hearing_told id bytes c =
     (λ k.
     let a = checked_told (checked_of id (length bytes)) id bytes c refl in
     (a.0, a.1 ∙ sym (heard_past id bytes c k)))
-    (λ k. (Hearing.BrokenState, sym (heard_broken id bytes c k)))
+    (λ k. (Err NotHeard.BrokenState, sym (heard_broken id bytes c k)))
 
 some_heard : (id : ℕ) (bytes : List ℕ) (c : Claim) → (r : Heard) × Hear id bytes c r
 some_heard id bytes c =
@@ -89,9 +90,9 @@ pausing_told : (c : Claim) → (a : Pausing) × (told_pausing a ≡ sound_of c)
 pausing_told c =
     by_test (keeps_rules c)
     (λ k. by_test (holds_list c)
-    (λ h. (Pausing.Waited, sym (sound_well c k h).0))
-    (λ h. (Pausing.ListMalformed, sym (sound_ill c k h).0)))
-    (λ k. (Pausing.BrokenState, sym (sound_broken c k).0))
+    (λ h. (Ok tt, sym (sound_well c k h).0))
+    (λ h. (Err BadState.ListMalformed, sym (sound_ill c k h).0)))
+    (λ k. (Err BadState.BrokenState, sym (sound_broken c k).0))
 
 some_paused : (ms : ℕ) (c : Claim) → (r : Paused) × Pause ms c r
 some_paused ms c =
@@ -188,12 +189,12 @@ awake_stands d z =
     (λ w. let e = stand_held d z (eqb-true _ _ w) in (ap address_in e, λ f. not_held _ (sym e ∙ f)))
     (λ w. let e = stand_claiming d z (eqb-false _ _ w) in (ap address_in e, λ f. not_claiming _ (sym e ∙ f)))
 
-silent_told : (d : Claim) (r : Standing) → is_sound d ≡ true → Stands d r → (r ≡ Silent) ↔ (d.silent ≡ true)
+silent_told : (d : Claim) (r : Standing) → is_sound d ≡ true → Stands d r → (r ≡ Ok Silent) ↔ (d.silent ≡ true)
 silent_told d r s p = (
   (λ e. by_test d.silent
       (λ z. z)
       (λ z. absurd ((awake_stands d z).1 (gives_same (sym (stands_so d r s p) ∙ ap told_standing e))))),
-  (λ z. told_standing_same r Silent (stands_so d r s p ∙ ap gives (stand_silent d z))),
+  (λ z. told_standing_same r (Ok Silent) (stands_so d r s p ∙ ap gives (stand_silent d z))),
 )
 
 all_silent : (d : Claim) (n : ℕ) → Rules d → d.candidates ≡ n → (d.losses ≡ n) ↔ (d.silent ≡ true)
@@ -239,8 +240,8 @@ counts name list calls w s =
           let b = silent_told (run c es) r (run_sound c es s) p in
           ((λ e. b.1 (a.0 e)), (λ e. a.1 (b.0 e)));
       next_claimed = λ a p. elim p [
-        | inl q ↦ at a (claiming a) (not_claiming a) refl (stands_so (run c es) (Claiming a) (run_sound c es s) q)
-        | inr q ↦ at a (held a) (not_held a) refl (stands_so (run c es) (Held a) (run_sound c es s) q)
+        | inl q ↦ at a (claiming a) (not_claiming a) refl (stands_so (run c es) (Ok (Claiming a)) (run_sound c es s) q)
+        | inr q ↦ at a (held a) (not_held a) refl (stands_so (run c es) (Ok (Held a)) (run_sound c es s) q)
       ];
     }
 
@@ -307,7 +308,7 @@ won c name s h = go (outcome_of (address c) name c) (went (address c) name c)
     go o (goes z a e m) = absurd (omega arith)
     go o (ends z a e m) = absurd (omega arith)
 
-repeats_by : (c : Claim) → Hear (rival_id c) (rival_bytes (c.name + 1)) c (answered Hearing.SendClaimAgain c)
+repeats_by : (c : Claim) → Hear (rival_id c) (rival_bytes (c.name + 1)) c (answered (Ok Reaction.SendClaimAgain) c)
     → (n : ℕ) → Repeats c n
 unfolding loss_of repeat_of
 repeats_by c p zero = record { calls = []; ran = no_call c; repeats = refl; no_loss = refl }
@@ -316,7 +317,7 @@ repeats_by c p (suc n) =
     let bytes = rival_bytes (c.name + 1) in
     record {
       calls = hears (rival_id c) bytes ∷ more.calls;
-      ran = a_hear c (rival_id c) bytes (answered Hearing.SendClaimAgain c) more.calls c p more.ran;
+      ran = a_hear c (rival_id c) bytes (answered (Ok Reaction.SendClaimAgain) c) more.calls c p more.ran;
       repeats = omega (arith, more.repeats);
       no_loss = omega (arith, more.no_loss);
     }
@@ -325,7 +326,7 @@ pub repeats_unlimited : RepeatsUnlimited
 unfolding after is_sent
 repeats_unlimited c s a h n =
     let o = won c (c.name + 1) a (omega arith) in
-    repeats_by c (heard_so c (c.name + 1) Hearing.SendClaimAgain repeated s h o refl refl) n
+    repeats_by c (heard_so c (c.name + 1) (Ok Reaction.SendClaimAgain) repeated s h o refl refl) n
 
 -- a lower NAME makes us give up one address after the other
 
@@ -360,8 +361,8 @@ gives_up zero c all s a h l e = record { calls = []; after = c; ran = no_call c;
 gives_up (suc n) c all s a h l e =
     by_test (c.position + 1 <? c.candidates)
     (λ m.
-    let p = heard_so c 0 Hearing.SendNextClaim moved s (omega arith) (lost_next c 0 a h (ltb-true _ _ m)) refl refl in
-    let r = answered Hearing.SendNextClaim (at_next c) in
+    let p = heard_so c 0 (Ok Reaction.SendNextClaim) moved s (omega arith) (lost_next c 0 a h (ltb-true _ _ m)) refl refl in
+    let r = answered (Ok Reaction.SendNextClaim) (at_next c) in
     let k = hear_sound (rival_id c) (rival_bytes 0) c r p s in
     let more = gives_up n (at_next c) all k refl h (omega arith) (omega arith) in
     record {
@@ -372,8 +373,8 @@ gives_up (suc n) c all s a h l e =
     })
     (λ m.
     let f = ltb-false _ _ m in
-    let r = answered Hearing.SendCannotClaim (fallen c) in
-    let p = heard_so c 0 Hearing.SendCannotClaim fell_silent s (omega arith) (lost_last c 0 a h f) refl refl in
+    let r = answered (Ok Reaction.SendCannotClaim) (fallen c) in
+    let p = heard_so c 0 (Ok Reaction.SendCannotClaim) fell_silent s (omega arith) (lost_last c 0 a h f) refl refl in
     record {
       calls = hears (rival_id c) (rival_bytes 0) ∷ [];
       after = fallen c;

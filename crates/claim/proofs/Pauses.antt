@@ -1,6 +1,6 @@
 -- The pauses of a claim add up (specs/Pauses.antt).
 -- Assumes nothing.
-use Rattle.std.specs.Prelude.{if◌then◌else◌}
+use Rattle.std.specs.Prelude.{Ok, Err, if◌then◌else◌}
 use mathlib.Core.Path.{◌≡◌, refl, sym, ap, ◌∙◌}
 use mathlib.Core.Bool.{true, false}
 use Prim.Native.Nat.{ℕ, ◌+◌, min}
@@ -9,10 +9,11 @@ use Rattle.words.specs.Words.{given◌then◌, Told, refused, gives, done}
 use Rattle.words.proofs.Words.{by_test, refused_gives, both_true}
 use Rattle.words.proofs.Pauses.{standing, computed_add_up}
 use Rattle.claim.specs.Claim.{held_after, keeps_rules, holds_list, waited, pause}
+use Rattle.claim.specs.Promises.{Pausing}
 use Rattle.claim.specs.Promises.{told_pausing, is_sound, sound_of}
 use Rattle.claim.specs.Pauses.{counted, Pauses, pause_call, PausesAddUp}
 use Rattle.claim.specs.declared.Claim.{Claim}
-use Rattle.claim.specs.declared.Pausing.{Pausing}
+use Rattle.claim.specs.declared.BadState.{BadState}
 use Rattle.claim.proofs.Sound.{rules_of, pause_silent, pause_awake}
 use Rattle.claim.proofs.Outcomes.{rules_paused}
 use Rattle.claim.proofs.Machine.{node_paused, sound_same}
@@ -26,8 +27,8 @@ by_sound c broken sound =
     by_test (keeps_rules c)
     (λ k. by_test (holds_list c)
     (λ h. let e = sound_well c k h in sound e.0 e.1)
-    (λ h. let e = sound_ill c k h in broken 16 Pausing.ListMalformed (rw e.0) e.0 e.1))
-    (λ k. let e = sound_broken c k in broken 2 Pausing.BrokenState (rw e.0) e.0 e.1)
+    (λ h. let e = sound_ill c k h in broken 16 (Err BadState.ListMalformed) (rw e.0) e.0 e.1))
+    (λ k. let e = sound_broken c k in broken 2 (Err BadState.BrokenState) (rw e.0) e.0 e.1)
 
 module _ (c : Claim) where
   told_so : (ms : ℕ) (d : Claim) (told : Told ℕ) → Pauses c ms told d → told ≡ (given sound_of c then λ _. gives 0)
@@ -38,7 +39,7 @@ module _ (c : Claim) where
   left_so ms d told p = p.pause.state ∙ by_sound c (λ r answer u e s. rw (e, s)) (λ e s. rw (e, s))
 
   some : (ms : ℕ) → (told : Told ℕ) × (d : Claim) × Pauses c ms told d
-  some ms = by_sound c (λ r answer u e s. answers answer u) (λ e s. answers Pausing.Waited (rw e))
+  some ms = by_sound c (λ r answer u e s. answers answer u) (λ e s. answers (Ok tt) (rw e))
     where
       answers : (answer : Pausing) → told_pausing answer ≡ sound_of c → (told : Told ℕ) × (d : Claim) × Pauses c ms told d
       answers answer u = (

@@ -8,9 +8,9 @@ use Rattle.frame.specs.Standard.{claim_dgn, no_frame}
 use Rattle.frame.specs.declared.Parts.{Parts}
 use Rattle.claim.specs.Claim.{Outcome}
 use Rattle.claim.specs.History.{Event, heard, paused, loss_of, repeat_of}
+use Rattle.claim.specs.Promises.{Hearing}
 use Rattle.claim.specs.Promises.{Hear, told_hearing, Pause}
 use Rattle.claim.specs.declared.Claim.{Claim}
-use Rattle.claim.specs.declared.Hearing.{Hearing}
 use Rattle.claim.specs.declared.Heard.{Heard}
 use Rattle.claim.specs.declared.Paused.{Paused}
 

@@ -1,7 +1,7 @@
 -- The laws of this crate (RULES 8), each a named statement. proofs/Laws.antt and proofs/Machine.antt have a proof of
 -- each, under the same name written small.
 use Rattle.std.specs.Prelude.{◌≡◌, Bool, true, false, List, ◌↔◌, ℕ, ◌≤◌, ◌<◌, ◌%◌, ◌^◌, length, get_or}
-use Rattle.words.specs.Words.{refused, gives, done}
+use Rattle.words.specs.Words.{refused, gives, done, number_of_answer}
 use Rattle.frame.specs.Bytes.{number_of, bytes_of}
 use Rattle.frame.specs.Identifier.{identifier_of, identifiers}
 use Rattle.frame.specs.Frame.{frame_bytes, checked_of}
@@ -10,21 +10,22 @@ use Rattle.frame.specs.declared.Parts.{Parts}
 use Rattle.claim.specs.Claim.{held_after, claim_priority, keeps_rules, holds_list, address, claim_source, claim_id}
 use Rattle.claim.specs.Claim.{claim_bytes, held, stand_of, begun, nothing_to_do, outcome_of, after}
 use Rattle.claim.specs.History.{Event, run, history, waited_since}
+use Rattle.claim.specs.Promises.{NotStartedRefusal, NotHeardRefusal, BadStateRefusal}
+use Rattle.claim.specs.Promises.{Starting, Hearing, Pausing, Standing, Sending}
+use Rattle.claim.specs.Promises.{number_of_not_started, number_of_not_heard, number_of_bad_state}
 use Rattle.claim.specs.Promises.{Start, Hear, Pause, Stands, OurClaim, KeepsRules, HoldsList, StartingRefusal}
 use Rattle.claim.specs.Promises.{HearingRefusal, PausingRefusal, StandingRefusal, SendingRefusal, told_starting}
 use Rattle.claim.specs.Promises.{told_hearing, told_pausing, told_standing, told_sending, meets_frame, heard_of}
 use Rattle.claim.specs.Promises.{is_sent_told, is_sound, blank}
 use Rattle.claim.specs.Calls.{Call, Ran, events_in}
 use Rattle.claim.specs.declared.Claim.{Claim}
-use Rattle.claim.specs.declared.Starting.{Starting}
 use Rattle.claim.specs.declared.Started.{Started}
-use Rattle.claim.specs.declared.Hearing.{Hearing}
 use Rattle.claim.specs.declared.Heard.{Heard}
-use Rattle.claim.specs.declared.Pausing.{Pausing}
 use Rattle.claim.specs.declared.Paused.{Paused}
-use Rattle.claim.specs.declared.Standing.{Standing}
-use Rattle.claim.specs.declared.Sending.{Sending}
 use Rattle.claim.specs.declared.ClaimFrame.{ClaimFrame}
+use Rattle.claim.specs.declared.NotStarted.{NotStarted}
+use Rattle.claim.specs.declared.NotHeard.{NotHeard}
+use Rattle.claim.specs.declared.BadState.{BadState}
 
 -- An answer read as number and values loses nothing (RULES 2.10).
 
@@ -66,11 +67,20 @@ KeepsRulesOnly = (c : Claim) (r s : Bool) → KeepsRules c r → KeepsRules c s 
 abbrev pub HoldsListOnly : Type 0
 HoldsListOnly = (c : Claim) (r s : Bool) → HoldsList c r → HoldsList c s → r ≡ s
 
+abbrev pub NotStartedRefusalOnly : Type 0
+NotStartedRefusalOnly = (why : NotStarted) (r s : ℕ) → NotStartedRefusal why r → NotStartedRefusal why s → r ≡ s
+
 abbrev pub StartingRefusalOnly : Type 0
 StartingRefusalOnly = (answer : Starting) (r s : ℕ) → StartingRefusal answer r → StartingRefusal answer s → r ≡ s
 
+abbrev pub NotHeardRefusalOnly : Type 0
+NotHeardRefusalOnly = (why : NotHeard) (r s : ℕ) → NotHeardRefusal why r → NotHeardRefusal why s → r ≡ s
+
 abbrev pub HearingRefusalOnly : Type 0
 HearingRefusalOnly = (answer : Hearing) (r s : ℕ) → HearingRefusal answer r → HearingRefusal answer s → r ≡ s
+
+abbrev pub BadStateRefusalOnly : Type 0
+BadStateRefusalOnly = (why : BadState) (r s : ℕ) → BadStateRefusal why r → BadStateRefusal why s → r ≡ s
 
 abbrev pub PausingRefusalOnly : Type 0
 PausingRefusalOnly = (answer : Pausing) (r s : ℕ) → PausingRefusal answer r → PausingRefusal answer s → r ≡ s
@@ -80,6 +90,23 @@ StandingRefusalOnly = (answer : Standing) (r s : ℕ) → StandingRefusal answer
 
 abbrev pub SendingRefusalOnly : Type 0
 SendingRefusalOnly = (answer : Sending) (r s : ℕ) → SendingRefusal answer r → SendingRefusal answer s → r ≡ s
+
+-- The number that an answer gives for its refusal is the one that is told of it, and 0 where there is none.
+
+abbrev pub StartingRefusalTold : Type 0
+StartingRefusalTold = (answer : Starting) → StartingRefusal answer (number_of_answer number_of_not_started answer)
+
+abbrev pub HearingRefusalTold : Type 0
+HearingRefusalTold = (answer : Hearing) → HearingRefusal answer (number_of_answer number_of_not_heard answer)
+
+abbrev pub PausingRefusalTold : Type 0
+PausingRefusalTold = (answer : Pausing) → PausingRefusal answer (number_of_answer number_of_bad_state answer)
+
+abbrev pub StandingRefusalTold : Type 0
+StandingRefusalTold = (answer : Standing) → StandingRefusal answer (number_of_answer number_of_bad_state answer)
+
+abbrev pub SendingRefusalTold : Type 0
+SendingRefusalTold = (answer : Sending) → SendingRefusal answer (number_of_answer number_of_bad_state answer)
 
 -- A refusal gives nothing (RULES 2.4 and 2.6): the state stays, and no frame stands beside it.
 

@@ -1,10 +1,11 @@
 -- How often a node moves (RULES 8.17 to 8.22): the addresses that it has given up since its start, over runs of calls.
 -- proofs/Moves.antt has a proof of each law, under the same name written small.
-use Rattle.std.specs.Prelude.{◌≡◌, Bool, true, false, List, ◌↔◌, ◌⊎◌, ℕ, ◌+◌, ◌≤◌, ◌<◌, ◌^◌, length, get_or}
+use Rattle.std.specs.Prelude.{◌≡◌, Bool, true, false, List, ◌↔◌, ◌⊎◌, ℕ, ◌+◌, ◌≤◌, ◌<◌, ◌^◌, length, get_or, Ok}
 use Rattle.words.specs.Words.{refused, gives, done}
 use Rattle.frame.specs.Frame.{frame_bytes}
 use Rattle.claim.specs.Claim.{losses_at, begun}
 use Rattle.claim.specs.History.{history, losses_in}
+use Rattle.claim.specs.Promises.{Standing}
 use Rattle.claim.specs.Promises.{Start, Hear, Pause, Stands, OurClaim, KeepsRules, told_starting, told_hearing}
 use Rattle.claim.specs.Promises.{told_pausing, told_standing, told_sending, is_sound}
 use Rattle.claim.specs.Calls.{Call, Ran, events_in, answers_in, losses_told, repeats_told, frames_sent}
@@ -12,8 +13,7 @@ use Rattle.claim.specs.declared.Claim.{Claim}
 use Rattle.claim.specs.declared.Started.{Started}
 use Rattle.claim.specs.declared.Heard.{Heard}
 use Rattle.claim.specs.declared.Paused.{Paused}
-use Rattle.claim.specs.declared.Standing.{Standing}
-use Rattle.claim.specs.declared.Standing.TheVariants.{Held, Claiming, Silent}
+use Rattle.claim.specs.declared.Place.TheVariants.{Held, Claiming, Silent}
 use Rattle.claim.specs.declared.ClaimFrame.{ClaimFrame}
 
 -- There is a run for any calls, from any state, since every call answers.
@@ -26,8 +26,8 @@ EveryRunRuns = (c : Claim) (calls : List Call) → (d : Claim) × Ran c calls d
 pub record Counts (name : ℕ) (list : List ℕ) (calls : List Call) (d : Claim) : Type 0 where
   pub lost : d.losses ≡ losses_in (history (begun name list) (events_in calls))
   pub bounded : d.losses ≤ length list
-  pub all_when_silent : (r : Standing) → Stands d r → (d.losses ≡ length list) ↔ (r ≡ Silent)
-  pub next_claimed : (a : ℕ) → Stands d (Claiming a) ⊎ Stands d (Held a) → a ≡ get_or list d.losses 0
+  pub all_when_silent : (r : Standing) → Stands d r → (d.losses ≡ length list) ↔ (r ≡ Ok Silent)
+  pub next_claimed : (a : ℕ) → Stands d (Ok (Claiming a)) ⊎ Stands d (Ok (Held a)) → a ≡ get_or list d.losses 0
 
 abbrev pub LossesExactly : Type 0
 LossesExactly =

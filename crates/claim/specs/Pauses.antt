@@ -4,9 +4,9 @@
 use Rattle.std.specs.Prelude.{◌≡◌, true, ℕ}
 use Rattle.words.specs.Words.{Told, refused, gives, Done}
 use Rattle.words.specs.Pauses.{PauseCall, AddUp}
+use Rattle.claim.specs.Promises.{Pausing}
 use Rattle.claim.specs.Promises.{told_pausing, is_sound, Pause}
 use Rattle.claim.specs.declared.Claim.{Claim}
-use Rattle.claim.specs.declared.Pausing.{Pausing}
 
 -- an answer as a number
 abbrev pub counted : Told Done → Told ℕ

@@ -1,6 +1,6 @@
 -- What each public call of this crate promises (RULES 8.16 and 13.7): one proposition over all that it answers. The
 -- answers are read as numbers and values (RULES 2.10).
-use Rattle.std.specs.Prelude.{◌≡◌, Bool, false, not, List, ℕ, length, replicate, if◌then◌else◌}
+use Rattle.std.specs.Prelude.{◌≡◌, Bool, false, not, List, ℕ, length, replicate, Result, Ok, Err, if◌then◌else◌}
 use Rattle.words.specs.Words.{◌=?◌, ◌and◌, Told, refused, gives, number_in, given◌then◌, Done, done}
 use Rattle.frame.specs.Bytes.{number_of}
 use Rattle.frame.specs.Frame.{checked_of}
@@ -12,14 +12,14 @@ use Rattle.claim.specs.Claim.{keeps_rules, holds_list, claim_frame, Stand, held,
 use Rattle.claim.specs.Claim.{Outcome, nothing_to_do, own_name, repeated, moved, fell_silent, outcome_of, after}
 use Rattle.claim.specs.Claim.{is_sent, pause}
 use Rattle.claim.specs.declared.Claim.{Claim}
-use Rattle.claim.specs.declared.Starting.{Starting}
+use Rattle.claim.specs.declared.NotStarted.{NotStarted}
 use Rattle.claim.specs.declared.Started.{Started}
-use Rattle.claim.specs.declared.Hearing.{Hearing}
+use Rattle.claim.specs.declared.Reaction.{Reaction}
+use Rattle.claim.specs.declared.NotHeard.{NotHeard}
 use Rattle.claim.specs.declared.Heard.{Heard}
-use Rattle.claim.specs.declared.Pausing.{Pausing}
+use Rattle.claim.specs.declared.BadState.{BadState}
 use Rattle.claim.specs.declared.Paused.{Paused}
-use Rattle.claim.specs.declared.Standing.{Standing}
-use Rattle.claim.specs.declared.Sending.{Sending}
+use Rattle.claim.specs.declared.Place.{Place}
 use Rattle.claim.specs.declared.ClaimFrame.{ClaimFrame}
 
 -- beside an answer: the frame of our claim where it is to be sent, and no frame where nothing is
@@ -41,9 +41,15 @@ blank =
       losses = 0;
     }
 
+abbrev pub Starting : Type 0
+Starting = Result Unit NotStarted
+
+abbrev pub number_of_not_started : NotStarted → ℕ
+number_of_not_started NotStarted.ListMalformed = 16
+
 abbrev pub told_starting : Starting → Told Done
-told_starting Starting.SendClaim = gives done
-told_starting Starting.ListMalformed = refused 16
+told_starting (Ok u) = gives done
+told_starting (Err why) = refused (number_of_not_started why)
 
 unfoldable pub started_of : List ℕ → Told Done
 started_of list = if is_well_formed list then gives done else refused 16
@@ -54,20 +60,32 @@ pub record Start (name : ℕ) (list : List ℕ) (r : Started) : Type 0 where
   pub sent_id : r.id ≡ (frame_if (is_well_formed list) (begun name list)).id
   pub sent_bytes : r.bytes ≡ (frame_if (is_well_formed list) (begun name list)).bytes
 
+pub record NotStartedRefusal (why : NotStarted) (r : ℕ) : Type 0 where
+  pub number : r ≡ number_of_not_started why
+
 pub record StartingRefusal (answer : Starting) (r : ℕ) : Type 0 where
   pub number : r ≡ number_in (told_starting answer)
 
 -- Claim::hear
 
+abbrev pub Hearing : Type 0
+Hearing = Result Reaction NotHeard
+
+abbrev pub number_of_not_heard : NotHeard → ℕ
+number_of_not_heard NotHeard.BrokenState = 2
+number_of_not_heard (NotHeard.BadFrame why) = refusal_of why
+number_of_not_heard NotHeard.ListMalformed = 16
+
+abbrev pub outcome_in : Reaction → Outcome
+outcome_in Reaction.NothingToDo = nothing_to_do
+outcome_in Reaction.OwnName = own_name
+outcome_in Reaction.SendClaimAgain = repeated
+outcome_in Reaction.SendNextClaim = moved
+outcome_in Reaction.SendCannotClaim = fell_silent
+
 abbrev pub told_hearing : Hearing → Told Outcome
-told_hearing Hearing.NothingToDo = gives nothing_to_do
-told_hearing Hearing.OwnName = gives own_name
-told_hearing Hearing.SendClaimAgain = gives repeated
-told_hearing Hearing.SendNextClaim = gives moved
-told_hearing Hearing.SendCannotClaim = gives fell_silent
-told_hearing Hearing.BrokenState = refused 2
-told_hearing (Hearing.BadFrame why) = refused (refusal_of why)
-told_hearing Hearing.ListMalformed = refused 16
+told_hearing (Ok reaction) = gives (outcome_in reaction)
+told_hearing (Err why) = refused (number_of_not_heard why)
 
 -- what a sound frame leads to: any DGN but EEFFh is nothing to do
 unfoldable pub meets_frame : Parts → List ℕ → Claim → Outcome
@@ -99,6 +117,9 @@ pub record Hear (id : ℕ) (bytes : List ℕ) (c : Claim) (r : Heard) : Type 0 w
   pub sent_id : r.id ≡ (frame_sent (heard_of id bytes c) c).id
   pub sent_bytes : r.bytes ≡ (frame_sent (heard_of id bytes c) c).bytes
 
+pub record NotHeardRefusal (why : NotHeard) (r : ℕ) : Type 0 where
+  pub number : r ≡ number_of_not_heard why
+
 pub record HearingRefusal (answer : Hearing) (r : ℕ) : Type 0 where
   pub number : r ≡ number_in (told_hearing answer)
 
@@ -113,28 +134,42 @@ sound_of c =
     if not (holds_list c) then refused 16 else
     gives done
 
+abbrev pub number_of_bad_state : BadState → ℕ
+number_of_bad_state BadState.BrokenState = 2
+number_of_bad_state BadState.ListMalformed = 16
+
 -- Claim::pause
 
+abbrev pub Pausing : Type 0
+Pausing = Result Unit BadState
+
 abbrev pub told_pausing : Pausing → Told Done
-told_pausing Pausing.Waited = gives done
-told_pausing Pausing.BrokenState = refused 2
-told_pausing Pausing.ListMalformed = refused 16
+told_pausing (Ok u) = gives done
+told_pausing (Err why) = refused (number_of_bad_state why)
 
 pub record Pause (ms : ℕ) (c : Claim) (r : Paused) : Type 0 where
   pub answer : told_pausing r.answer ≡ sound_of c
   pub state : r.claim ≡ (if is_sound c then pause ms c else c)
+
+pub record BadStateRefusal (why : BadState) (r : ℕ) : Type 0 where
+  pub number : r ≡ number_of_bad_state why
 
 pub record PausingRefusal (answer : Pausing) (r : ℕ) : Type 0 where
   pub number : r ≡ number_in (told_pausing answer)
 
 -- Claim::stands
 
+abbrev pub Standing : Type 0
+Standing = Result Place BadState
+
+abbrev pub stands_at : Place → Stand
+stands_at (Place.Held a) = held a
+stands_at (Place.Claiming a) = claiming a
+stands_at Place.Silent = silent
+
 abbrev pub told_standing : Standing → Told Stand
-told_standing (Standing.Held a) = gives (held a)
-told_standing (Standing.Claiming a) = gives (claiming a)
-told_standing Standing.Silent = gives silent
-told_standing Standing.BrokenState = refused 2
-told_standing Standing.ListMalformed = refused 16
+told_standing (Ok place) = gives (stands_at place)
+told_standing (Err why) = refused (number_of_bad_state why)
 
 pub record Stands (c : Claim) (r : Standing) : Type 0 where
   pub answer : told_standing r ≡ (given sound_of c then λ _. gives (stand_of c))
@@ -144,10 +179,12 @@ pub record StandingRefusal (answer : Standing) (r : ℕ) : Type 0 where
 
 -- Claim::our_claim
 
+abbrev pub Sending : Type 0
+Sending = Result Unit BadState
+
 abbrev pub told_sending : Sending → Told Done
-told_sending Sending.Frame = gives done
-told_sending Sending.BrokenState = refused 2
-told_sending Sending.ListMalformed = refused 16
+told_sending (Ok u) = gives done
+told_sending (Err why) = refused (number_of_bad_state why)
 
 pub record OurClaim (c : Claim) (r : ClaimFrame) : Type 0 where
   pub answer : told_sending r.answer ≡ sound_of c

@@ -1,28 +1,23 @@
 // The contest of NAMEs: what a frame heard leads to.
 ghost use Rattle.std.specs.Prelude.{◌≡◌, ◌<◌};
-ghost use Rattle.words.specs.Words.{gives};
 ghost use Rattle.frame.specs.Standard.{no_frame};
 ghost use Rattle.claim.specs.Claim.{claim_id, claim_bytes, lost_by, outcome_of};
-ghost use Rattle.claim.specs.Promises.{told_hearing, heard_of};
+ghost use Rattle.claim.specs.Promises.{outcome_in, told_hearing, heard_of};
 ghost use Rattle.claim.specs.Private.{met_of};
 
-use crate::{Claim, Heard, Hearing, state};
-use frame::{Parts, Verdict, standard};
+use crate::{Claim, Heard, Hearing, NotHeard, Reaction, state};
+use frame::{Parts, standard};
 
 // The answer to a frame: 2, then 3 to 6, then 16, then what it leads to.
 pub fn answer_to(claim: Claim, id: u32, bytes: &[u8]) -> Hearing
     ensures { told_hearing result ≡ heard_of id bytes.now claim }
 {
     if !claim.keeps_rules() {
-        return Hearing::BrokenState;
+        return Err(NotHeard::BrokenState);
     }
     let checked = frame::check(id, bytes);
-    let verdict = checked.verdict;
-    let eight = checked.bytes;
-    match verdict {
-        Verdict::Bad(why) => Hearing::BadFrame(why),
-        Verdict::Sound(parts) => meet(claim, parts, eight),
-    }
+    let parts = checked.verdict?;
+    meet(claim, parts, checked.bytes)
 }
 
 // A sound frame, heard by a state that keeps its rules.
@@ -31,56 +26,54 @@ fn meet(claim: Claim, parts: Parts, bytes: [u8; 8]) -> Hearing
     ensures { told_hearing result ≡ met_of parts bytes claim }
 {
     if !claim.holds_list() {
-        return Hearing::ListMalformed;
+        return Err(NotHeard::ListMalformed);
     }
     if parts.dgn != standard::CLAIM {
-        return Hearing::NothingToDo;
+        return Ok(Reaction::NothingToDo);
     }
-    outcome(claim, parts.source, frame::number_of(bytes))
+    Ok(reaction(claim, parts.source, frame::number_of(bytes)))
 }
 
 // A claim heard from a source, with its NAME.
-fn outcome(claim: Claim, source: u8, name: u64) -> Hearing
+#[tactic(auto, unfolding(crate::specs::Claim::outcome_of))]
+fn reaction(claim: Claim, source: u8, name: u64) -> Reaction
     requires { claim.position < 16 }
-    ensures { told_hearing result ≡ gives (outcome_of source name claim) }
+    ensures { outcome_in result ≡ outcome_of source name claim }
 {
-    if claim.silent {
-        return Hearing::NothingToDo;
-    }
-    let at = claim.position;
-    let list = claim.list;
-    if source != list[at] {
-        return Hearing::NothingToDo;
+    if claim.silent || source != claim.list[claim.position] {
+        return Reaction::NothingToDo;
     }
     if name < claim.name {
         return lost(claim);
     }
     if claim.name < name {
-        return Hearing::SendClaimAgain;
+        return Reaction::SendClaimAgain;
     }
-    Hearing::OwnName
+    Reaction::OwnName
 }
 
-fn lost(claim: Claim) -> Hearing
+#[tactic(auto, unfolding(crate::specs::Claim::lost_by))]
+fn lost(claim: Claim) -> Reaction
     requires { claim.position < 16 }
-    ensures { told_hearing result ≡ gives (lost_by claim) }
+    ensures { outcome_in result ≡ lost_by claim }
 {
     if claim.position + 1 < claim.candidates {
-        return Hearing::SendNextClaim;
+        Reaction::SendNextClaim
+    } else {
+        Reaction::SendCannotClaim
     }
-    Hearing::SendCannotClaim
 }
 
 // A state whose claim is to be sent with an answer.
+#[tactic(auto, unfolding(crate::specs::Claim::claim_bytes))]
 pub fn sends(claim: Claim, answer: Hearing) -> Heard
     requires { claim.position < 16 }
     ensures { result ≡ record { claim = claim; answer = answer; id = claim_id claim; bytes = claim_bytes claim } }
 {
-    let id = state::claim_id(claim);
     Heard {
         claim,
         answer,
-        id,
+        id: state::claim_id(claim),
         bytes: frame::bytes_of(claim.name),
     }
 }
@@ -93,6 +86,6 @@ pub fn keeps(claim: Claim, answer: Hearing) -> Heard
         claim,
         answer,
         id: standard::NO_FRAME,
-        bytes: [0u8; 8],
+        bytes: [0; 8],
     }
 }

@@ -5,11 +5,13 @@ mod contest;
 mod list;
 mod state;
 
+ghost use Rattle.std.specs.Prelude.{◌≡◌};
 ghost use Rattle.claim.specs.Promises.{Start, Hear, Pause, Stands, OurClaim, KeepsRules, HoldsList};
-ghost use Rattle.claim.specs.Promises.{StartingRefusal, HearingRefusal, PausingRefusal, StandingRefusal};
-ghost use Rattle.claim.specs.Promises.{SendingRefusal};
+ghost use Rattle.claim.specs.Promises.{number_of_not_started, number_of_not_heard, number_of_bad_state};
+ghost use Rattle.claim.specs.declared.NotHeard.TheVariants.{BadFrame};
 
 use frame::{BadFrame, standard};
+use words::Refusal;
 
 // A candidate list has at most 16 addresses.
 pub const CANDIDATES: usize = 16;
@@ -20,6 +22,8 @@ pub const HELD_AFTER: u16 = 250;
 // A claim's state: the NAME, the candidate list (`candidates` addresses, then zeros), the position in it of the address
 // that is claimed or held, the milliseconds waited there, up to 250, whether all addresses are lost, and how many
 // addresses were given up since the start: one for each contest that was lost. A contest that is won gives up nothing.
+// The list stands with its count beside it, for the fields are public, and the laws (`SameNode`, `Counts`) speak of
+// them.
 #[derive(Clone, Copy)]
 pub struct Claim {
     pub name: u64,
@@ -31,12 +35,14 @@ pub struct Claim {
     pub losses: usize,
 }
 
-// Started: our claim is to be sent; or refusal 16.
+// Why a claim is not started: refusal 16.
 #[derive(Clone, Copy)]
-pub enum Starting {
-    SendClaim,
+pub enum NotStarted {
     ListMalformed,
 }
+
+// Started: our claim is to be sent; or why not.
+pub type Starting = Result<(), NotStarted>;
 
 // The new state, and the frame to send. Where the start is refused, the state is of zeros, and there is no frame.
 #[derive(Clone, Copy)]
@@ -47,9 +53,9 @@ pub struct Started {
     pub bytes: [u8; 8],
 }
 
-// What a frame heard leads to; or refusal 2, 3 to 6, 16.
+// What a frame that is heard leads to.
 #[derive(Clone, Copy)]
-pub enum Hearing {
+pub enum Reaction {
     // No claim at our address, or we are silent.
     NothingToDo,
     // A claim at our address with our own NAME.
@@ -60,10 +66,18 @@ pub enum Hearing {
     SendNextClaim,
     // A lower NAME, and no address is left: we are silent, and our claim is to be sent from 254.
     SendCannotClaim,
+}
+
+// Why a frame is not heard: refusals 2, 3 to 6, and 16.
+#[derive(Clone, Copy)]
+pub enum NotHeard {
     BrokenState,
     BadFrame(BadFrame),
     ListMalformed,
 }
+
+// What a frame heard leads to, or why it is not heard.
+pub type Hearing = Result<Reaction, NotHeard>;
 
 // The state, and the frame to send; no frame where nothing is to be sent.
 #[derive(Clone, Copy)]
@@ -74,13 +88,15 @@ pub struct Heard {
     pub bytes: [u8; 8],
 }
 
-// Waited; or refusal 2, 16.
+// Why a state is refused that is handed in with no frame: refusals 2 and 16.
 #[derive(Clone, Copy)]
-pub enum Pausing {
-    Waited,
+pub enum BadState {
     BrokenState,
     ListMalformed,
 }
+
+// Waited; or why not.
+pub type Pausing = Result<(), BadState>;
 
 #[derive(Clone, Copy)]
 pub struct Paused {
@@ -88,23 +104,19 @@ pub struct Paused {
     pub answer: Pausing,
 }
 
-// Where a claim stands, and at which address; or refusal 2, 16.
+// Where a claim stands, and at which address.
 #[derive(Clone, Copy)]
-pub enum Standing {
+pub enum Place {
     Held(u8),
     Claiming(u8),
     Silent,
-    BrokenState,
-    ListMalformed,
 }
 
-// The frame beside is our claim; or refusal 2, 16.
-#[derive(Clone, Copy)]
-pub enum Sending {
-    Frame,
-    BrokenState,
-    ListMalformed,
-}
+// Where a claim stands, or why that is not told.
+pub type Standing = Result<Place, BadState>;
+
+// The frame beside is our claim; or why there is none.
+pub type Sending = Result<(), BadState>;
 
 // The frame of our claim; no frame where the state is refused.
 #[derive(Clone, Copy)]
@@ -114,78 +126,43 @@ pub struct ClaimFrame {
     pub bytes: [u8; 8],
 }
 
-impl Starting {
-    // The number of the refusal; 0 where our claim is to be sent.
-    pub fn refusal(self) -> u8
-        ensures { StartingRefusal self result }
-    {
-        let answer = self;
-        match answer {
-            Starting::SendClaim => 0,
-            Starting::ListMalformed => 16,
+impl Refusal for NotStarted {
+    ghost number = { number_of_not_started };
+
+    fn refusal(self) -> u8 {
+        match self {
+            NotStarted::ListMalformed => 16,
         }
     }
 }
 
-impl Hearing {
-    // The number of the refusal; 0 where the frame is heard.
-    pub fn refusal(self) -> u8
-        ensures { HearingRefusal self result }
-    {
-        let answer = self;
-        match answer {
-            Hearing::NothingToDo => 0,
-            Hearing::OwnName => 0,
-            Hearing::SendClaimAgain => 0,
-            Hearing::SendNextClaim => 0,
-            Hearing::SendCannotClaim => 0,
-            Hearing::BrokenState => 2,
-            Hearing::BadFrame(why) => why.refusal(),
-            Hearing::ListMalformed => 16,
+impl Refusal for NotHeard {
+    ghost number = { number_of_not_heard };
+
+    fn refusal(self) -> u8 {
+        match self {
+            NotHeard::BrokenState => 2,
+            NotHeard::BadFrame(why) => why.refusal(),
+            NotHeard::ListMalformed => 16,
         }
     }
 }
 
-impl Pausing {
-    // The number of the refusal; 0 where the claim has waited.
-    pub fn refusal(self) -> u8
-        ensures { PausingRefusal self result }
-    {
-        let answer = self;
-        match answer {
-            Pausing::Waited => 0,
-            Pausing::BrokenState => 2,
-            Pausing::ListMalformed => 16,
-        }
+impl From<BadFrame> for NotHeard {
+    ghost from_gives = { λ why answer. answer ≡ BadFrame why };
+
+    fn from(why: BadFrame) -> NotHeard {
+        NotHeard::BadFrame(why)
     }
 }
 
-impl Standing {
-    // The number of the refusal; 0 where it is told where the claim stands.
-    pub fn refusal(self) -> u8
-        ensures { StandingRefusal self result }
-    {
-        let answer = self;
-        match answer {
-            Standing::Held(_) => 0,
-            Standing::Claiming(_) => 0,
-            Standing::Silent => 0,
-            Standing::BrokenState => 2,
-            Standing::ListMalformed => 16,
-        }
-    }
-}
+impl Refusal for BadState {
+    ghost number = { number_of_bad_state };
 
-impl Sending {
-    // The number of the refusal; 0 where the frame is told.
-    pub fn refusal(self) -> u8
-        ensures { SendingRefusal self result }
-    {
-        let answer = self;
-        match answer {
-            Sending::Frame => 0,
-            Sending::BrokenState => 2,
-            Sending::ListMalformed => 16,
+    fn refusal(self) -> u8 {
+        match self {
+            BadState::BrokenState => 2,
+            BadState::ListMalformed => 16,
         }
     }
 }
@@ -200,9 +177,9 @@ impl Claim {
         if !list::well_formed(list) {
             return Started {
                 claim: state::blank(),
-                answer: Starting::ListMalformed,
+                answer: Err(NotStarted::ListMalformed),
                 id: standard::NO_FRAME,
-                bytes: [0u8; 8],
+                bytes: [0; 8],
             };
         }
         let claim = Claim {
@@ -216,7 +193,7 @@ impl Claim {
         };
         Started {
             claim,
-            answer: Starting::SendClaim,
+            answer: Ok(()),
             id: state::claim_id(claim),
             bytes: frame::bytes_of(name),
         }
@@ -230,15 +207,14 @@ impl Claim {
         ensures { Hear id bytes.now self result }
     {
         let answer = contest::answer_to(self, id, bytes);
-        match answer {
-            Hearing::SendClaimAgain => contest::sends(self, answer),
-            Hearing::SendNextClaim => contest::sends(state::at_next(self), answer),
-            Hearing::SendCannotClaim => contest::sends(state::fallen(self), answer),
-            Hearing::NothingToDo => contest::keeps(self, answer),
-            Hearing::OwnName => contest::keeps(self, answer),
-            Hearing::BrokenState => contest::keeps(self, answer),
-            Hearing::BadFrame(_) => contest::keeps(self, answer),
-            Hearing::ListMalformed => contest::keeps(self, answer),
+        let Ok(reaction) = answer else {
+            return contest::keeps(self, answer);
+        };
+        match reaction {
+            Reaction::SendClaimAgain => contest::sends(self, answer),
+            Reaction::SendNextClaim => contest::sends(state::at_next(self), answer),
+            Reaction::SendCannotClaim => contest::sends(state::fallen(self), answer),
+            Reaction::NothingToDo | Reaction::OwnName => contest::keeps(self, answer),
         }
     }
 
@@ -247,22 +223,12 @@ impl Claim {
     pub fn pause(self, ms: u16) -> Paused
         ensures { Pause ms self result }
     {
-        if !self.keeps_rules() {
-            return Paused {
-                claim: self,
-                answer: Pausing::BrokenState,
-            };
-        }
-        if !self.holds_list() {
-            return Paused {
-                claim: self,
-                answer: Pausing::ListMalformed,
-            };
-        }
-        Paused {
-            claim: state::waited(self, ms),
-            answer: Pausing::Waited,
-        }
+        let answer = state::sound(self);
+        let claim = match answer {
+            Ok(()) => state::waited(self, ms),
+            Err(_) => self,
+        };
+        Paused { claim, answer }
     }
 
     // Tells where the claim stands, and at which address: held, once the pauses since it was claimed have come to 250
@@ -270,13 +236,8 @@ impl Claim {
     pub fn stands(self) -> Standing
         ensures { Stands self result }
     {
-        if !self.keeps_rules() {
-            return Standing::BrokenState;
-        }
-        if !self.holds_list() {
-            return Standing::ListMalformed;
-        }
-        state::stand(self)
+        state::sound(self)?;
+        Ok(state::stand(self))
     }
 
     // Tells the frame of our claim, from the address that we claim or hold, or from 254 when silent. Refusals 2 and 16
@@ -284,61 +245,39 @@ impl Claim {
     pub fn our_claim(self) -> ClaimFrame
         ensures { OurClaim self result }
     {
-        if !self.keeps_rules() {
-            return ClaimFrame {
-                answer: Sending::BrokenState,
+        match state::sound(self) {
+            Ok(()) => ClaimFrame {
+                answer: Ok(()),
+                id: state::claim_id(self),
+                bytes: frame::bytes_of(self.name),
+            },
+            Err(why) => ClaimFrame {
+                answer: Err(why),
                 id: standard::NO_FRAME,
-                bytes: [0u8; 8],
-            };
-        }
-        if !self.holds_list() {
-            return ClaimFrame {
-                answer: Sending::ListMalformed,
-                id: standard::NO_FRAME,
-                bytes: [0u8; 8],
-            };
-        }
-        ClaimFrame {
-            answer: Sending::Frame,
-            id: state::claim_id(self),
-            bytes: frame::bytes_of(self.name),
+                bytes: [0; 8],
+            },
         }
     }
 
     // Tells whether the state keeps its rules. One that does not is refused with 2 by `hear`, `pause`, `stands` and
     // `our_claim`. What `start` gave without a refusal, and what `hear` and `pause` made of it, always keeps them. The
     // addresses given up are those before the position, and all of them when silent.
+    #[tactic(auto, unfolding(crate::specs::Claim::keeps_rules))]
     pub fn keeps_rules(self) -> bool
         ensures { KeepsRules self result }
     {
-        if self.candidates <= self.position {
-            return false;
-        }
-        if HELD_AFTER < self.wait {
-            return false;
-        }
-        if !self.silent {
-            return self.losses == self.position;
-        }
-        if self.position != 0 {
-            return false;
-        }
-        if self.wait != 0 {
-            return false;
-        }
-        self.losses == self.candidates
+        self.position < self.candidates
+            && self.wait <= HELD_AFTER
+            && state::rests(self)
+            && self.losses == state::given_up(self)
     }
 
     // Tells whether the list that the state holds is well formed. Where it is not, the same calls refuse with 16,
     // unless a lower number applies.
+    #[tactic(auto, unfolding(crate::specs::Claim::holds_list))]
     pub fn holds_list(self) -> bool
         ensures { HoldsList self result }
     {
-        let candidates = self.candidates;
-        if CANDIDATES < candidates {
-            return false;
-        }
-        let list = self.list;
-        list::well_formed(&list[0..candidates])
+        self.candidates <= CANDIDATES && list::well_formed(&self.list[..self.candidates])
     }
 }

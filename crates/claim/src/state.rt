@@ -1,10 +1,10 @@
 // A claim's state: the steps that change it, the frame of its claim, where it stands.
-ghost use Rattle.std.specs.Prelude.{◌≡◌, ◌+◌, ◌≤◌, ◌<◌};
-ghost use Rattle.words.specs.Words.{gives};
-ghost use Rattle.claim.specs.Claim.{claim_source, claim_id, stand_of, placed, at_next, fallen, pause};
-ghost use Rattle.claim.specs.Promises.{blank, told_standing};
+ghost use Rattle.std.specs.Prelude.{◌≡◌, true, ◌≤◌, ◌<◌, if◌then◌else◌};
+ghost use Rattle.words.specs.Words.{◌=?◌, ◌and◌};
+ghost use Rattle.claim.specs.Claim.{losses_at, claim_source, claim_id, stand_of, at_next, fallen, pause};
+ghost use Rattle.claim.specs.Promises.{blank, sound_of, told_pausing, stands_at};
 
-use crate::{CANDIDATES, Claim, HELD_AFTER, Standing};
+use crate::{BadState, CANDIDATES, Claim, HELD_AFTER, Place};
 use frame::standard;
 
 // The identifier of a claim without its source: priority 6, DGN EEFFh.
@@ -16,7 +16,7 @@ pub fn blank() -> Claim
 {
     Claim {
         name: 0,
-        list: [0u8; CANDIDATES],
+        list: [0; CANDIDATES],
         candidates: 0,
         position: 0,
         wait: 0,
@@ -25,13 +25,51 @@ pub fn blank() -> Claim
     }
 }
 
+// How many addresses are given up where the claim stands: those before its position, and all of them when silent.
+pub fn given_up(claim: Claim) -> usize
+    ensures { result ≡ losses_at claim }
+{
+    if claim.silent {
+        claim.candidates
+    } else {
+        claim.position
+    }
+}
+
+// Whether it is at rest where it is silent: at no position, with no wait.
+pub fn rests(claim: Claim) -> bool
+    ensures { result ≡ (if claim.silent then (claim.position =? 0) and (claim.wait =? 0) else true) }
+{
+    !claim.silent || claim.position == 0 && claim.wait == 0
+}
+
+// Why a state is refused that is handed in with no frame.
+#[tactic(auto, unfolding(crate::specs::Promises::sound_of))]
+pub fn sound(claim: Claim) -> Result<(), BadState>
+    ensures { told_pausing result ≡ sound_of claim }
+{
+    if !claim.keeps_rules() {
+        return Err(BadState::BrokenState);
+    }
+    if !claim.holds_list() {
+        return Err(BadState::ListMalformed);
+    }
+    Ok(())
+}
+
 // The next address of the list, claimed; the one before it is given up.
 pub fn at_next(claim: Claim) -> Claim
     requires position_bound { claim.position < 16 }
     requires losses_bound { claim.losses ≤ 16 }
     ensures { result ≡ at_next claim }
 {
-    placed(claim, claim.position + 1, 0, false, claim.losses + 1)
+    Claim {
+        position: claim.position + 1,
+        wait: 0, // it begins anew
+        silent: false,
+        losses: claim.losses + 1, // the address before it
+        ..claim
+    }
 }
 
 // No address is left: the last one is given up too.
@@ -39,83 +77,63 @@ pub fn fallen(claim: Claim) -> Claim
     requires { claim.losses ≤ 16 }
     ensures { result ≡ fallen claim }
 {
-    placed(claim, 0, 0, true, claim.losses + 1)
+    Claim {
+        position: 0, // in no list any more
+        wait: 0,
+        silent: true,
+        losses: claim.losses + 1, // the last address too
+        ..claim
+    }
 }
 
-// After a pause; the sum has room for 250 + 65535.
+// After a pause: the wait stops at 250, long before a sum of 16 bits would.
+#[tactic(auto, unfolding(crate::specs::Claim::pause))]
 pub fn waited(claim: Claim, ms: u16) -> Claim
     ensures { result ≡ pause ms claim }
 {
     if claim.silent {
         return claim;
     }
-    let sum = claim.wait as u32 + ms as u32;
-    if (HELD_AFTER as u32) < sum {
-        return placed(
-            claim,
-            claim.position,
-            HELD_AFTER,
-            claim.silent,
-            claim.losses,
-        );
-    }
-    placed(
-        claim,
-        claim.position,
-        sum as u16,
-        claim.silent,
-        claim.losses,
-    )
-}
-
-// The same NAME and list, elsewhere.
-fn placed(claim: Claim, position: usize, wait: u16, silent: bool, losses: usize) -> Claim
-    ensures { result ≡ placed position wait silent losses claim }
-{
-    let list = claim.list;
     Claim {
-        name: claim.name,
-        list,
-        candidates: claim.candidates,
-        position,
-        wait,
-        silent,
-        losses,
+        wait: claim.wait.saturating_add(ms).min(HELD_AFTER),
+        ..claim
     }
 }
 
 // The source of our claim: the address, or 254 when silent.
+#[tactic(auto, unfolding(crate::specs::Claim::claim_source))]
 fn claim_source(claim: Claim) -> u8
     requires { claim.position < 16 }
     ensures { result ≡ claim_source claim }
 {
     if claim.silent {
-        return standard::NO_ADDRESS;
+        standard::NO_ADDRESS
+    } else {
+        claim.list[claim.position]
     }
-    let at = claim.position;
-    let list = claim.list;
-    list[at]
 }
 
 // The identifier of our claim.
+#[tactic(auto, unfolding(crate::specs::Claim::claim_id))]
 pub fn claim_id(claim: Claim) -> u32
     requires { claim.position < 16 }
     ensures { result ≡ claim_id claim }
 {
-    CLAIM_ID + claim_source(claim) as u32
+    CLAIM_ID + u32::from(claim_source(claim))
 }
 
-pub fn stand(claim: Claim) -> Standing
+#[tactic(auto, unfolding(crate::specs::Claim::stand_of))]
+pub fn stand(claim: Claim) -> Place
     requires { claim.position < 16 }
-    ensures { told_standing result ≡ gives (stand_of claim) }
+    ensures { stands_at result ≡ stand_of claim }
 {
     if claim.silent {
-        return Standing::Silent;
+        return Place::Silent;
     }
-    let at = claim.position;
-    let list = claim.list;
+    let address = claim.list[claim.position];
     if claim.wait == HELD_AFTER {
-        return Standing::Held(list[at]);
+        Place::Held(address)
+    } else {
+        Place::Claiming(address)
     }
-    Standing::Claiming(list[at])
 }

@@ -1,6 +1,6 @@
 -- The steps by which each call comes to its answer, and answers with nothing beside them.
 -- Assumes nothing.
-use Rattle.std.specs.Prelude.{if◌then◌else◌}
+use Rattle.std.specs.Prelude.{Ok, if◌then◌else◌}
 use mathlib.Core.Path.{◌≡◌, refl, sym, ap, ◌∙◌}
 use mathlib.Core.Bool.{true, false}
 use mathlib.Core.List.{List, [], ◌∷◌}
@@ -18,9 +18,9 @@ use Rattle.frame.specs.Promises.{destined}
 use Rattle.frame.specs.declared.Parts.{Parts}
 use Rattle.frame.proofs.Frame.{dgn_read}
 use Rattle.claim.specs.Claim.{keeps_rules, holds_list, Stand, held, stand_of, claim_frame}
-use Rattle.claim.specs.Promises.{is_sound, sound_of, told_standing}
+use Rattle.claim.specs.Promises.{number_of_not_heard, Standing, is_sound, sound_of, told_standing}
 use Rattle.claim.specs.declared.Claim.{Claim}
-use Rattle.claim.specs.declared.Standing.{Standing}
+use Rattle.claim.specs.declared.NotHeard.{NotHeard}
 use Rattle.claim.proofs.Calls.{sound_well}
 use Rattle.words.proofs.Words.{both_true}
 use Rattle.command.specs.Hosted.{hosted}
@@ -32,6 +32,8 @@ use Rattle.command.specs.Commands.{has_command, is_meant, is_elsewhere, Outcome,
 use Rattle.command.specs.Requests as Requests
 use Rattle.command.specs.Requests.{requested_dgn, instance_asked, Asked, asked_of, supports, is_ours, nak_to, Reply}
 use Rattle.command.specs.Requests.{claims, supported, nak, unsupported, status_of, reply_of, answer_of, requested_of}
+use Rattle.command.specs.Promises.{Routing, Requesting, Acknowledging, number_of_not_routed, not_routed_for}
+use Rattle.command.specs.Promises.{number_of_not_answered, not_answered_for}
 use Rattle.command.specs.Promises.{told_routing, picked_in, RoutedBy, told_requesting, supported_in, sent_in}
 use Rattle.command.specs.Promises.{RequestedBy, told_acknowledging, formed_in, AcknowledgedBy}
 use Rattle.command.specs.Private.{bare_routed, bare_requested, bare_acknowledged}
@@ -39,12 +41,11 @@ use Rattle.command.specs.declared.Edition.{Edition}
 use Rattle.command.specs.declared.Entry.{Entry}
 use Rattle.command.specs.declared.Host.{Host}
 use Rattle.command.specs.declared.Positions.{Positions}
-use Rattle.command.specs.declared.Routing.{Routing}
+use Rattle.command.specs.declared.Choice.{Choice}
 use Rattle.command.specs.declared.Routed.{Routed}
-use Rattle.command.specs.declared.Requesting.{Requesting}
+use Rattle.command.specs.declared.Response.{Response}
 use Rattle.command.specs.declared.Requested.{Requested}
 use Rattle.command.specs.declared.Acknowledgment.{Acknowledgment}
-use Rattle.command.specs.declared.Acknowledging.{Acknowledging}
 use Rattle.command.specs.declared.Acknowledged.{Acknowledged}
 use Rattle.command.proofs.Picks.{listed_filled}
 
@@ -74,6 +75,18 @@ bare_acknowledged_lem t a r s e h =
       sent_id = ap (λ (x : Acknowledged). x.id) h ∙ sym (rw s);
       sent_bytes = ap (λ (x : Acknowledged). x.bytes) h ∙ sym (rw s);
     }
+
+-- a refusal of what is handed in keeps its number
+
+pub not_routed_number : (why : NotHeard) → number_of_not_routed (not_routed_for why) ≡ number_of_not_heard why
+not_routed_number NotHeard.BrokenState = refl
+not_routed_number (NotHeard.BadFrame why) = refl
+not_routed_number NotHeard.ListMalformed = refl
+
+pub not_answered_number : (why : NotHeard) → number_of_not_answered (not_answered_for why) ≡ number_of_not_heard why
+not_answered_number NotHeard.BrokenState = refl
+not_answered_number (NotHeard.BadFrame why) = refl
+not_answered_number NotHeard.ListMalformed = refl
 
 -- a sound claim
 
@@ -125,23 +138,23 @@ module _ (c : Claim) (reply : Acknowledgment) where
 
 -- an answer with positions or a frame beside it
 
-pub picked_routed : (p : Positions) (ps : List ℕ) → p ≡ filled ps → RoutedBy (gives (picks ps)) (record { answer = Routing.Picked; positions = p })
+pub picked_routed : (p : Positions) (ps : List ℕ) → p ≡ filled ps → RoutedBy (gives (picks ps)) (record { answer = Ok Choice.Picked; positions = p })
 picked_routed p ps e = record { answer = ap (λ (l : List ℕ). gives (picks l)) (ap listed e ∙ listed_filled ps); positions = e }
 
 pub supported_requested : (p : Positions) (ps : List ℕ) → p ≡ filled ps
-    → RequestedBy (gives (supported ps)) (record { answer = Requesting.Supported; positions = p; id = no_frame.id; bytes = no_frame.bytes })
+    → RequestedBy (gives (supported ps)) (record { answer = Ok Response.Supported; positions = p; id = no_frame.id; bytes = no_frame.bytes })
 supported_requested p ps e =
     record { answer = ap (λ (l : List ℕ). gives (supported l)) (ap listed e ∙ listed_filled ps); positions = e; sent_id = refl; sent_bytes = refl }
 
 module _ (p : Positions) (frame : Frame) (id : ℕ) (bytes : List ℕ) (e : p ≡ filled []) (i : id ≡ frame.id) (b : bytes ≡ frame.bytes) where
-  pub claims_requested : RequestedBy (gives (claims frame)) (record { answer = Requesting.SendClaim; positions = p; id = id; bytes = bytes })
+  pub claims_requested : RequestedBy (gives (claims frame)) (record { answer = Ok Response.SendClaim; positions = p; id = id; bytes = bytes })
   claims_requested = record { answer = λ j. gives (claims (record { id = i j; bytes = b j })); positions = e; sent_id = i; sent_bytes = b }
 
-  pub nak_requested : RequestedBy (gives (nak frame)) (record { answer = Requesting.SendNak; positions = p; id = id; bytes = bytes })
+  pub nak_requested : RequestedBy (gives (nak frame)) (record { answer = Ok Response.SendNak; positions = p; id = id; bytes = bytes })
   nak_requested = record { answer = λ j. gives (nak (record { id = i j; bytes = b j })); positions = e; sent_id = i; sent_bytes = b }
 
 pub formed_acknowledged : (frame : Frame) (id : ℕ) (bytes : List ℕ) → id ≡ frame.id → bytes ≡ frame.bytes
-    → AcknowledgedBy (gives frame) (record { answer = Acknowledging.Send; id = id; bytes = bytes })
+    → AcknowledgedBy (gives frame) (record { answer = Ok tt; id = id; bytes = bytes })
 formed_acknowledged frame id bytes i b = record { answer = λ j. gives (record { id = i j; bytes = b j }); sent_id = i; sent_bytes = b }
 
 -- a command, step by step

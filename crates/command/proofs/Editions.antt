@@ -1,5 +1,6 @@
 -- The laws of specs/Editions.antt, proved.
 -- Assumes nothing.
+use Rattle.std.specs.Prelude.{Ok}
 use Rattle.std.specs.Prelude.{if◌then◌else◌}
 use mathlib.Core.Path.{◌≡◌, refl, sym, ap, ◌∙◌}
 use mathlib.Core.Bool.{Bool, true, false, not}
@@ -32,6 +33,7 @@ use Rattle.command.specs.Requests as Requests
 use Rattle.command.specs.Requests.{requested_dgn, all_instances, instance_asked, Asked, asked_of, is_of_instance}
 use Rattle.command.specs.Requests.{supports, is_our_address, is_ours, nak_to, Reply, claims, supported, nak}
 use Rattle.command.specs.Requests.{unsupported, status_of, reply_of, answer_of, requested_of}
+use Rattle.command.specs.Promises.{Requesting}
 use Rattle.command.specs.Promises.{told_starting, started_of, told_requesting, supported_in, sent_in}
 use Rattle.command.specs.Laws.{entry_at}
 use Rattle.command.specs.Editions as the
@@ -41,8 +43,7 @@ use Rattle.command.specs.declared.Edition.{Edition}
 use Rattle.command.specs.declared.Edition.TheVariants.{One, Two}
 use Rattle.command.specs.declared.Entry.{Entry}
 use Rattle.command.specs.declared.Host.{Host}
-use Rattle.command.specs.declared.Requesting.{Requesting}
-use Rattle.command.specs.declared.Requesting.TheVariants.{Supported, SendNak, Unsupported}
+use Rattle.command.specs.declared.Response.TheVariants.{Supported, SendNak, Unsupported}
 use Rattle.command.proofs.Picks as Picks
 use Rattle.command.proofs.Handing.{well_few}
 use Rattle.command.proofs.Answers.{status_supported, status_global, status_nobody, status_nak, reply_held}
@@ -247,7 +248,7 @@ module _ (run : Run) (ran : Ran run) where
       let t = heard_status address k ∙ ap gives (status_supported (asked_in run) (list_of run) address n) in
       let l : listed run.answered.positions ≡ ps = ap listed (positions_told _ t) ∙ Picks.listed_filled ps in
       record {
-        answer = answer_told (supported ps) Supported ps no_frame refl t;
+        answer = answer_told (supported ps) (Ok Supported) ps no_frame refl t;
         exactly = λ j.
             let x = positions_exact (supports (asked_in run)) (list_of run) j in
             ((λ s. let y = x.0 (rw l at s) in supporter j y.0 y.1), (λ s. rw l (x.1 (by_supporter j s))));
@@ -265,26 +266,26 @@ module _ (run : Run) (ran : Ran run) where
       let t = heard_status address k ∙ ap gives (status_nak (asked_in run) (list_of run) address n d q) in
       let low = held_low run.claim address k.claim k.holds in
       record {
-        answer = answer_told (nak frame) SendNak [] frame refl t;
+        answer = answer_told (nak frame) (Ok SendNak) [] frame refl t;
         identifier = rw (id_told _ t, bytes_told _ t) (acknowledgment_checked address reply low (source_low run.id));
         data_bytes = bytes_told _ t;
         no_positions = positions_told _ t;
       }
 
   quiet_to_all : (address : ℕ) → Hears run address → is_supported run ≡ false → destination run ≡ everyone
-      → run.answered.answer ≡ Unsupported
+      → run.answered.answer ≡ Ok Unsupported
   quiet_to_all address k n d =
-      answer_told unsupported Unsupported [] no_frame refl
+      answer_told unsupported (Ok Unsupported) [] no_frame refl
       (heard_status address k ∙ ap gives (status_global (asked_in run) (list_of run) address n d))
 
   quiet_to_nobody : (address : ℕ) → Hears run address → is_supported run ≡ false → (destination run ≡ everyone → ⊥)
-      → requester run ≡ no_address → run.answered.answer ≡ Unsupported
+      → requester run ≡ no_address → run.answered.answer ≡ Ok Unsupported
   quiet_to_nobody address k n d q =
-      answer_told unsupported Unsupported [] no_frame refl
+      answer_told unsupported (Ok Unsupported) [] no_frame refl
       (heard_status address k ∙ ap gives (status_nobody (asked_in run) (list_of run) address n d q))
 
   quiet : (address : ℕ) → Hears run address → is_supported run ≡ false
-      → (destination run ≡ everyone) ⊎ (requester run ≡ no_address) → run.answered.answer ≡ Unsupported
+      → (destination run ≡ everyone) ⊎ (requester run ≡ no_address) → run.answered.answer ≡ Ok Unsupported
   quiet address k n (inl d) = quiet_to_all address k n d
   quiet address k n (inr q) =
       by_test (destination run =? everyone)
@@ -325,26 +326,26 @@ module _ (run : Run) (ran : Ran run) where
       let a = answered run.id run.bytes run.started.host run.claim reply t in
       (rw (begun.0, begun.1) at a.came_about, hears reply n a)
 
-  reported_run : run.answered.answer ≡ Supported → (address : ℕ) × Hears run address × (is_supported run ≡ true)
+  reported_run : run.answered.answer ≡ Ok Supported → (address : ℕ) × Hears run address × (is_supported run ≡ true)
   reported_run e =
       let reply = supported (listed run.answered.positions) in
-      let c = came_by reply supported_is_other (tells Supported reply e refl) in
+      let c = came_by reply supported_is_other (tells (Ok Supported) reply e refl) in
       reported_by (asked_in run) (list_of run) run.claim reply _ refl c.0
       (λ address k n p. (address, c.1 address k, n))
 
-  denied_run : run.answered.answer ≡ SendNak
+  denied_run : run.answered.answer ≡ Ok SendNak
       → (address : ℕ) × Hears run address × (is_supported run ≡ false) × (destination run ≡ everyone → ⊥)
       × (requester run ≡ no_address → ⊥)
   denied_run e =
-      let c = came_by (nak frame_of) nak_is_other (tells SendNak (nak frame_of) e refl) in
+      let c = came_by (nak frame_of) nak_is_other (tells (Ok SendNak) (nak frame_of) e refl) in
       denied_by (asked_in run) (list_of run) run.claim (nak frame_of) frame_of refl c.0
       (λ address k n t q f. (address, c.1 address k, n, t, q))
 
-  unanswered_run : run.answered.answer ≡ Unsupported
+  unanswered_run : run.answered.answer ≡ Ok Unsupported
       → (address : ℕ) × Hears run address × (is_supported run ≡ false)
       × ((destination run ≡ everyone) ⊎ (requester run ≡ no_address))
   unanswered_run e =
-      let c = came_by unsupported unsupported_is_other (tells Unsupported unsupported e refl) in
+      let c = came_by unsupported unsupported_is_other (tells (Ok Unsupported) unsupported e refl) in
       unanswered_by (asked_in run) (list_of run) run.claim unsupported refl c.0
       (λ address k n w. (address, c.1 address k, n, w))
 

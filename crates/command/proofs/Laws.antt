@@ -1,5 +1,6 @@
 -- The statements of specs/Laws.antt on answers, refusals and what is handed in, proved.
 -- Assumes nothing.
+use Rattle.std.specs.Prelude.{Ok, Err}
 use Rattle.std.specs.Prelude.{if◌then◌else◌}
 use mathlib.Core.Path.{◌≡◌, refl, sym, ap, ◌∙◌}
 use mathlib.Core.Bool.{Bool, true, false, not}
@@ -10,7 +11,7 @@ use native.Mathlib.Omega.{arith}
 use borrow.Author.Tests.{ne_eqb, eqb-true}
 use lib.ListN.{length, take, get_or, replicate}
 use lib.Seq.{take_at, length-take-le, get_or-take}
-use Rattle.words.specs.Words.{◌≤?◌, ◌=?◌, ◌and◌, Told, refused, gives, given◌then◌, Done, done}
+use Rattle.words.specs.Words.{◌≤?◌, ◌=?◌, ◌and◌, Told, refused, gives, given◌then◌, done}
 use Rattle.words.specs.Lists.{any, every, no_two}
 use Rattle.frame.specs.Identifier.{greatest_dgn, destination_of, catalogue_form}
 use Rattle.frame.specs.Frame.{checked_of}
@@ -19,7 +20,7 @@ use Rattle.frame.specs.Laws.{told_but_priority}
 use Rattle.frame.specs.declared.Parts.{Parts}
 use Rattle.frame.specs.declared.BadFrame.TheVariants.{IdentifierTooLarge, NotEightBytes, ReservedBitSet}
 use Rattle.frame.specs.declared.BadFrame.TheVariants.{SourceNotAllowed}
-use Rattle.words.proofs.Words.{by_test, both_true, before_refusal, refused_gives}
+use Rattle.words.proofs.Words.{by_test, both_true, before_refusal, refused_gives, refused_same, gives_same}
 use Rattle.frame.proofs.Laws as frame_laws
 use Rattle.claim.specs.Claim.{keeps_rules, holds_list, stand_of}
 use Rattle.claim.specs.declared.Claim.{Claim}
@@ -32,17 +33,21 @@ use Rattle.command.specs.Acknowledgment.{acknowledged_of}
 use Rattle.command.specs.Requests as Requests
 use Rattle.command.specs.Requests.{requested_dgn, instance_asked, Reply, claims, supported, nak, unsupported}
 use Rattle.command.specs.Requests.{asked_of, answer_of, requested_of}
-use Rattle.command.specs.Promises.{told_starting, started_of, told_routing, told_requesting, told_acknowledging}
+use Rattle.command.specs.Promises.{number_of_not_started, number_of_not_routed, number_of_not_answered}
+use Rattle.command.specs.Promises.{number_of_not_acknowledged, outcome_in, reply_in}
+use Rattle.command.specs.Promises.{started_of}
 use Rattle.command.specs.Laws as the
 use Rattle.command.specs.declared.Edition.{Edition}
 use Rattle.command.specs.declared.Edition.TheVariants.{One, Two}
 use Rattle.command.specs.declared.Entry.{Entry}
 use Rattle.command.specs.declared.Host.{Host}
-use Rattle.command.specs.declared.Starting.{Starting}
-use Rattle.command.specs.declared.Routing.{Routing}
-use Rattle.command.specs.declared.Requesting.{Requesting}
 use Rattle.command.specs.declared.Acknowledgment.{Acknowledgment}
-use Rattle.command.specs.declared.Acknowledging.{Acknowledging}
+use Rattle.command.specs.declared.NotStarted.{NotStarted}
+use Rattle.command.specs.declared.Choice.{Choice}
+use Rattle.command.specs.declared.NotRouted.{NotRouted}
+use Rattle.command.specs.declared.Response.{Response}
+use Rattle.command.specs.declared.NotAnswered.{NotAnswered}
+use Rattle.command.specs.declared.NotAcknowledged.{NotAcknowledged}
 use Rattle.command.proofs.Handing.{well_few, handed_broken, handed_lists}
 use Rattle.command.proofs.Answers.{acknowledged_broken, acknowledged_nobody, acknowledged_ill}
 use Rattle.command.proofs.Answers.{acknowledged_large, acknowledged_unheld, routed_refused, requested_refused}
@@ -50,94 +55,137 @@ use Rattle.command.proofs.Answers.{route_other, route_held, route_unheld, answer
 
 -- an answer is read back from what it tells
 
-starting_back : Told Done → Starting
-starting_back (gives d) = Starting.Hosted
-starting_back (refused n) = Starting.ListMalformed
+not_started_same : (v w : NotStarted) → number_of_not_started v ≡ number_of_not_started w → v ≡ w
+not_started_same NotStarted.ListMalformed NotStarted.ListMalformed e = refl
 
-starting_back_lem : (r : Starting) → starting_back (told_starting r) ≡ r
-unfolding starting_back
-starting_back_lem Starting.Hosted = refl
-starting_back_lem Starting.ListMalformed = refl
+not_routed_back : ℕ → NotRouted
+not_routed_back n =
+    if n =? 2 then NotRouted.BrokenState else
+    if n =? 16 then NotRouted.ListMalformed else
+    if n =? 18 then NotRouted.NoAddressHeld else
+    NotRouted.BadFrame (frame_laws.bad_back n)
+
+not_routed_back_lem : (w : NotRouted) → not_routed_back (number_of_not_routed w) ≡ w
+unfolding not_routed_back
+not_routed_back_lem NotRouted.BrokenState = refl
+not_routed_back_lem NotRouted.ListMalformed = refl
+not_routed_back_lem NotRouted.NoAddressHeld = refl
+not_routed_back_lem (NotRouted.BadFrame IdentifierTooLarge) = ap NotRouted.BadFrame (frame_laws.bad_back_lem IdentifierTooLarge)
+not_routed_back_lem (NotRouted.BadFrame NotEightBytes) = ap NotRouted.BadFrame (frame_laws.bad_back_lem NotEightBytes)
+not_routed_back_lem (NotRouted.BadFrame ReservedBitSet) = ap NotRouted.BadFrame (frame_laws.bad_back_lem ReservedBitSet)
+not_routed_back_lem (NotRouted.BadFrame SourceNotAllowed) = ap NotRouted.BadFrame (frame_laws.bad_back_lem SourceNotAllowed)
+
+not_routed_same : (v w : NotRouted) → number_of_not_routed v ≡ number_of_not_routed w → v ≡ w
+not_routed_same v w e = sym (not_routed_back_lem v) ∙ ap not_routed_back e ∙ not_routed_back_lem w
+
+not_answered_back : ℕ → NotAnswered
+not_answered_back n =
+    if n =? 2 then NotAnswered.BrokenState else
+    if n =? 16 then NotAnswered.ListMalformed else
+    if n =? 17 then NotAnswered.DgnTooLarge else
+    if n =? 18 then NotAnswered.NoAddressHeld else
+    NotAnswered.BadFrame (frame_laws.bad_back n)
+
+not_answered_back_lem : (w : NotAnswered) → not_answered_back (number_of_not_answered w) ≡ w
+unfolding not_answered_back
+not_answered_back_lem NotAnswered.BrokenState = refl
+not_answered_back_lem NotAnswered.ListMalformed = refl
+not_answered_back_lem NotAnswered.DgnTooLarge = refl
+not_answered_back_lem NotAnswered.NoAddressHeld = refl
+not_answered_back_lem (NotAnswered.BadFrame IdentifierTooLarge) = ap NotAnswered.BadFrame (frame_laws.bad_back_lem IdentifierTooLarge)
+not_answered_back_lem (NotAnswered.BadFrame NotEightBytes) = ap NotAnswered.BadFrame (frame_laws.bad_back_lem NotEightBytes)
+not_answered_back_lem (NotAnswered.BadFrame ReservedBitSet) = ap NotAnswered.BadFrame (frame_laws.bad_back_lem ReservedBitSet)
+not_answered_back_lem (NotAnswered.BadFrame SourceNotAllowed) = ap NotAnswered.BadFrame (frame_laws.bad_back_lem SourceNotAllowed)
+
+not_answered_same : (v w : NotAnswered) → number_of_not_answered v ≡ number_of_not_answered w → v ≡ w
+not_answered_same v w e = sym (not_answered_back_lem v) ∙ ap not_answered_back e ∙ not_answered_back_lem w
+
+not_acknowledged_back : ℕ → NotAcknowledged
+not_acknowledged_back n =
+    if n =? 2 then NotAcknowledged.BrokenState else
+    if n =? 6 then NotAcknowledged.RequesterNotAllowed else
+    if n =? 16 then NotAcknowledged.ListMalformed else
+    if n =? 17 then NotAcknowledged.DgnTooLarge else
+    NotAcknowledged.NoAddressHeld
+
+not_acknowledged_back_lem : (w : NotAcknowledged) → not_acknowledged_back (number_of_not_acknowledged w) ≡ w
+unfolding not_acknowledged_back
+not_acknowledged_back_lem NotAcknowledged.BrokenState = refl
+not_acknowledged_back_lem NotAcknowledged.RequesterNotAllowed = refl
+not_acknowledged_back_lem NotAcknowledged.ListMalformed = refl
+not_acknowledged_back_lem NotAcknowledged.DgnTooLarge = refl
+not_acknowledged_back_lem NotAcknowledged.NoAddressHeld = refl
+
+not_acknowledged_same : (v w : NotAcknowledged) → number_of_not_acknowledged v ≡ number_of_not_acknowledged w → v ≡ w
+not_acknowledged_same v w e = sym (not_acknowledged_back_lem v) ∙ ap not_acknowledged_back e ∙ not_acknowledged_back_lem w
+
+choice_back : Commands.Outcome → Choice
+choice_back Commands.nothing_to_do = Choice.NothingToDo
+choice_back (picks ps) = Choice.Picked
+
+choice_back_lem : (choice : Choice) (ps : List ℕ) → choice_back (outcome_in choice ps) ≡ choice
+unfolding choice_back
+choice_back_lem Choice.NothingToDo ps = refl
+choice_back_lem Choice.Picked ps = refl
+
+response_back : Requests.Reply → Response
+response_back Requests.nothing_to_do = Response.NothingToDo
+response_back (claims f) = Response.SendClaim
+response_back (supported ps) = Response.Supported
+response_back (nak f) = Response.SendNak
+response_back unsupported = Response.Unsupported
+
+response_back_lem : (response : Response) (ps : List ℕ) (f : Frame) → response_back (reply_in response ps f) ≡ response
+unfolding response_back
+response_back_lem Response.NothingToDo ps f = refl
+response_back_lem Response.SendClaim ps f = refl
+response_back_lem Response.Supported ps f = refl
+response_back_lem Response.SendNak ps f = refl
+response_back_lem Response.Unsupported ps f = refl
 
 pub told_starting_same : the.ToldStartingSame
-told_starting_same r s e = sym (starting_back_lem r) ∙ ap starting_back e ∙ starting_back_lem s
-
-routing_back : Told Outcome → Routing
-routing_back (gives Commands.nothing_to_do) = Routing.NothingToDo
-routing_back (gives (picks ps)) = Routing.Picked
-routing_back (refused n) =
-    if n =? 2 then Routing.BrokenState else
-    if n =? 16 then Routing.ListMalformed else
-    if n =? 18 then Routing.NoAddressHeld else
-    Routing.BadFrame (frame_laws.bad_back n)
-
-routing_back_lem : (r : Routing) (ps : List ℕ) → routing_back (told_routing r ps) ≡ r
-unfolding routing_back
-routing_back_lem Routing.NothingToDo ps = refl
-routing_back_lem Routing.Picked ps = refl
-routing_back_lem Routing.BrokenState ps = refl
-routing_back_lem (Routing.BadFrame IdentifierTooLarge) ps = ap Routing.BadFrame (frame_laws.bad_back_lem IdentifierTooLarge)
-routing_back_lem (Routing.BadFrame NotEightBytes) ps = ap Routing.BadFrame (frame_laws.bad_back_lem NotEightBytes)
-routing_back_lem (Routing.BadFrame ReservedBitSet) ps = ap Routing.BadFrame (frame_laws.bad_back_lem ReservedBitSet)
-routing_back_lem (Routing.BadFrame SourceNotAllowed) ps = ap Routing.BadFrame (frame_laws.bad_back_lem SourceNotAllowed)
-routing_back_lem Routing.ListMalformed ps = refl
-routing_back_lem Routing.NoAddressHeld ps = refl
+told_starting_same (Ok u) (Ok v) e = refl
+told_starting_same (Ok u) (Err w) e = refused_gives (sym e)
+told_starting_same (Err v) (Ok u) e = refused_gives e
+told_starting_same (Err v) (Err w) e = ap Err (not_started_same v w (refused_same e))
 
 pub told_routing_same : the.ToldRoutingSame
-told_routing_same r s ps qs e = sym (routing_back_lem r ps) ∙ ap routing_back e ∙ routing_back_lem s qs
-
-requesting_back : Told Reply → Requesting
-requesting_back (gives Requests.nothing_to_do) = Requesting.NothingToDo
-requesting_back (gives (claims f)) = Requesting.SendClaim
-requesting_back (gives (supported ps)) = Requesting.Supported
-requesting_back (gives (nak f)) = Requesting.SendNak
-requesting_back (gives unsupported) = Requesting.Unsupported
-requesting_back (refused n) =
-    if n =? 2 then Requesting.BrokenState else
-    if n =? 16 then Requesting.ListMalformed else
-    if n =? 17 then Requesting.DgnTooLarge else
-    if n =? 18 then Requesting.NoAddressHeld else
-    Requesting.BadFrame (frame_laws.bad_back n)
-
-requesting_back_lem : (r : Requesting) (ps : List ℕ) (f : Frame) → requesting_back (told_requesting r ps f) ≡ r
-unfolding requesting_back
-requesting_back_lem Requesting.NothingToDo ps f = refl
-requesting_back_lem Requesting.SendClaim ps f = refl
-requesting_back_lem Requesting.Supported ps f = refl
-requesting_back_lem Requesting.SendNak ps f = refl
-requesting_back_lem Requesting.Unsupported ps f = refl
-requesting_back_lem Requesting.BrokenState ps f = refl
-requesting_back_lem (Requesting.BadFrame IdentifierTooLarge) ps f = ap Requesting.BadFrame (frame_laws.bad_back_lem IdentifierTooLarge)
-requesting_back_lem (Requesting.BadFrame NotEightBytes) ps f = ap Requesting.BadFrame (frame_laws.bad_back_lem NotEightBytes)
-requesting_back_lem (Requesting.BadFrame ReservedBitSet) ps f = ap Requesting.BadFrame (frame_laws.bad_back_lem ReservedBitSet)
-requesting_back_lem (Requesting.BadFrame SourceNotAllowed) ps f = ap Requesting.BadFrame (frame_laws.bad_back_lem SourceNotAllowed)
-requesting_back_lem Requesting.ListMalformed ps f = refl
-requesting_back_lem Requesting.DgnTooLarge ps f = refl
-requesting_back_lem Requesting.NoAddressHeld ps f = refl
+told_routing_same (Ok a) (Ok b) ps qs e =
+    ap Ok (sym (choice_back_lem a ps) ∙ ap choice_back (gives_same e) ∙ choice_back_lem b qs)
+told_routing_same (Ok a) (Err w) ps qs e = refused_gives (sym e)
+told_routing_same (Err v) (Ok b) ps qs e = refused_gives e
+told_routing_same (Err v) (Err w) ps qs e = ap Err (not_routed_same v w (refused_same e))
 
 pub told_requesting_same : the.ToldRequestingSame
-told_requesting_same r s ps qs f g e = sym (requesting_back_lem r ps f) ∙ ap requesting_back e ∙ requesting_back_lem s qs g
-
-acknowledging_back : Told Frame → Acknowledging
-acknowledging_back (gives f) = Acknowledging.Send
-acknowledging_back (refused n) =
-    if n =? 2 then Acknowledging.BrokenState else
-    if n =? 6 then Acknowledging.RequesterNotAllowed else
-    if n =? 16 then Acknowledging.ListMalformed else
-    if n =? 17 then Acknowledging.DgnTooLarge else
-    Acknowledging.NoAddressHeld
-
-acknowledging_back_lem : (r : Acknowledging) (f : Frame) → acknowledging_back (told_acknowledging r f) ≡ r
-unfolding acknowledging_back
-acknowledging_back_lem Acknowledging.Send f = refl
-acknowledging_back_lem Acknowledging.BrokenState f = refl
-acknowledging_back_lem Acknowledging.RequesterNotAllowed f = refl
-acknowledging_back_lem Acknowledging.ListMalformed f = refl
-acknowledging_back_lem Acknowledging.DgnTooLarge f = refl
-acknowledging_back_lem Acknowledging.NoAddressHeld f = refl
+told_requesting_same (Ok a) (Ok b) ps qs f g e =
+    ap Ok (sym (response_back_lem a ps f) ∙ ap response_back (gives_same e) ∙ response_back_lem b qs g)
+told_requesting_same (Ok a) (Err w) ps qs f g e = refused_gives (sym e)
+told_requesting_same (Err v) (Ok b) ps qs f g e = refused_gives e
+told_requesting_same (Err v) (Err w) ps qs f g e = ap Err (not_answered_same v w (refused_same e))
 
 pub told_acknowledging_same : the.ToldAcknowledgingSame
-told_acknowledging_same r s f g e = sym (acknowledging_back_lem r f) ∙ ap acknowledging_back e ∙ acknowledging_back_lem s g
+told_acknowledging_same (Ok u) (Ok v) f g e = refl
+told_acknowledging_same (Ok u) (Err w) f g e = refused_gives (sym e)
+told_acknowledging_same (Err v) (Ok u) f g e = refused_gives e
+told_acknowledging_same (Err v) (Err w) f g e = ap Err (not_acknowledged_same v w (refused_same e))
+
+-- the number of a refusal, as an answer gives it, is that of the refusal which is told
+
+pub starting_refusal_told : the.StartingRefusalTold
+starting_refusal_told (Ok u) = record { number = refl }
+starting_refusal_told (Err why) = record { number = refl }
+
+pub routing_refusal_told : the.RoutingRefusalTold
+routing_refusal_told (Ok choice) = record { number = refl }
+routing_refusal_told (Err why) = record { number = refl }
+
+pub requesting_refusal_told : the.RequestingRefusalTold
+requesting_refusal_told (Ok response) = record { number = refl }
+requesting_refusal_told (Err why) = record { number = refl }
+
+pub acknowledging_refusal_told : the.AcknowledgingRefusalTold
+acknowledging_refusal_told (Ok u) = record { number = refl }
+acknowledging_refusal_told (Err why) = record { number = refl }
 
 -- no second answer
 
@@ -168,14 +216,26 @@ acknowledge_only c reply r s p q =
     let b = p.sent_bytes ∙ sym q.sent_bytes in
     λ i. record { answer = a i; id = d i; bytes = b i }
 
+pub not_started_refusal_only : the.NotStartedRefusalOnly
+not_started_refusal_only why r s p q = p.number ∙ sym q.number
+
 pub starting_refusal_only : the.StartingRefusalOnly
 starting_refusal_only answer r s p q = p.number ∙ sym q.number
+
+pub not_routed_refusal_only : the.NotRoutedRefusalOnly
+not_routed_refusal_only why r s p q = p.number ∙ sym q.number
 
 pub routing_refusal_only : the.RoutingRefusalOnly
 routing_refusal_only answer r s p q = p.number ∙ sym q.number
 
+pub not_answered_refusal_only : the.NotAnsweredRefusalOnly
+not_answered_refusal_only why r s p q = p.number ∙ sym q.number
+
 pub requesting_refusal_only : the.RequestingRefusalOnly
 requesting_refusal_only answer r s p q = p.number ∙ sym q.number
+
+pub not_acknowledged_refusal_only : the.NotAcknowledgedRefusalOnly
+not_acknowledged_refusal_only why r s p q = p.number ∙ sym q.number
 
 pub acknowledging_refusal_only : the.AcknowledgingRefusalOnly
 acknowledging_refusal_only answer r s p q = p.number ∙ sym q.number
@@ -183,32 +243,16 @@ acknowledging_refusal_only answer r s p q = p.number ∙ sym q.number
 -- the number of a refusal is the same whatever stands beside
 
 pub routing_refusal_any : the.RoutingRefusalAny
-routing_refusal_any Routing.NothingToDo r ps p = p.number
-routing_refusal_any Routing.Picked r ps p = p.number
-routing_refusal_any Routing.BrokenState r ps p = p.number
-routing_refusal_any (Routing.BadFrame why) r ps p = p.number
-routing_refusal_any Routing.ListMalformed r ps p = p.number
-routing_refusal_any Routing.NoAddressHeld r ps p = p.number
+routing_refusal_any (Ok choice) r ps p = p.number
+routing_refusal_any (Err why) r ps p = p.number
 
 pub requesting_refusal_any : the.RequestingRefusalAny
-requesting_refusal_any Requesting.NothingToDo r ps frame p = p.number
-requesting_refusal_any Requesting.SendClaim r ps frame p = p.number
-requesting_refusal_any Requesting.Supported r ps frame p = p.number
-requesting_refusal_any Requesting.SendNak r ps frame p = p.number
-requesting_refusal_any Requesting.Unsupported r ps frame p = p.number
-requesting_refusal_any Requesting.BrokenState r ps frame p = p.number
-requesting_refusal_any (Requesting.BadFrame why) r ps frame p = p.number
-requesting_refusal_any Requesting.ListMalformed r ps frame p = p.number
-requesting_refusal_any Requesting.DgnTooLarge r ps frame p = p.number
-requesting_refusal_any Requesting.NoAddressHeld r ps frame p = p.number
+requesting_refusal_any (Ok response) r ps frame p = p.number
+requesting_refusal_any (Err why) r ps frame p = p.number
 
 pub acknowledging_refusal_any : the.AcknowledgingRefusalAny
-acknowledging_refusal_any Acknowledging.Send r frame p = p.number
-acknowledging_refusal_any Acknowledging.BrokenState r frame p = p.number
-acknowledging_refusal_any Acknowledging.RequesterNotAllowed r frame p = p.number
-acknowledging_refusal_any Acknowledging.ListMalformed r frame p = p.number
-acknowledging_refusal_any Acknowledging.DgnTooLarge r frame p = p.number
-acknowledging_refusal_any Acknowledging.NoAddressHeld r frame p = p.number
+acknowledging_refusal_any (Ok u) r frame p = p.number
+acknowledging_refusal_any (Err why) r frame p = p.number
 
 -- a refusal keeps
 

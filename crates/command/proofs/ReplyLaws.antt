@@ -1,5 +1,6 @@
 -- The laws of replies, proved: what each shows of the claim, the request and the frame that is sent.
 -- Assumes nothing.
+use Rattle.std.specs.Prelude.{Ok, Err}
 use mathlib.Core.Path.{◌≡◌, refl, sym, ap, ◌∙◌}
 use mathlib.Core.Bool.{true, false, not}
 use mathlib.Core.List.{List}
@@ -37,13 +38,13 @@ use Rattle.command.specs.Acknowledgment.{acknowledgment_frame, acknowledged_of}
 use Rattle.command.specs.Requests as Requests
 use Rattle.command.specs.Requests.{requested_dgn, Asked, asked_of, supports, is_our_address, is_ours, nak_to, Reply}
 use Rattle.command.specs.Requests.{claims, supported, nak, unsupported, status_of, reply_of, answer_of, requested_of}
+use Rattle.command.specs.Promises.{Requesting, Acknowledging}
 use Rattle.command.specs.Promises.{sent_in, told_requesting, told_acknowledging}
 use Rattle.command.specs.Laws as the
 use Rattle.command.specs.declared.Entry.{Entry}
 use Rattle.command.specs.declared.Host.{Host}
-use Rattle.command.specs.declared.Requesting.{Requesting}
 use Rattle.command.specs.declared.Acknowledgment.{Acknowledgment}
-use Rattle.command.specs.declared.Acknowledging.{Acknowledging}
+use Rattle.command.specs.declared.Response.{Response}
 use Rattle.command.proofs.Handing.{handed_fine}
 use Rattle.command.proofs.Answers.{acknowledged_held, reply_elsewhere, status_supported, status_global}
 use Rattle.command.proofs.Answers.{status_nobody, status_nak}
@@ -287,17 +288,15 @@ nak_is_sound id bytes h c frame e =
     })
 
 -- no other answer has a frame
-unsent : (a : Requesting) (ps : List ℕ) (frame : Frame) → (a ≡ Requesting.SendNak → ⊥) → (a ≡ Requesting.SendClaim → ⊥) → sent_in (told_requesting a ps frame) ≡ no_frame
-unsent Requesting.NothingToDo ps frame n m = refl
-unsent Requesting.SendClaim ps frame n m = absurd (m refl)
-unsent Requesting.Supported ps frame n m = refl
-unsent Requesting.SendNak ps frame n m = absurd (n refl)
-unsent Requesting.Unsupported ps frame n m = refl
-unsent Requesting.BrokenState ps frame n m = refl
-unsent (Requesting.BadFrame why) ps frame n m = refl
-unsent Requesting.ListMalformed ps frame n m = refl
-unsent Requesting.DgnTooLarge ps frame n m = refl
-unsent Requesting.NoAddressHeld ps frame n m = refl
+unsent : (a : Requesting) (ps : List ℕ) (frame : Frame)
+    → (a ≡ Ok Response.SendNak → ⊥) → (a ≡ Ok Response.SendClaim → ⊥)
+    → sent_in (told_requesting a ps frame) ≡ no_frame
+unsent (Ok Response.NothingToDo) ps frame n m = refl
+unsent (Ok Response.SendClaim) ps frame n m = absurd (m refl)
+unsent (Ok Response.Supported) ps frame n m = refl
+unsent (Ok Response.SendNak) ps frame n m = absurd (n refl)
+unsent (Ok Response.Unsupported) ps frame n m = refl
+unsent (Err why) ps frame n m = refl
 
 pub request_sends_ours : the.RequestSendsOurs
 request_sends_ours id bytes h c r p =

@@ -1,5 +1,6 @@
 -- The laws of EE00h and of who holds no address (specs/Laws.antt), proved: which requests are ours, and how 18 came about.
 -- Assumes nothing.
+use Rattle.std.specs.Prelude.{Ok, Err}
 use mathlib.Core.Path.{◌≡◌, refl, sym, ap, ◌∙◌}
 use mathlib.Core.Bool.{true}
 use mathlib.Core.List.{List, []}
@@ -28,11 +29,12 @@ use Rattle.command.specs.Handed.{handed_in, address_held}
 use Rattle.command.specs.Requests as Requests
 use Rattle.command.specs.Requests.{requested_dgn, Asked, asked_of, is_ours, is_our_address, Reply, claims, status_of}
 use Rattle.command.specs.Requests.{reply_of, answer_of, requested_of}
+use Rattle.command.specs.Promises.{Requesting}
 use Rattle.command.specs.Promises.{Request, told_requesting}
 use Rattle.command.specs.Laws as the
 use Rattle.command.specs.declared.Host.{Host}
-use Rattle.command.specs.declared.Requesting.{Requesting}
-use Rattle.command.specs.declared.Requesting.TheVariants.{SendClaim, NoAddressHeld}
+use Rattle.command.specs.declared.Response.TheVariants.{SendClaim}
+use Rattle.command.specs.declared.NotAnswered.TheVariants.{NoAddressHeld}
 use Rattle.command.specs.declared.Requested.{Requested}
 use Rattle.command.proofs.Answers.{reply_claims, reply_unheld, answer_reply, requested_given}
 use Rattle.command.proofs.Laws.{told_requesting_same}
@@ -152,13 +154,13 @@ module _ (id : ℕ) (bytes : List ℕ) (h : Host) (c : Claim) where
     tells : (a : Requesting) → r.answer ≡ a → requested_of id bytes h c ≡ told_requesting a (listed r.positions) sent_by
     tells a e = sym q.answer ∙ ap (λ (x : Requesting). told_requesting x (listed r.positions) sent_by) e
 
-    claim_came : {P : Type 0} → r.answer ≡ SendClaim
+    claim_came : {P : Type 0} → r.answer ≡ Ok SendClaim
         → ((a : the.AsksFor id bytes h c (destination_of (dgn_of id)) (requested_dgn bytes))
         → is_ours (asked_of h.edition a.parts bytes) (stand_of c) ≡ true → requested_dgn bytes ≡ address_claimed
         → sent_by ≡ claim_frame c → P)
         → P
     claim_came e k =
-        came_from (gives (claims sent_by)) (tells SendClaim e) claims_is_other (λ z. refused_gives (sym z))
+        came_from (gives (claims sent_by)) (tells (Ok SendClaim) e) claims_is_other (λ z. refused_gives (sym z))
         (λ z. refused_gives (sym z)) (λ z. refused_gives (sym z)) (λ why z. refused_gives (sym z))
         (λ a t.
         let asked = asked_of h.edition a.parts bytes in
@@ -166,7 +168,7 @@ module _ (id : ℕ) (bytes : List ℕ) (h : Host) (c : Claim) where
         (λ o d f. k a o d f))
 
     claim_sent : (destination : ℕ) → the.AsksFor id bytes h c destination address_claimed
-        → (destination ≡ everyone) ⊎ the.HoldsOrClaims c destination → r.answer ≡ SendClaim
+        → (destination ≡ everyone) ⊎ the.HoldsOrClaims c destination → r.answer ≡ Ok SendClaim
     claim_sent destination a w =
         let asked = asked_of h.edition a.parts bytes in
         let own : is_ours asked (stand_of c) ≡ true =
@@ -175,11 +177,11 @@ module _ (id : ℕ) (bytes : List ℕ) (h : Host) (c : Claim) where
           | inr (inl s) ↦ rw s (ours_at_held asked destination a.to)
           | inr (inr s) ↦ rw s (ours_at_claimed asked destination a.asked a.to)
         ] in
-        told_requesting_same r.answer SendClaim (listed r.positions) [] sent_by (claim_frame c)
+        told_requesting_same r.answer (Ok SendClaim) (listed r.positions) [] sent_by (claim_frame c)
         (q.answer ∙ asks_reply destination address_claimed a
         ∙ reply_claims asked (hosted h) c (stand_of c) refl own a.asked)
 
-    claim_asked : r.answer ≡ SendClaim
+    claim_asked : r.answer ≡ Ok SendClaim
         → (destination : ℕ) × the.AsksFor id bytes h c destination address_claimed
         × ((destination ≡ everyone) ⊎ the.HoldsOrClaims c destination)
     unfolding Why
@@ -242,11 +244,11 @@ module _ (id : ℕ) (bytes : List ℕ) (h : Host) (c : Claim) where
           λ address z. let y : ◌≡◌ {A = ℕ} 0 1 = cc in omega arith,
         )
 
-    unheld_asked : r.answer ≡ NoAddressHeld
+    unheld_asked : r.answer ≡ Err NoAddressHeld
         → (dgn : ℕ) × the.AsksFor id bytes h c everyone dgn × (dgn ≡ address_claimed → ⊥)
         × ((address : ℕ) → stand_of c ≡ held address → ⊥)
     unheld_asked e =
-        came_from (refused 18) (tells NoAddressHeld e) refused_gives (other_number 18 2 (λ z. omega arith))
+        came_from (refused 18) (tells (Err NoAddressHeld) e) refused_gives (other_number 18 2 (λ z. omega arith))
         (other_number 18 16 (λ z. omega arith)) (other_number 18 17 (λ z. omega arith))
         (λ why. other_number 18 (refusal_of why) (no_eighteen why))
         (λ a t.
@@ -271,10 +273,10 @@ module _ (id : ℕ) (bytes : List ℕ) (h : Host) (c : Claim) where
     held_not silent n = refl
 
     unheld_told : (dgn : ℕ) → the.AsksFor id bytes h c everyone dgn → (dgn ≡ address_claimed → ⊥)
-        → ((address : ℕ) → stand_of c ≡ held address → ⊥) → r.answer ≡ NoAddressHeld
+        → ((address : ℕ) → stand_of c ≡ held address → ⊥) → r.answer ≡ Err NoAddressHeld
     unheld_told dgn a d n =
         let asked = asked_of h.edition a.parts bytes in
-        told_requesting_same r.answer NoAddressHeld (listed r.positions) [] sent_by no_frame
+        told_requesting_same r.answer (Err NoAddressHeld) (listed r.positions) [] sent_by no_frame
         (q.answer ∙ asks_reply everyone dgn a
         ∙ reply_unheld asked (hosted h) c (stand_of c) refl (ours_to_all asked (stand_of c) a.to)
         (λ z. d (sym a.asked ∙ z)) (held_not (stand_of c) n))

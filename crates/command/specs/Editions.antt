@@ -1,7 +1,7 @@
 -- The two editions of requests (RULES 10.27 to 10.34; 001, 3.2.4.3 and 3.2.4.4 as it proposes them), over runs of two
 -- calls: a node is started in an edition, and the host that the start gave hears a request. proofs/Editions.antt has a
 -- proof of each law, under the same name written small.
-use Rattle.std.specs.Prelude.{◌≡◌, Bool, true, not, List, [], ◌∷◌, ◌++◌, ◌⊎◌, ◌↔◌, ℕ, ◌+◌, ◌≤◌, ◌<◌, length, take, get_or, replicate, if◌then◌else◌}
+use Rattle.std.specs.Prelude.{◌≡◌, Bool, true, not, List, [], ◌∷◌, ◌++◌, ◌⊎◌, ◌↔◌, ℕ, ◌+◌, ◌≤◌, ◌<◌, length, take, get_or, replicate, Ok, if◌then◌else◌}
 use Rattle.words.specs.Words.{◌<?◌, ◌=?◌, Told, refused, gives, given◌then◌}
 use Rattle.words.specs.Lists.{any}
 use Rattle.frame.specs.Identifier.{greatest_dgn, dgn_of, source_of, parts_of, destination_of, catalogue_form}
@@ -26,10 +26,9 @@ use Rattle.command.specs.declared.Edition.TheVariants.{One, Two}
 use Rattle.command.specs.declared.Entry.{Entry}
 use Rattle.command.specs.declared.Host.{Host}
 use Rattle.command.specs.declared.Started.{Started}
-use Rattle.command.specs.declared.Starting.TheVariants.{Hosted}
 use Rattle.command.specs.declared.Routed.{Routed}
 use Rattle.command.specs.declared.Requested.{Requested}
-use Rattle.command.specs.declared.Requesting.TheVariants.{Supported, SendNak, Unsupported}
+use Rattle.command.specs.declared.Response.TheVariants.{Supported, SendNak, Unsupported}
 
 -- A run: what the two calls are handed, and what they answer.
 pub record Run : Type 0 where
@@ -46,7 +45,7 @@ pub record Run : Type 0 where
 pub record Ran (run : Run) : Type 0 where
   pub array : length run.entries ≡ most_entries
   pub start : Start run.entries run.count run.edition run.started
-  pub hosts : run.started.answer ≡ Hosted
+  pub hosts : run.started.answer ≡ Ok tt
   pub request : Request run.id run.bytes run.started.host run.claim run.answered
 
 -- What is asked: by whom, of whom, for which DGN; and byte 3.
@@ -91,7 +90,7 @@ Supports run k =
 
 -- The answer is positions, lowest first: exactly these entries are to send their status. There is no NAK.
 pub record Reports (run : Run) (who : ℕ → Type 0) : Type 0 where
-  pub answer : run.answered.answer ≡ Supported
+  pub answer : run.answered.answer ≡ Ok Supported
   pub exactly : (k : ℕ) → StandsIn k (listed run.answered.positions) ↔ who k
   pub rise : (i j : ℕ) → i < j → j < length (listed run.answered.positions)
       → get_or (listed run.answered.positions) i 0 < get_or (listed run.answered.positions) j 0
@@ -99,7 +98,7 @@ pub record Reports (run : Run) (who : ℕ → Type 0) : Type 0 where
 
 -- The answer is a NAK from this address to the requester alone, with this instance in byte 1, and no positions.
 pub record SendsNak (run : Run) (address instance : ℕ) : Type 0 where
-  pub answer : run.answered.answer ≡ SendNak
+  pub answer : run.answered.answer ≡ Ok SendNak
   pub identifier : checked_of run.answered.id (length run.answered.bytes)
       ≡ gives (record { priority = 6; dgn = 0xE800 + requester run; source = address })
   pub data_bytes : run.answered.bytes ≡ 1 ∷ instance ∷ 0xFF ∷ 0xFF ∷ requester run ∷ dgn_bytes (dgn_asked run)
@@ -111,37 +110,37 @@ pub record SendsNak (run : Run) (address instance : ℕ) : Type 0 where
 abbrev pub ReportsExactly : Type 0
 ReportsExactly =
     (run : Run) → Ran run
-    → (run.answered.answer ≡ Supported) ↔ ((address : ℕ) × Hears run address × ((k : ℕ) × Supports run k))
+    → (run.answered.answer ≡ Ok Supported) ↔ ((address : ℕ) × Hears run address × ((k : ℕ) × Supports run k))
 
 abbrev pub PositionsExactly : Type 0
-PositionsExactly = (run : Run) → Ran run → run.answered.answer ≡ Supported → Reports run (Supports run)
+PositionsExactly = (run : Run) → Ran run → run.answered.answer ≡ Ok Supported → Reports run (Supports run)
 
 abbrev pub NakExactly : Type 0
 NakExactly =
     (run : Run) → Ran run
-    → (run.answered.answer ≡ SendNak)
+    → (run.answered.answer ≡ Ok SendNak)
     ↔ ((address : ℕ) × Hears run address × ((k : ℕ) → Supports run k → ⊥) × (destination run ≡ address)
     × (requester run ≡ no_address → ⊥))
 
 abbrev pub NakNames : Type 0
 NakNames =
-    (run : Run) (address : ℕ) → Ran run → Hears run address → run.answered.answer ≡ SendNak
+    (run : Run) (address : ℕ) → Ran run → Hears run address → run.answered.answer ≡ Ok SendNak
     → SendsNak run address (instance_asked run.edition run.bytes)
 
 abbrev pub QuietExactly : Type 0
 QuietExactly =
     (run : Run) → Ran run
-    → (run.answered.answer ≡ Unsupported)
+    → (run.answered.answer ≡ Ok Unsupported)
     ↔ ((address : ℕ) × Hears run address × ((k : ℕ) → Supports run k → ⊥)
     × ((destination run ≡ everyone) ⊎ (requester run ≡ no_address)))
 
 -- 001, 3.2.4.4, first circumstance. A request to everyone gets no NAK; nor does a requester that has no address.
 
 abbrev pub GlobalNoNak : Type 0
-GlobalNoNak = (run : Run) → Ran run → destination run ≡ everyone → run.answered.answer ≡ SendNak → ⊥
+GlobalNoNak = (run : Run) → Ran run → destination run ≡ everyone → run.answered.answer ≡ Ok SendNak → ⊥
 
 abbrev pub NobodyNoNak : Type 0
-NobodyNoNak = (run : Run) → Ran run → requester run ≡ no_address → run.answered.answer ≡ SendNak → ⊥
+NobodyNoNak = (run : Run) → Ran run → requester run ≡ no_address → run.answered.answer ≡ Ok SendNak → ⊥
 
 -- Edition two, a request for all instances: if an entry supports the DGN, whatever its instance is, each that does is
 -- to answer, and there is no NAK; a request to us alone gets the NAK if none of them does, and only then.
@@ -159,7 +158,7 @@ AllNak =
 
 abbrev pub AllNakOnly : Type 0
 AllNakOnly =
-    (run : Run) → Ran run → run.edition ≡ Two → byte_three run ≡ 0xFF → run.answered.answer ≡ SendNak
+    (run : Run) → Ran run → run.edition ≡ Two → byte_three run ≡ 0xFF → run.answered.answer ≡ Ok SendNak
     → (k : ℕ) → SupportsDgn run k → ⊥
 
 -- Edition two, a request for one instance, the third circumstance: its entries answer; if it has none that supports the
@@ -180,7 +179,7 @@ OneNak =
 abbrev pub OneNakOnly : Type 0
 OneNakOnly =
     (run : Run) (instance : ℕ) → Ran run → run.edition ≡ Two → byte_three run ≡ instance
-    → run.answered.answer ≡ SendNak
+    → run.answered.answer ≡ Ok SendNak
     → (k : ℕ) → SupportsAs instance run k → ⊥
 
 -- Edition two: nobody has the instances 0 and 251 to 254.

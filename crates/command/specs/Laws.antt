@@ -1,7 +1,7 @@
 -- The laws of this crate (RULES 10), each a named statement. proofs/Laws.antt, proofs/PositionLaws.antt,
 -- proofs/ReplyLaws.antt and proofs/Unheld.antt have a proof of each, under the same name written small.
-use Rattle.std.specs.Prelude.{◌≡◌, Bool, true, false, List, [], ◌∷◌, ◌⊎◌, ◌↔◌, ℕ, ◌+◌, ◌≤◌, ◌<◌, ◌%◌, ◌^◌, length, take, get_or}
-use Rattle.words.specs.Words.{refused, gives, number_in, done}
+use Rattle.std.specs.Prelude.{◌≡◌, Bool, true, false, List, [], ◌∷◌, ◌⊎◌, ◌↔◌, ℕ, ◌+◌, ◌≤◌, ◌<◌, ◌%◌, ◌^◌, length, take, get_or, Ok, Err}
+use Rattle.words.specs.Words.{refused, gives, number_in, number_of_answer, done}
 use Rattle.words.specs.Lists.{any}
 use Rattle.frame.specs.Identifier.{identifiers, greatest_dgn, dgn_of, source_of, parts_of, is_addressed, destination_of}
 use Rattle.frame.specs.Identifier.{catalogue_form}
@@ -23,23 +23,27 @@ use Rattle.command.specs.Acknowledgment.{acknowledgment_priority, acknowledged_o
 use Rattle.command.specs.Requests as Requests
 use Rattle.command.specs.Requests.{requested_dgn, Asked, asked_of, supports, supported, nak, unsupported, reply_of}
 use Rattle.command.specs.Requests.{requested_of}
+use Rattle.command.specs.Promises.{NotStartedRefusal, NotRoutedRefusal, NotAnsweredRefusal, NotAcknowledgedRefusal}
+use Rattle.command.specs.Promises.{Starting, Routing, Requesting, Acknowledging}
+use Rattle.command.specs.Promises.{number_of_not_started, number_of_not_routed, number_of_not_answered}
+use Rattle.command.specs.Promises.{number_of_not_acknowledged}
 use Rattle.command.specs.Promises.{Start, Route, Request, Acknowledge, StartingRefusal, RoutingRefusal}
 use Rattle.command.specs.Promises.{RequestingRefusal, AcknowledgingRefusal, told_starting, told_routing}
 use Rattle.command.specs.Promises.{told_requesting, told_acknowledging}
 use Rattle.command.specs.declared.Edition.{Edition}
 use Rattle.command.specs.declared.Entry.{Entry}
 use Rattle.command.specs.declared.Host.{Host}
-use Rattle.command.specs.declared.Starting.{Starting}
 use Rattle.command.specs.declared.Started.{Started}
-use Rattle.command.specs.declared.Routing.{Routing}
 use Rattle.command.specs.declared.Routed.{Routed}
-use Rattle.command.specs.declared.Requesting.{Requesting}
-use Rattle.command.specs.declared.Requesting.TheVariants.{SendClaim, SendNak, NoAddressHeld}
+use Rattle.command.specs.declared.Response.TheVariants.{SendClaim, SendNak}
+use Rattle.command.specs.declared.NotAnswered.TheVariants.{NoAddressHeld}
 use Rattle.command.specs.declared.Requested.{Requested}
 use Rattle.command.specs.declared.Acknowledgment.{Acknowledgment}
-use Rattle.command.specs.declared.Acknowledging.{Acknowledging}
-use Rattle.command.specs.declared.Acknowledging.TheVariants.{Send}
 use Rattle.command.specs.declared.Acknowledged.{Acknowledged}
+use Rattle.command.specs.declared.NotStarted.{NotStarted}
+use Rattle.command.specs.declared.NotRouted.{NotRouted}
+use Rattle.command.specs.declared.NotAnswered.{NotAnswered}
+use Rattle.command.specs.declared.NotAcknowledged.{NotAcknowledged}
 
 -- An answer read as number and values loses nothing (RULES 2.10).
 
@@ -77,19 +81,47 @@ abbrev pub AcknowledgeOnly : Type 0
 AcknowledgeOnly =
     (c : Claim) (a : Acknowledgment) (r s : Acknowledged) → Acknowledge c a r → Acknowledge c a s → r ≡ s
 
+abbrev pub NotStartedRefusalOnly : Type 0
+NotStartedRefusalOnly = (why : NotStarted) (r s : ℕ) → NotStartedRefusal why r → NotStartedRefusal why s → r ≡ s
+
 abbrev pub StartingRefusalOnly : Type 0
 StartingRefusalOnly = (answer : Starting) (r s : ℕ) → StartingRefusal answer r → StartingRefusal answer s → r ≡ s
 
+abbrev pub NotRoutedRefusalOnly : Type 0
+NotRoutedRefusalOnly = (why : NotRouted) (r s : ℕ) → NotRoutedRefusal why r → NotRoutedRefusal why s → r ≡ s
+
 abbrev pub RoutingRefusalOnly : Type 0
 RoutingRefusalOnly = (answer : Routing) (r s : ℕ) → RoutingRefusal answer r → RoutingRefusal answer s → r ≡ s
+
+abbrev pub NotAnsweredRefusalOnly : Type 0
+NotAnsweredRefusalOnly = (why : NotAnswered) (r s : ℕ) → NotAnsweredRefusal why r → NotAnsweredRefusal why s → r ≡ s
 
 abbrev pub RequestingRefusalOnly : Type 0
 RequestingRefusalOnly =
     (answer : Requesting) (r s : ℕ) → RequestingRefusal answer r → RequestingRefusal answer s → r ≡ s
 
+abbrev pub NotAcknowledgedRefusalOnly : Type 0
+NotAcknowledgedRefusalOnly = (why : NotAcknowledged) (r s : ℕ) → NotAcknowledgedRefusal why r → NotAcknowledgedRefusal why s → r ≡ s
+
 abbrev pub AcknowledgingRefusalOnly : Type 0
 AcknowledgingRefusalOnly =
     (answer : Acknowledging) (r s : ℕ) → AcknowledgingRefusal answer r → AcknowledgingRefusal answer s → r ≡ s
+
+-- The number that an answer gives for its refusal is the one that is told of it, and 0 where there is none.
+
+abbrev pub StartingRefusalTold : Type 0
+StartingRefusalTold = (answer : Starting) → StartingRefusal answer (number_of_answer number_of_not_started answer)
+
+abbrev pub RoutingRefusalTold : Type 0
+RoutingRefusalTold = (answer : Routing) → RoutingRefusal answer (number_of_answer number_of_not_routed answer)
+
+abbrev pub RequestingRefusalTold : Type 0
+RequestingRefusalTold =
+    (answer : Requesting) → RequestingRefusal answer (number_of_answer number_of_not_answered answer)
+
+abbrev pub AcknowledgingRefusalTold : Type 0
+AcknowledgingRefusalTold =
+    (answer : Acknowledging) → AcknowledgingRefusal answer (number_of_answer number_of_not_acknowledged answer)
 
 -- The number of a refusal is the answer's alone: it is the same whatever positions and frame stand beside.
 
@@ -308,19 +340,19 @@ HoldsOrClaims c address = (stand_of c ≡ held address) ⊎ (stand_of c ≡ clai
 abbrev pub ClaimExactly : Type 0
 ClaimExactly =
     (id : ℕ) (bytes : List ℕ) (h : Host) (c : Claim) (r : Requested) → Request id bytes h c r
-    → (r.answer ≡ SendClaim)
+    → (r.answer ≡ Ok SendClaim)
     ↔ ((destination : ℕ) × AsksFor id bytes h c destination address_claimed
     × ((destination ≡ everyone) ⊎ HoldsOrClaims c destination))
 
 abbrev pub ClaimGiven : Type 0
 ClaimGiven =
     (id : ℕ) (bytes : List ℕ) (h : Host) (c : Claim) (r : Requested) → Request id bytes h c r
-    → r.answer ≡ SendClaim → OurFrameOf c r.id r.bytes
+    → r.answer ≡ Ok SendClaim → OurFrameOf c r.id r.bytes
 
 abbrev pub UnheldExactly : Type 0
 UnheldExactly =
     (id : ℕ) (bytes : List ℕ) (h : Host) (c : Claim) (r : Requested) → Request id bytes h c r
-    → (r.answer ≡ NoAddressHeld)
+    → (r.answer ≡ Err NoAddressHeld)
     ↔ ((dgn : ℕ) × AsksFor id bytes h c everyone dgn × (dgn ≡ address_claimed → ⊥)
     × ((address : ℕ) → stand_of c ≡ held address → ⊥))
 
@@ -357,13 +389,13 @@ NakIsSound =
 abbrev pub RequestSendsOurs : Type 0
 RequestSendsOurs =
     (id : ℕ) (bytes : List ℕ) (h : Host) (c : Claim) (r : Requested) → Request id bytes h c r
-    → (r.answer ≡ SendNak → (address : ℕ) × (stand_of c ≡ held address) × (source_of r.id ≡ address))
-    × (r.answer ≡ SendClaim → (requested_dgn bytes ≡ address_claimed) × (source_of r.id ≡ claim_source c))
-    × ((r.answer ≡ SendNak → ⊥) → (r.answer ≡ SendClaim → ⊥) → NoFrame r.id r.bytes)
+    → (r.answer ≡ Ok SendNak → (address : ℕ) × (stand_of c ≡ held address) × (source_of r.id ≡ address))
+    × (r.answer ≡ Ok SendClaim → (requested_dgn bytes ≡ address_claimed) × (source_of r.id ≡ claim_source c))
+    × ((r.answer ≡ Ok SendNak → ⊥) → (r.answer ≡ Ok SendClaim → ⊥) → NoFrame r.id r.bytes)
 
 abbrev pub AcknowledgeSendsOurs : Type 0
 AcknowledgeSendsOurs =
-    (c : Claim) (a : Acknowledgment) (r : Acknowledged) → Acknowledge c a r → r.answer ≡ Send
+    (c : Claim) (a : Acknowledgment) (r : Acknowledged) → Acknowledge c a r → r.answer ≡ Ok tt
     → (address : ℕ) × (stand_of c ≡ held address)
     × (checked_of r.id (length r.bytes)
     ≡ gives (record { priority = acknowledgment_priority; dgn = acknowledgment_dgn + a.requester; source = address }))

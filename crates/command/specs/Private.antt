@@ -1,28 +1,20 @@
 -- What the private functions of this crate promise, where it is no definition of the others (for RULES 10).
-use Rattle.std.specs.Prelude.{◌≡◌, Bool, List, [], ℕ, ◌+◌, set}
-use Rattle.words.specs.Words.{Told, refused, gives}
+use Rattle.std.specs.Prelude.{◌≡◌, Bool, List, [], ℕ, ◌+◌, ◌<◌, length, get_or, set}
+use Rattle.words.specs.Words.{Told, gives, given◌then◌}
 use Rattle.frame.specs.Standard.{no_frame}
-use Rattle.frame.specs.Promises.{refusal_of, bytes_if}
-use Rattle.frame.specs.declared.Parts.{Parts}
-use Rattle.claim.specs.Claim.{Stand, held, claiming, silent}
-use Rattle.command.specs.Commands.{has_command, is_meant}
-use Rattle.command.specs.Positions.{filled}
-use Rattle.command.specs.Requests.{Asked, supports}
+use Rattle.claim.specs.declared.Claim.{Claim}
+use Rattle.command.specs.Hosted.{blank_entry, hosted}
+use Rattle.command.specs.Positions.{positions_where, filled}
+use Rattle.command.specs.Handed.{handed_in}
+use Rattle.command.specs.Requests.{Asked}
+use Rattle.command.specs.Promises.{Routing, Requesting, Acknowledging}
 use Rattle.command.specs.declared.Entry.{Entry}
+use Rattle.command.specs.declared.Host.{Host}
 use Rattle.command.specs.declared.Positions.{Positions}
-use Rattle.command.specs.declared.Routing.{Routing}
 use Rattle.command.specs.declared.Routed.{Routed}
-use Rattle.command.specs.declared.Requesting.{Requesting}
 use Rattle.command.specs.declared.Requested.{Requested}
-use Rattle.command.specs.declared.Acknowledging.{Acknowledging}
 use Rattle.command.specs.declared.Acknowledged.{Acknowledged}
 use Rattle.command.specs.declared.requests.Asked as requests
-use Rattle.command.specs.declared.picking.Wanted.{Wanted}
-use Rattle.command.specs.declared.picking.Wanted.TheVariants.{Hosted, Command, Status}
-use Rattle.command.specs.declared.address.Address.{Address}
-use Rattle.command.specs.declared.address.Address.TheVariants.{Held, Claimed, Nowhere}
-use Rattle.command.specs.declared.handed.Handing.{Handing}
-use Rattle.command.specs.declared.handed.Handing.TheVariants.{Sound, BrokenState, BadFrame, ListMalformed}
 use Rattle.command.specs.declared.handed.Handed.{Handed}
 
 -- the request that the code hands on
@@ -35,30 +27,26 @@ asked_by asked =
       instance = asked.instance;
     }
 
--- the entries that are wanted
-abbrev pub is_wanted : Wanted → Entry → Bool
-is_wanted (Hosted dgn) e = has_command dgn e
-is_wanted (Command dgn instance) e = is_meant dgn instance e
-is_wanted (Status asked) e = supports (asked_by asked) e
-
 -- one position more
 abbrev pub added : ℕ → Positions → Positions
 added i p = record { at = set p.at p.count i; count = p.count + 1 }
 
-abbrev pub stand_at : Address → Stand
-stand_at (Held address) = held address
-stand_at (Claimed address) = claiming address
-stand_at Nowhere = silent
+-- The positions of the entries that pass a test, which is known by what it may answer: the test that it computes, of
+-- each entry of the list.
 
-abbrev pub told_handing : Handing → Told Parts
-told_handing (Sound parts) = gives parts
-told_handing BrokenState = refused 2
-told_handing (BadFrame why) = refused (refusal_of why)
-told_handing ListMalformed = refused 16
+abbrev pub Computes : (Entry → Bool → Type 0) → (Entry → Bool) → List Entry → Type 0
+Computes answers passes es =
+    (k : ℕ) (b : Bool) → k < length es → answers (get_or es k blank_entry) b → b ≡ passes (get_or es k blank_entry)
 
-pub record HandedBy (told : Told Parts) (bytes : List ℕ) (r : Handed) : Type 0 where
-  pub answer : told_handing r.answer ≡ told
-  pub data_bytes : r.bytes ≡ bytes_if told bytes
+abbrev pub Picks : (Entry → Bool → Type 0) → Host → Positions → Type 0
+Picks answers h r =
+    (passes : Entry → Bool) → Computes answers passes (hosted h) → r ≡ filled (positions_where passes (hosted h))
+
+-- what is handed in, with the frame's bytes
+unfoldable pub handed_of : ℕ → List ℕ → Host → Claim → Told Handed
+handed_of id bytes h c =
+    given handed_in id bytes h c then λ parts.
+    gives (record { parts = parts; bytes = bytes })
 
 -- an answer with nothing beside it
 

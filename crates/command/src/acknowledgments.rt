@@ -13,7 +13,7 @@ const ACKNOWLEDGMENT_ID: u32 = 6 * 0x4000000 + standard::ACKNOWLEDGMENT * 256;
 pub fn id_of(address: u8, requester: u8) -> u32
     ensures { result ≡ acknowledgment_id address requester }
 {
-    ACKNOWLEDGMENT_ID + requester as u32 * 256 + address as u32
+    ACKNOWLEDGMENT_ID + u32::from(requester) * 256 + u32::from(address)
 }
 
 pub fn bytes_of(reply: Acknowledgment) -> [u8; 8]
@@ -39,6 +39,6 @@ pub fn bare(answer: Acknowledging) -> Acknowledged
     Acknowledged {
         answer,
         id: standard::NO_FRAME,
-        bytes: [0u8; 8],
+        bytes: [0; 8],
     }
 }

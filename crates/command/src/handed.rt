@@ -1,66 +1,34 @@
 // What is handed in with a frame: 2, then 3 to 6, then 16.
-ghost use Rattle.std.specs.Prelude.{◌≡◌, not, replicate, if◌then◌else◌};
-ghost use Rattle.words.specs.Words.{◌and◌, refused, gives};
-ghost use Rattle.claim.specs.Claim.{holds_list};
-ghost use Rattle.command.specs.Hosted.{is_well_formed};
-ghost use Rattle.command.specs.Handed.{handed_in};
-ghost use Rattle.command.specs.Private.{HandedBy};
+ghost use Rattle.std.specs.Prelude.{◌≡◌};
+ghost use Rattle.words.specs.Words.{told};
+ghost use Rattle.claim.specs.Promises.{number_of_not_heard};
+ghost use Rattle.command.specs.Private.{handed_of};
 
 use crate::{Host, hosted};
-use claim::Claim;
-use frame::{BadFrame, Parts, Verdict};
+use claim::{Claim, NotHeard};
+use frame::Parts;
 
-#[derive(Clone, Copy)]
-pub enum Handing {
-    Sound(Parts),
-    BrokenState,
-    BadFrame(BadFrame),
-    ListMalformed,
-}
-
-// With the frame's bytes; zeros beside a refusal.
+// A sound frame beside two lists that are well formed: its parts and its bytes.
 #[derive(Clone, Copy)]
 pub struct Handed {
-    pub answer: Handing,
+    pub parts: Parts,
     pub bytes: [u8; 8],
 }
 
-pub fn hand_in(host: Host, claim: Claim, id: u32, bytes: &[u8]) -> Handed
-    ensures { HandedBy (handed_in id bytes.now host claim) bytes.now result }
+pub fn hand_in(host: Host, claim: Claim, id: u32, bytes: &[u8]) -> Result<Handed, NotHeard>
+    ensures { told number_of_not_heard result ≡ handed_of id bytes.now host claim }
 {
     if !claim.keeps_rules() {
-        return bare(Handing::BrokenState);
+        return Err(NotHeard::BrokenState);
     }
     let checked = frame::check(id, bytes);
-    let verdict = checked.verdict;
-    let eight = checked.bytes;
-    match verdict {
-        Verdict::Bad(why) => bare(Handing::BadFrame(why)),
-        Verdict::Sound(parts) => lists(host, claim, parts, eight),
-    }
-}
-
-// A sound frame, beside the two lists.
-fn lists(host: Host, claim: Claim, parts: Parts, bytes: [u8; 8]) -> Handed
-    ensures { HandedBy (if not (holds_list claim and is_well_formed host) then refused 16 else gives parts) bytes result }
-{
+    let parts = checked.verdict?;
     if !claim.holds_list() {
-        return bare(Handing::ListMalformed);
+        return Err(NotHeard::ListMalformed);
     }
     if !hosted::well_formed(host) {
-        return bare(Handing::ListMalformed);
+        return Err(NotHeard::ListMalformed);
     }
-    Handed {
-        answer: Handing::Sound(parts),
-        bytes,
-    }
-}
-
-fn bare(answer: Handing) -> Handed
-    ensures { result ≡ record { answer = answer; bytes = replicate 8 0 } }
-{
-    Handed {
-        answer,
-        bytes: [0u8; 8],
-    }
+    let bytes = checked.bytes;
+    Ok(Handed { parts, bytes })
 }

@@ -1,7 +1,7 @@
 // The hosted list: whether it is well formed, and the host that keeps it.
-ghost use Rattle.std.specs.Prelude.{◌≡◌, ◌+◌, ◌<◌, ◌≤◌, drop, get_or};
+ghost use Rattle.std.specs.Prelude.{◌≡◌, ◌≤◌};
 ghost use Rattle.words.specs.Lists.{any, every, no_two};
-ghost use Rattle.command.specs.Hosted.{is_hosted_dgn, is_entry, is_same_pair, hosted, is_well_formed, blank_entry, begun};
+ghost use Rattle.command.specs.Hosted.{is_hosted_dgn, is_entry, is_same_pair, is_well_formed, blank_entry, begun};
 ghost use Rattle.command.specs.Hosted.{empty};
 
 use crate::{ENTRIES, Edition, Entry, Host};
@@ -12,95 +12,63 @@ const LOWEST_INSTANCE: u8 = 1;
 
 const GREATEST_INSTANCE: u8 = 250;
 
+#[tactic(auto, unfolding(crate::specs::Hosted::is_well_formed))]
 pub fn well_formed(host: Host) -> bool
     ensures { result ≡ is_well_formed host }
 {
-    if ENTRIES < host.count {
-        return false;
-    }
-    if !are_entries(host) {
-        return false;
-    }
-    no_pair_repeats(host)
+    host.count <= ENTRIES
+        && are_entries(&host.entries[..host.count])
+        && no_pair_repeats(&host.entries[..host.count])
 }
 
-fn are_entries(host: Host) -> bool
-    requires { host.count ≤ 16 }
-    ensures { result ≡ every is_entry (hosted host) }
+fn are_entries(entries: &[Entry]) -> bool
+    ensures { result ≡ every is_entry entries.now }
 {
-    let mut i: usize = 0;
-    while i < host.count {
-        let e = host.entries[i];
-        if !is_entry(e) {
-            return false;
-        }
-        i += 1;
-    }
-    true
+    entries.iter().all(|e| is_entry(*e))
 }
 
+#[tactic(auto, unfolding(crate::specs::Hosted::is_entry))]
 fn is_entry(e: Entry) -> bool
     ensures { result ≡ is_entry e }
 {
-    if !is_hosted_dgn(e.command) {
-        return false;
-    }
-    if !is_hosted_dgn(e.status) {
-        return false;
-    }
-    if e.instance < LOWEST_INSTANCE {
-        return false;
-    }
-    e.instance <= GREATEST_INSTANCE
+    is_hosted_dgn(e.command)
+        && is_hosted_dgn(e.status)
+        && LOWEST_INSTANCE <= e.instance
+        && e.instance <= GREATEST_INSTANCE
 }
 
+#[tactic(auto, unfolding(crate::specs::Hosted::is_hosted_dgn))]
 fn is_hosted_dgn(dgn: u32) -> bool
     ensures { result ≡ is_hosted_dgn dgn }
 {
-    if standard::GREATEST_DGN < dgn {
-        return false;
-    }
-    frame::catalogue_form(dgn) == dgn
+    dgn <= standard::GREATEST_DGN && frame::catalogue_form(dgn) == dgn
 }
 
-fn no_pair_repeats(host: Host) -> bool
-    requires { host.count ≤ 16 }
-    ensures { result ≡ no_two is_same_pair (hosted host) }
+fn no_pair_repeats(entries: &[Entry]) -> bool
+    ensures { result ≡ no_two is_same_pair entries.now }
 {
-    let mut i: usize = 0;
-    while i < host.count {
-        if is_repeated(host, i) {
+    let mut rest = entries;
+    while let Some((e, others)) = rest.split_first() {
+        if is_repeated(*e, others) {
             return false;
         }
-        i += 1;
+        rest = others;
     }
     true
 }
 
-// Whether the pair of an entry stands again after it.
-fn is_repeated(host: Host, at: usize) -> bool
-    requires { (at < host.count) × (host.count ≤ 16) }
-    ensures { result ≡ any (is_same_pair (get_or (hosted host) at blank_entry)) (drop (at + 1) (hosted host)) }
+// Whether the pair of an entry stands again among others.
+fn is_repeated(e: Entry, others: &[Entry]) -> bool
+    ensures { result ≡ any (is_same_pair e) others.now }
 {
-    let e = host.entries[at];
-    let mut i = at + 1;
-    while i < host.count {
-        let f = host.entries[i];
-        if is_same_pair(e, f) {
-            return true;
-        }
-        i += 1;
-    }
-    false
+    others.iter().any(|f| is_same_pair(e, *f))
 }
 
+#[tactic(auto, unfolding(crate::specs::Hosted::is_same_pair))]
 fn is_same_pair(e: Entry, f: Entry) -> bool
     ensures { result ≡ is_same_pair e f }
 {
-    if e.command != f.command {
-        return false;
-    }
-    e.instance == f.instance
+    e.command == f.command && e.instance == f.instance
 }
 
 fn blank() -> Entry
@@ -126,19 +94,12 @@ pub fn empty(edition: Edition) -> Host
 }
 
 // The host with entries of zeros after its own.
+#[tactic(auto, unfolding(crate::specs::Hosted::begun))]
 pub fn begun(host: Host) -> Host
     requires { host.count ≤ 16 }
     ensures { result ≡ begun host }
 {
-    let mut out = [blank(); ENTRIES];
-    let mut i: usize = 0;
-    while i < host.count {
-        out[i] = host.entries[i];
-        i += 1;
-    }
-    Host {
-        entries: out,
-        count: host.count,
-        edition: host.edition,
-    }
+    let mut entries = host.entries;
+    entries[host.count..].fill(blank());
+    Host { entries, ..host }
 }

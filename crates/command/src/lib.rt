@@ -2,20 +2,21 @@
 #![tactic(auto)]
 
 mod acknowledgments;
-mod address;
 mod commands;
 mod handed;
 mod hosted;
 mod picking;
+mod place;
 mod requests;
 
-ghost use Rattle.command.specs.Promises.{Start, Route, Request, Acknowledge, StartingRefusal, RoutingRefusal};
-ghost use Rattle.command.specs.Promises.{RequestingRefusal, AcknowledgingRefusal};
+ghost use Rattle.std.specs.Prelude.{◌≡◌};
+ghost use Rattle.command.specs.Promises.{Start, Route, Request, Acknowledge, number_of_not_started};
+ghost use Rattle.command.specs.Promises.{number_of_not_routed, number_of_not_answered, number_of_not_acknowledged};
+ghost use Rattle.command.specs.Promises.{not_routed_for, not_answered_for};
 
-use address::Address;
-use claim::Claim;
+use claim::{Claim, NotHeard, Place};
 use frame::{BadFrame, standard};
-use handed::Handing;
+use words::Refusal;
 
 // A hosted list has at most 16 entries.
 pub const ENTRIES: usize = 16;
@@ -39,6 +40,8 @@ pub enum Edition {
 }
 
 // A host: the hosted list, `count` entries and then entries of zeros, and the edition chosen at its start.
+// The list stands with its count beside it, for the fields are public, and `PastCountIgnored` speaks of what stands past
+// the count.
 #[derive(Clone, Copy)]
 pub struct Host {
     pub entries: [Entry; ENTRIES],
@@ -46,12 +49,14 @@ pub struct Host {
     pub edition: Edition,
 }
 
-// The list is hosted; or refusal 16.
+// Why a list is not hosted: refusal 16.
 #[derive(Clone, Copy)]
-pub enum Starting {
-    Hosted,
+pub enum NotStarted {
     ListMalformed,
 }
+
+// The list is hosted; or why not.
+pub type Starting = Result<(), NotStarted>;
 
 // The new host; one with no entry where the start is refused.
 #[derive(Clone, Copy)]
@@ -61,24 +66,33 @@ pub struct Started {
 }
 
 // Positions in the hosted list, rising: `count` of them, then zeros.
+// The fields are public, and `RouteRefusedKeeps` speaks of both.
 #[derive(Clone, Copy)]
 pub struct Positions {
     pub at: [u8; ENTRIES],
     pub count: usize,
 }
 
-// What a frame comes to as a command; or refusal 2, 3 to 6, 16, 18.
+// What a frame that is heard comes to as a command.
 #[derive(Clone, Copy)]
-pub enum Routing {
+pub enum Choice {
     // No command of ours.
     NothingToDo,
     // The command is for the positions beside, which may be none.
     Picked,
+}
+
+// Why a frame is not heard as a command: refusals 2, 3 to 6, 16, 18.
+#[derive(Clone, Copy)]
+pub enum NotRouted {
     BrokenState,
     BadFrame(BadFrame),
     ListMalformed,
     NoAddressHeld,
 }
+
+// What a frame comes to as a command, or why it is not heard.
+pub type Routing = Result<Choice, NotRouted>;
 
 #[derive(Clone, Copy)]
 pub struct Routed {
@@ -86,9 +100,9 @@ pub struct Routed {
     pub positions: Positions,
 }
 
-// What a frame comes to as a request; or refusal 2, 3 to 6, 16, 17, 18.
+// What a frame that is heard comes to as a request.
 #[derive(Clone, Copy)]
-pub enum Requesting {
+pub enum Response {
     // No request, or not for us.
     NothingToDo,
     // Our claim is to be sent.
@@ -99,12 +113,20 @@ pub enum Requesting {
     SendNak,
     // No entry supports them, and nothing is to be sent: the request is global, or from a node without an address.
     Unsupported,
+}
+
+// Why a frame is not heard as a request: refusals 2, 3 to 6, 16, 17, 18.
+#[derive(Clone, Copy)]
+pub enum NotAnswered {
     BrokenState,
     BadFrame(BadFrame),
     ListMalformed,
     DgnTooLarge,
     NoAddressHeld,
 }
+
+// What a frame comes to as a request, or why it is not heard.
+pub type Requesting = Result<Response, NotAnswered>;
 
 // The positions, and the frame to send; no frame where nothing is to be sent.
 #[derive(Clone, Copy)]
@@ -125,16 +147,18 @@ pub struct Acknowledgment {
     pub dgn: u32,
 }
 
-// The acknowledgment beside is to be sent; or refusal 2, 6, 16, 17, 18.
+// Why there is no acknowledgment: refusals 2, 6, 16, 17, 18.
 #[derive(Clone, Copy)]
-pub enum Acknowledging {
-    Send,
+pub enum NotAcknowledged {
     BrokenState,
     RequesterNotAllowed,
     ListMalformed,
     DgnTooLarge,
     NoAddressHeld,
 }
+
+// The acknowledgment beside is to be sent; or why there is none.
+pub type Acknowledging = Result<(), NotAcknowledged>;
 
 // The frame to send; no frame where it is refused.
 #[derive(Clone, Copy)]
@@ -144,70 +168,77 @@ pub struct Acknowledged {
     pub bytes: [u8; 8],
 }
 
-impl Starting {
-    // The number of the refusal; 0 where the list is hosted.
-    pub fn refusal(self) -> u8
-        ensures { StartingRefusal self result }
-    {
-        let answer = self;
-        match answer {
-            Starting::Hosted => 0,
-            Starting::ListMalformed => 16,
+impl Refusal for NotStarted {
+    ghost number = { number_of_not_started };
+
+    fn refusal(self) -> u8 {
+        match self {
+            NotStarted::ListMalformed => 16,
         }
     }
 }
 
-impl Routing {
-    // The number of the refusal; 0 where the frame is heard.
-    pub fn refusal(self) -> u8
-        ensures { RoutingRefusal self result }
-    {
-        let answer = self;
-        match answer {
-            Routing::NothingToDo => 0,
-            Routing::Picked => 0,
-            Routing::BrokenState => 2,
-            Routing::BadFrame(why) => why.refusal(),
-            Routing::ListMalformed => 16,
-            Routing::NoAddressHeld => 18,
+impl Refusal for NotRouted {
+    ghost number = { number_of_not_routed };
+
+    fn refusal(self) -> u8 {
+        match self {
+            NotRouted::BrokenState => 2,
+            NotRouted::BadFrame(why) => why.refusal(),
+            NotRouted::ListMalformed => 16,
+            NotRouted::NoAddressHeld => 18,
         }
     }
 }
 
-impl Requesting {
-    // The number of the refusal; 0 where the frame is heard.
-    pub fn refusal(self) -> u8
-        ensures { RequestingRefusal self result }
-    {
-        let answer = self;
-        match answer {
-            Requesting::NothingToDo => 0,
-            Requesting::SendClaim => 0,
-            Requesting::Supported => 0,
-            Requesting::SendNak => 0,
-            Requesting::Unsupported => 0,
-            Requesting::BrokenState => 2,
-            Requesting::BadFrame(why) => why.refusal(),
-            Requesting::ListMalformed => 16,
-            Requesting::DgnTooLarge => 17,
-            Requesting::NoAddressHeld => 18,
+impl From<NotHeard> for NotRouted {
+    ghost from_gives = { λ why answer. answer ≡ not_routed_for why };
+
+    fn from(why: NotHeard) -> NotRouted {
+        match why {
+            NotHeard::BrokenState => NotRouted::BrokenState,
+            NotHeard::BadFrame(why) => NotRouted::BadFrame(why),
+            NotHeard::ListMalformed => NotRouted::ListMalformed,
         }
     }
 }
 
-impl Acknowledging {
-    // The number of the refusal; 0 where the acknowledgment is to be sent.
-    pub fn refusal(self) -> u8
-        ensures { AcknowledgingRefusal self result }
-    {
-        let answer = self;
-        match answer {
-            Acknowledging::Send => 0,
-            Acknowledging::BrokenState => 2,
-            Acknowledging::RequesterNotAllowed => 6,
-            Acknowledging::ListMalformed => 16,
-            Acknowledging::DgnTooLarge => 17,
-            Acknowledging::NoAddressHeld => 18,
+impl Refusal for NotAnswered {
+    ghost number = { number_of_not_answered };
+
+    fn refusal(self) -> u8 {
+        match self {
+            NotAnswered::BrokenState => 2,
+            NotAnswered::BadFrame(why) => why.refusal(),
+            NotAnswered::ListMalformed => 16,
+            NotAnswered::DgnTooLarge => 17,
+            NotAnswered::NoAddressHeld => 18,
+        }
+    }
+}
+
+impl From<NotHeard> for NotAnswered {
+    ghost from_gives = { λ why answer. answer ≡ not_answered_for why };
+
+    fn from(why: NotHeard) -> NotAnswered {
+        match why {
+            NotHeard::BrokenState => NotAnswered::BrokenState,
+            NotHeard::BadFrame(why) => NotAnswered::BadFrame(why),
+            NotHeard::ListMalformed => NotAnswered::ListMalformed,
+        }
+    }
+}
+
+impl Refusal for NotAcknowledged {
+    ghost number = { number_of_not_acknowledged };
+
+    fn refusal(self) -> u8 {
+        match self {
+            NotAcknowledged::BrokenState => 2,
+            NotAcknowledged::RequesterNotAllowed => 6,
+            NotAcknowledged::ListMalformed => 16,
+            NotAcknowledged::DgnTooLarge => 17,
+            NotAcknowledged::NoAddressHeld => 18,
         }
     }
 }
@@ -227,12 +258,12 @@ impl Host {
         if !hosted::well_formed(host) {
             return Started {
                 host: hosted::empty(edition),
-                answer: Starting::ListMalformed,
+                answer: Err(NotStarted::ListMalformed),
             };
         }
         Started {
             host: hosted::begun(host),
-            answer: Starting::Hosted,
+            answer: Ok(()),
         }
     }
 
@@ -242,16 +273,14 @@ impl Host {
     pub fn route(self, claim: Claim, id: u32, bytes: &[u8]) -> Routed
         ensures { Route id bytes.now self claim result }
     {
-        let handed = handed::hand_in(self, claim, id, bytes);
-        let answer = handed.answer;
-        let eight = handed.bytes;
-        match answer {
-            Handing::BrokenState => commands::bare(Routing::BrokenState),
-            Handing::BadFrame(why) => commands::bare(Routing::BadFrame(why)),
-            Handing::ListMalformed => commands::bare(Routing::ListMalformed),
-            Handing::Sound(parts) => {
-                commands::route(self, address::stand(claim), parts.dgn, eight[0])
-            }
+        match handed::hand_in(self, claim, id, bytes) {
+            Ok(handed) => commands::route(
+                self,
+                place::of(claim),
+                handed.parts.dgn,
+                handed.bytes[0],
+            ),
+            Err(why) => commands::bare(Err(NotRouted::from(why))),
         }
     }
 
@@ -261,14 +290,9 @@ impl Host {
     pub fn request(self, claim: Claim, id: u32, bytes: &[u8]) -> Requested
         ensures { Request id bytes.now self claim result }
     {
-        let handed = handed::hand_in(self, claim, id, bytes);
-        let answer = handed.answer;
-        let eight = handed.bytes;
-        match answer {
-            Handing::BrokenState => requests::bare(Requesting::BrokenState),
-            Handing::BadFrame(why) => requests::bare(Requesting::BadFrame(why)),
-            Handing::ListMalformed => requests::bare(Requesting::ListMalformed),
-            Handing::Sound(parts) => requests::answer(self, claim, parts, eight),
+        match handed::hand_in(self, claim, id, bytes) {
+            Ok(handed) => requests::answer(self, claim, handed.parts, handed.bytes),
+            Err(why) => requests::bare(Err(NotAnswered::from(why))),
         }
     }
 }
@@ -280,24 +304,24 @@ pub fn acknowledge(claim: Claim, reply: Acknowledgment) -> Acknowledged
     ensures { Acknowledge claim reply result }
 {
     if !claim.keeps_rules() {
-        return acknowledgments::bare(Acknowledging::BrokenState);
+        return acknowledgments::bare(Err(NotAcknowledged::BrokenState));
     }
     if standard::GREATEST_ADDRESS < reply.requester {
-        return acknowledgments::bare(Acknowledging::RequesterNotAllowed);
+        return acknowledgments::bare(Err(NotAcknowledged::RequesterNotAllowed));
     }
     if !claim.holds_list() {
-        return acknowledgments::bare(Acknowledging::ListMalformed);
+        return acknowledgments::bare(Err(NotAcknowledged::ListMalformed));
     }
     if standard::GREATEST_DGN < reply.dgn {
-        return acknowledgments::bare(Acknowledging::DgnTooLarge);
+        return acknowledgments::bare(Err(NotAcknowledged::DgnTooLarge));
     }
-    match address::stand(claim) {
-        Address::Held(from) => Acknowledged {
-            answer: Acknowledging::Send,
+    match place::of(claim) {
+        Place::Held(from) => Acknowledged {
+            answer: Ok(()),
             id: acknowledgments::id_of(from, reply.requester),
             bytes: acknowledgments::bytes_of(reply),
         },
-        Address::Claimed(_) => acknowledgments::bare(Acknowledging::NoAddressHeld),
-        Address::Nowhere => acknowledgments::bare(Acknowledging::NoAddressHeld),
+        Place::Claiming(_) => acknowledgments::bare(Err(NotAcknowledged::NoAddressHeld)),
+        Place::Silent => acknowledgments::bare(Err(NotAcknowledged::NoAddressHeld)),
     }
 }

@@ -1,36 +1,36 @@
 // A request for a DGN: what is replied to it.
 ghost use Rattle.std.specs.Prelude.{◌≡◌, true, ◌≤◌};
 ghost use Rattle.words.specs.Words.{gives};
-ghost use Rattle.claim.specs.Promises.{is_sound};
+ghost use Rattle.claim.specs.Claim.{claim_frame};
+ghost use Rattle.claim.specs.Promises.{is_sound, stands_at};
 ghost use Rattle.command.specs.Hosted.{hosted};
-ghost use Rattle.claim.specs.Claim.{claiming, claim_frame};
+ghost use Rattle.command.specs.Positions.{positions_where, filled};
 ghost use Rattle.command.specs.Acknowledgment.{acknowledgment_frame};
-ghost use Rattle.command.specs.Requests.{instance_asked, asked_of, is_our_address, is_ours, nak_to, claims, nak};
-ghost use Rattle.command.specs.Requests.{status_of, reply_of, answer_of};
+ghost use Rattle.command.specs.Requests.{instance_asked, asked_of, is_of_instance, supports, is_our_address, is_ours};
+ghost use Rattle.command.specs.Requests.{nak_to, claims, nak, status_of, reply_of, answer_of};
 ghost use Rattle.command.specs.Promises.{RequestedBy};
-ghost use Rattle.command.specs.Private.{asked_by, stand_at, bare_requested};
+ghost use Rattle.command.specs.Private.{asked_by, bare_requested};
 
-use crate::address::Address;
-use crate::picking::Wanted;
 use crate::{
-    Acknowledgment, Edition, Host, Requested, Requesting, acknowledgments, address, picking,
+    Acknowledgment, Edition, Entry, Host, NotAnswered, Positions, Requested, Requesting, Response,
+    acknowledgments, picking, place,
 };
-use claim::Claim;
+use claim::{Claim, Place};
 use frame::{Parts, standard};
 
 // The code of a NAK.
 const NAK: u8 = 1;
 
 // The instance of a request for all instances.
-pub const ALL_INSTANCES: u8 = 0xFF;
+const ALL_INSTANCES: u8 = 0xFF;
 
 // A request as the frame that it came in has it.
 #[derive(Clone, Copy)]
-pub struct Asked {
-    pub destination: u8,
-    pub source: u8,
-    pub dgn: u32,
-    pub instance: u8,
+struct Asked {
+    destination: u8,
+    source: u8,
+    dgn: u32,
+    instance: u8,
 }
 
 // A sound frame.
@@ -39,12 +39,11 @@ pub fn answer(host: Host, claim: Claim, parts: Parts, bytes: [u8; 8]) -> Request
     ensures { RequestedBy (answer_of host.edition parts bytes (hosted host) claim) result }
 {
     if frame::catalogue_form(parts.dgn) != standard::REQUEST {
-        return bare(Requesting::NothingToDo);
+        return bare(Ok(Response::NothingToDo));
     }
-    let edition = host.edition;
-    let asked = asked_of(edition, parts, bytes);
+    let asked = asked_of(host.edition, parts, bytes);
     if standard::GREATEST_DGN < asked.dgn {
-        return bare(Requesting::DgnTooLarge);
+        return bare(Err(NotAnswered::DgnTooLarge));
     }
     reply(host, claim, asked)
 }
@@ -64,13 +63,13 @@ fn asked_of(edition: Edition, parts: Parts, bytes: [u8; 8]) -> Asked
 }
 
 // The instance that is asked for: byte 3 names it in edition two alone.
+#[tactic(auto, unfolding(crate::specs::Requests::instance_asked))]
 fn instance_asked(edition: Edition, bytes: [u8; 8]) -> u8
     ensures { result ≡ instance_asked edition bytes }
 {
-    let named = bytes[3];
     match edition {
         Edition::One => ALL_INSTANCES,
-        Edition::Two => named,
+        Edition::Two => bytes[3],
     }
 }
 
@@ -79,41 +78,39 @@ fn reply(host: Host, claim: Claim, asked: Asked) -> Requested
     requires { (is_sound claim ≡ true) × (host.count ≤ 16) }
     ensures { RequestedBy (reply_of (asked_by asked) (hosted host) claim) result }
 {
-    let address = address::stand(claim);
-    if !is_ours(asked, address) {
-        return bare(Requesting::NothingToDo);
+    let place = place::of(claim);
+    if !is_ours(asked, place) {
+        return bare(Ok(Response::NothingToDo));
     }
     if asked.dgn == standard::ADDRESS_CLAIMED {
         return our_claim(claim);
     }
-    match address {
-        Address::Held(from) => status(host, from, asked),
-        Address::Claimed(_) => bare(Requesting::NoAddressHeld),
-        Address::Nowhere => bare(Requesting::NoAddressHeld),
+    match place {
+        Place::Held(from) => status(host, from, asked),
+        Place::Claiming(_) => bare(Err(NotAnswered::NoAddressHeld)),
+        Place::Silent => bare(Err(NotAnswered::NoAddressHeld)),
     }
 }
 
-fn is_ours(asked: Asked, address: Address) -> bool
-    ensures { result ≡ is_ours (asked_by asked) (stand_at address) }
+#[tactic(auto, unfolding(crate::specs::Requests::is_ours))]
+fn is_ours(asked: Asked, place: Place) -> bool
+    ensures { result ≡ is_ours (asked_by asked) (stands_at place) }
 {
-    if asked.destination == standard::EVERYONE {
-        return true;
-    }
-    match address {
-        Address::Held(a) => asked.destination == a,
-        Address::Claimed(a) => is_claimed(asked, a),
-        Address::Nowhere => false,
-    }
+    asked.destination == standard::EVERYONE || is_our_address(asked, place)
 }
 
 // The address that we claim is ours for EE00h only.
-fn is_claimed(asked: Asked, address: u8) -> bool
-    ensures { result ≡ is_our_address (asked_by asked) (claiming address) }
+#[tactic(auto, unfolding(crate::specs::Requests::is_our_address))]
+fn is_our_address(asked: Asked, place: Place) -> bool
+    ensures { result ≡ is_our_address (asked_by asked) (stands_at place) }
 {
-    if asked.dgn != standard::ADDRESS_CLAIMED {
-        return false;
+    match place {
+        Place::Held(address) => asked.destination == address,
+        Place::Claiming(address) => {
+            asked.dgn == standard::ADDRESS_CLAIMED && asked.destination == address
+        }
+        Place::Silent => false,
     }
-    asked.destination == address
 }
 
 // The frame of our claim.
@@ -124,7 +121,7 @@ fn our_claim(claim: Claim) -> Requested
     let ours = claim.our_claim();
     let bytes = ours.bytes;
     Requested {
-        answer: Requesting::SendClaim,
+        answer: Ok(Response::SendClaim),
         positions: picking::none(),
         id: ours.id,
         bytes,
@@ -136,22 +133,35 @@ fn status(host: Host, address: u8, asked: Asked) -> Requested
     requires { host.count ≤ 16 }
     ensures { RequestedBy (gives (status_of (asked_by asked) (hosted host) address)) result }
 {
-    let positions = picking::pick(host, Wanted::Status(asked));
+    let positions = supporting(host, asked);
     if 0 < positions.count {
         return Requested {
-            answer: Requesting::Supported,
+            answer: Ok(Response::Supported),
             positions,
             id: standard::NO_FRAME,
-            bytes: [0u8; 8],
+            bytes: [0; 8],
         };
     }
     if asked.destination == standard::EVERYONE {
-        return bare(Requesting::Unsupported);
+        return bare(Ok(Response::Unsupported));
     }
     if asked.source == standard::NO_ADDRESS {
-        return bare(Requesting::Unsupported);
+        return bare(Ok(Response::Unsupported));
     }
     nak(address, asked)
+}
+
+// The positions of the entries that support a request.
+fn supporting(host: Host, asked: Asked) -> Positions
+    requires { host.count ≤ 16 }
+    ensures { result ≡ filled (positions_where (supports (asked_by asked)) (hosted host)) }
+{
+    picking::pick(
+        host,
+        |e|
+            ensures { result ≡ supports (asked_by asked) e }
+        { supports(asked, e) },
+    )
 }
 
 // The acknowledgment that no entry supports the request, with the instance that was asked for.
@@ -165,11 +175,26 @@ fn nak(address: u8, asked: Asked) -> Requested
         dgn: asked.dgn,
     };
     Requested {
-        answer: Requesting::SendNak,
+        answer: Ok(Response::SendNak),
         positions: picking::none(),
         id: acknowledgments::id_of(address, asked.source),
         bytes: acknowledgments::bytes_of(reply),
     }
+}
+
+// Whether an entry supports a request: its status is asked for, and its instance or all of them.
+#[tactic(auto, unfolding(crate::specs::Requests::supports))]
+fn supports(asked: Asked, e: Entry) -> bool
+    ensures { result ≡ supports (asked_by asked) e }
+{
+    e.status == asked.dgn && is_of_instance(e, asked.instance)
+}
+
+// Whether an entry is of the instance that is asked for, which may be all of them.
+fn is_of_instance(e: Entry, instance: u8) -> bool
+    ensures { result ≡ is_of_instance instance e }
+{
+    instance == ALL_INSTANCES || e.instance == instance
 }
 
 // An answer with no positions and no frame beside it.
@@ -180,6 +205,6 @@ pub fn bare(answer: Requesting) -> Requested
         answer,
         positions: picking::none(),
         id: standard::NO_FRAME,
-        bytes: [0u8; 8],
+        bytes: [0; 8],
     }
 }

@@ -3,7 +3,7 @@
 use crate::claims::claim;
 use crate::commands::host;
 use crate::notes::{field_u8, field_u16, get, get_u16, get_u32, put, put_all, record};
-use crate::streams::Streams;
+use streams::Streams;
 use crate::{commands, fields, frames, notes, say, state};
 use faults::{
     Adding, Clearing, Fault, PLACES, Replied, Requested, Requesting, Sender, ServicePoint, Stepping,

@@ -1,6 +1,6 @@
 // The arguments of a call and the values of a field: read from the line by their shape, and noted.
 use crate::notes::{byte_at, get, put};
-use crate::streams::Streams;
+use streams::Streams;
 use crate::typing::{
     NONE, Word, bytes_in, ends_here, find_word, letter, nth_name, nth_word, number_in,
 };

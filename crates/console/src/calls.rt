@@ -1,5 +1,5 @@
 // Every call of the library, part by part, with the shapes of its arguments; and the methods that number a refusal.
-use crate::streams::Streams;
+use streams::Streams;
 use crate::{arguments, notes, say, typing};
 use std::num::wrapping_add_usize;
 

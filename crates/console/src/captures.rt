@@ -1,10 +1,11 @@
 // The words of crate `capture`: one cutter of lines, and the block that it was given last.
 use crate::frames::first_eight;
 use crate::notes::{bounded, byte_at, field_u8, field_u32, get, get_u16, get_u32, put};
-use crate::streams::Streams;
+use streams::Streams;
 use crate::{notes, say};
-use capture::{Cutter, Cutting, Ending, LONGEST_LINE, Reading};
+use capture::{Cutter, Cutting, Ending, LONGEST_LINE};
 use std::num::wrapping_add_usize;
+use words::Refusal;
 
 pub fn call(n: usize, notes: &mut [u64], bytes: &[u8], streams: &mut Streams) {
     match n {
@@ -21,8 +22,8 @@ fn take_apart(notes: &mut [u64], bytes: &[u8], streams: &mut Streams) {
     let line = capture::take_apart(bytes);
     let answer = line.answer;
     match answer {
-        Reading::Sound => say::number(b"Sound gap=#", line.gap as u64, streams),
-        Reading::Malformed => say::number(b"Malformed gap=#", line.gap as u64, streams),
+        Ok(()) => say::number(b"Sound gap=#", line.gap as u64, streams),
+        Err(_) => say::number(b"Malformed gap=#", line.gap as u64, streams),
     }
     let eight = line.bytes;
     say::frame(notes, line.id, eight, streams);
@@ -81,10 +82,8 @@ fn carried(notes: &[u64], length: usize, streams: &mut Streams) {
 }
 
 fn readable(bytes: &[u8], from: usize, to: usize, streams: &mut Streams) {
-    let mut i = from;
-    while i < to {
+    for i in from..to {
         character(byte_at(bytes, i), streams);
-        i += 1;
     }
 }
 
@@ -95,13 +94,10 @@ fn character(c: u8, streams: &mut Streams) {
 }
 
 fn printed(c: u8) -> u8 {
-    if c < 32 {
-        return b'.';
+    match c {
+        b' '..=b'~' => c,
+        _ => b'.',
     }
-    if 126 < c {
-        return b'.';
-    }
-    c
 }
 
 fn last(notes: &[u64], streams: &mut Streams) {
@@ -126,10 +122,8 @@ fn cutter(notes: &[u64]) -> Cutter {
 
 fn carry(notes: &[u64]) -> [u8; LONGEST_LINE] {
     let mut carry = [0u8; LONGEST_LINE];
-    let mut i: usize = 0;
-    while i < LONGEST_LINE {
-        carry[i] = field_u8(notes, notes::CUTTER_CARRY, i);
-        i += 1;
+    for (i, byte) in carry.iter_mut().enumerate() {
+        *byte = field_u8(notes, notes::CUTTER_CARRY, i);
     }
     carry
 }
@@ -143,14 +137,12 @@ fn keep(notes: &mut [u64], cutter: Cutter) {
 }
 
 fn keep_carry(notes: &mut [u64], carry: [u8; LONGEST_LINE]) {
-    let mut i: usize = 0;
-    while i < LONGEST_LINE {
+    for (i, byte) in carry.iter().enumerate() {
         put(
             notes,
             wrapping_add_usize(notes::CUTTER_CARRY, i),
-            carry[i] as u64,
+            *byte as u64,
         );
-        i += 1;
     }
 }
 

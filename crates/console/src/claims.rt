@@ -1,9 +1,10 @@
 // The words of crate `claim`: one claim.
 use crate::notes::{field, field_u8, field_u16, get, get_u16, get_u32, put, put_all};
-use crate::streams::Streams;
+use streams::Streams;
 use crate::{frames, notes, say};
-use claim::{CANDIDATES, Claim, Hearing, Pausing, Sending, Standing, Starting};
+use claim::{BadState, CANDIDATES, Claim, Hearing, NotHeard, Place, Reaction};
 use std::num::wrapping_add_usize;
+use words::Refusal;
 
 pub fn call(n: usize, notes: &mut [u64], bytes: &[u8], streams: &mut Streams) {
     match n {
@@ -34,8 +35,8 @@ fn start(notes: &mut [u64], bytes: &[u8], streams: &mut Streams) {
     keep(notes, started.claim);
     let answer = started.answer;
     match answer {
-        Starting::SendClaim => say::text(b"SendClaim", streams),
-        Starting::ListMalformed => say::text(b"ListMalformed", streams),
+        Ok(()) => say::text(b"SendClaim", streams),
+        Err(_) => say::text(b"ListMalformed", streams),
     }
     let eight = started.bytes;
     say::frame(notes, started.id, eight, streams);
@@ -65,7 +66,7 @@ fn heard_so(notes: &mut [u64], answer: Hearing, id: u32, bytes: [u8; 8], streams
 
 fn tell(notes: &mut [u64], answer: Hearing, streams: &mut Streams) {
     match answer {
-        Hearing::BadFrame(why) => frames::bad_frame(notes, why, streams),
+        Err(NotHeard::BadFrame(why)) => frames::bad_frame(notes, why, streams),
         _ => say::word(
             b"NothingToDo OwnName SendClaimAgain SendNextClaim SendCannotClaim BrokenState ListMalformed",
             number(answer),
@@ -76,12 +77,12 @@ fn tell(notes: &mut [u64], answer: Hearing, streams: &mut Streams) {
 
 fn number(answer: Hearing) -> usize {
     match answer {
-        Hearing::NothingToDo => 0,
-        Hearing::OwnName => 1,
-        Hearing::SendClaimAgain => 2,
-        Hearing::SendNextClaim => 3,
-        Hearing::SendCannotClaim => 4,
-        Hearing::BrokenState => 5,
+        Ok(Reaction::NothingToDo) => 0,
+        Ok(Reaction::OwnName) => 1,
+        Ok(Reaction::SendClaimAgain) => 2,
+        Ok(Reaction::SendNextClaim) => 3,
+        Ok(Reaction::SendCannotClaim) => 4,
+        Err(NotHeard::BrokenState) => 5,
         _ => 6,
     }
 }
@@ -92,9 +93,8 @@ fn pause(notes: &mut [u64], streams: &mut Streams) {
     keep(notes, paused.claim);
     let answer = paused.answer;
     match answer {
-        Pausing::Waited => say::text(b"Waited", streams),
-        Pausing::BrokenState => say::text(b"BrokenState", streams),
-        Pausing::ListMalformed => say::text(b"ListMalformed", streams),
+        Ok(()) => say::text(b"Waited", streams),
+        Err(why) => bad_state(why, streams),
     }
     end(notes, notes::CLAIM_PAUSING, answer.refusal(), streams);
 }
@@ -103,11 +103,10 @@ fn stands(notes: &mut [u64], streams: &mut Streams) {
     let claim = claim(notes);
     let answer = claim.stands();
     match answer {
-        Standing::Held(address) => say::number(b"Held %", address as u64, streams),
-        Standing::Claiming(address) => say::number(b"Claiming %", address as u64, streams),
-        Standing::Silent => say::text(b"Silent", streams),
-        Standing::BrokenState => say::text(b"BrokenState", streams),
-        Standing::ListMalformed => say::text(b"ListMalformed", streams),
+        Ok(Place::Held(address)) => say::number(b"Held %", address as u64, streams),
+        Ok(Place::Claiming(address)) => say::number(b"Claiming %", address as u64, streams),
+        Ok(Place::Silent) => say::text(b"Silent", streams),
+        Err(why) => bad_state(why, streams),
     }
     say::end(notes, notes::CLAIM_STANDING, answer.refusal(), streams);
 }
@@ -117,13 +116,20 @@ fn our_claim(notes: &mut [u64], streams: &mut Streams) {
     let ours = claim.our_claim();
     let answer = ours.answer;
     match answer {
-        Sending::Frame => say::text(b"Frame", streams),
-        Sending::BrokenState => say::text(b"BrokenState", streams),
-        Sending::ListMalformed => say::text(b"ListMalformed", streams),
+        Ok(()) => say::text(b"Frame", streams),
+        Err(why) => bad_state(why, streams),
     }
     let eight = ours.bytes;
     say::frame(notes, ours.id, eight, streams);
     say::end(notes, notes::CLAIM_SENDING, answer.refusal(), streams);
+}
+
+// Why a claim is refused that is handed in with no frame.
+fn bad_state(why: BadState, streams: &mut Streams) {
+    match why {
+        BadState::BrokenState => say::text(b"BrokenState", streams),
+        BadState::ListMalformed => say::text(b"ListMalformed", streams),
+    }
 }
 
 // The claim of the notes. At first it is of NAME 0 without candidates: no call takes it.
@@ -141,10 +147,8 @@ pub fn claim(notes: &[u64]) -> Claim {
 
 fn list(notes: &[u64]) -> [u8; CANDIDATES] {
     let mut list = [0u8; CANDIDATES];
-    let mut i: usize = 0;
-    while i < CANDIDATES {
-        list[i] = field_u8(notes, notes::CLAIM_LIST, i);
-        i += 1;
+    for (i, address) in list.iter_mut().enumerate() {
+        *address = field_u8(notes, notes::CLAIM_LIST, i);
     }
     list
 }
@@ -165,14 +169,12 @@ fn keep(notes: &mut [u64], claim: Claim) {
 }
 
 fn keep_list(notes: &mut [u64], list: [u8; CANDIDATES]) {
-    let mut i: usize = 0;
-    while i < CANDIDATES {
+    for (i, address) in list.iter().enumerate() {
         put(
             notes,
             wrapping_add_usize(notes::CLAIM_LIST, i),
-            list[i] as u64,
+            *address as u64,
         );
-        i += 1;
     }
 }
 

@@ -1,7 +1,7 @@
 // The words of crate `command`: a list of entries to start a host from, and one host. They use the console's claim.
 use crate::claims::claim;
 use crate::notes::{field, field_u8, field_u32, get, get_u8, get_u32, put, put_all, record};
-use crate::streams::Streams;
+use streams::Streams;
 use crate::{frames, notes, say, state};
 use command::{
     Acknowledging, Acknowledgment, ENTRIES, Edition, Entry, Host, Positions, Requested, Requesting,

@@ -1,7 +1,7 @@
 // Exercises: a message split and joined again, a row written and read back, as a class would do it by many lines.
 use crate::fields::number_of_class;
 use crate::notes::{get, get_u8};
-use crate::streams::Streams;
+use streams::Streams;
 use crate::{notes, say};
 use catalogue::{Looked, Reading, Row, ScaledReading, Writing};
 
@@ -185,8 +185,8 @@ fn hear_fast(
 fn row_back(n: usize, streams: &mut Streams) {
     let looked = catalogue::row_at(n);
     match looked {
-        Looked::NoSuchRow => say::text(b"NoSuchRow, refusal 11", streams),
-        Looked::Is(row) => {
+        Err(_) => say::text(b"NoSuchRow, refusal 11", streams),
+        Ok(row) => {
             code_back(n, row, 0, streams);
             special_codes(n, row, ones(row.width), streams);
         }
@@ -212,9 +212,9 @@ fn code_back(n: usize, row: Row, code: u64, streams: &mut Streams) {
     let reading = catalogue::read_scaled(n, id, &zeros);
     say::text(b" ", streams);
     match reading {
-        ScaledReading::BadFrame(_) => say::text(b"BadFrame", streams),
-        ScaledReading::NoSuchRow => say::text(b"NoSuchRow", streams),
-        ScaledReading::Is(value) => {
+        Err(NotRead::BadFrame(_)) => say::text(b"BadFrame", streams),
+        Err(NotRead::NoSuchRow) => say::text(b"NoSuchRow", streams),
+        Ok(value) => {
             let mut bytes = [0xFFu8; 8];
             let writing = catalogue::write(n, id, &mut bytes, value);
             wrote(writing, streams);
@@ -237,9 +237,9 @@ fn wrote(writing: Writing, streams: &mut Streams) {
 fn read_back(n: usize, id: u32, bytes: [u8; 8], streams: &mut Streams) {
     let reading = catalogue::read(n, id, &bytes);
     match reading {
-        Reading::BadFrame(_) => say::text(b"BadFrame", streams),
-        Reading::NoSuchRow => say::text(b"NoSuchRow", streams),
-        Reading::Is(field) => {
+        Err(NotRead::BadFrame(_)) => say::text(b"BadFrame", streams),
+        Err(NotRead::NoSuchRow) => say::text(b"NoSuchRow", streams),
+        Ok(field) => {
             say::number(b"#=", field.code, streams);
             let class = field.class;
             say::word(
@@ -266,9 +266,8 @@ fn shifted(code: u64, first: u8) -> u64 {
 }
 
 fn id_of(dgn: u32) -> u32 {
-    let formed = frame::form(6, dgn, 0x54);
-    match formed {
-        frame::Formed::Identifier(id) => id,
-        frame::Formed::NoCode => 0,
+    match frame::form(6, dgn, 0x54) {
+        Ok(id) => id,
+        Err(_) => 0,
     }
 }

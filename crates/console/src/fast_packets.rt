@@ -5,7 +5,7 @@ use crate::notes::{
     bounded, field, field_u8, field_u16, field_u32, get, get_u8, get_u16, get_u32, put, put_all,
     record,
 };
-use crate::streams::Streams;
+use streams::Streams;
 use crate::{frames, notes, say, state};
 use fast::limits::{DGNS, PLACES, STRETCH};
 use fast::{Answer, Pausing, Place, Receiver, Splitting, Started, Starting};

@@ -2,9 +2,12 @@
 ghost use Rattle.io.specs.Counts.{IsPrefixLen};
 
 use crate::notes::{field, field_u8, get, get_i64, get_u8, get_u32, put, put_all};
-use crate::streams::Streams;
+use streams::Streams;
 use crate::{claims, frames, notes, say};
-use catalogue::{Class, Field, Looked, Reading, Row, ScaledReading, Span, Unit, Value, Writing};
+use catalogue::{
+    Class, Field, Looked, NotRead, NotWritten, Reading, Row, ScaledReading, Span, Unit, Value, Writing,
+};
+use words::Refusal;
 
 pub fn call(
     n: usize,
@@ -125,15 +128,15 @@ fn row_of_in(notes: &mut [u64], packed: &[u64], streams: &mut Streams) {
 pub fn looked(notes: &mut [u64], answer: Looked, streams: &mut Streams) {
     tell_looked(notes, answer, streams);
     say::end(notes, notes::CATALOGUE_LOOKED, answer.refusal(), streams);
-    if answer.refusal() == 0 {
+    if answer.is_ok() {
         show(notes, streams);
     }
 }
 
 fn tell_looked(notes: &mut [u64], answer: Looked, streams: &mut Streams) {
     match answer {
-        Looked::Is(found) => is(notes, found, streams),
-        Looked::NoSuchRow => say::text(b"NoSuchRow", streams),
+        Ok(found) => is(notes, found, streams),
+        Err(_) => say::text(b"NoSuchRow", streams),
     }
 }
 
@@ -184,9 +187,16 @@ pub fn reading(notes: &mut [u64], answer: Reading, streams: &mut Streams) {
 
 fn tell_reading(notes: &mut [u64], answer: Reading, streams: &mut Streams) {
     match answer {
-        Reading::Is(read) => field_read(read, streams),
-        Reading::BadFrame(why) => frames::bad_frame(notes, why, streams),
-        Reading::NoSuchRow => say::text(b"NoSuchRow", streams),
+        Ok(read) => field_read(read, streams),
+        Err(why) => not_read(notes, why, streams),
+    }
+}
+
+// Why a field is not read.
+fn not_read(notes: &mut [u64], why: NotRead, streams: &mut Streams) {
+    match why {
+        NotRead::BadFrame(why) => frames::bad_frame(notes, why, streams),
+        NotRead::NoSuchRow => say::text(b"NoSuchRow", streams),
     }
 }
 
@@ -233,9 +243,8 @@ fn scaled(notes: &mut [u64], answer: ScaledReading, streams: &mut Streams) {
 
 fn tell_scaled(notes: &mut [u64], answer: ScaledReading, streams: &mut Streams) {
     match answer {
-        ScaledReading::Is(read) => value(read, streams),
-        ScaledReading::BadFrame(why) => frames::bad_frame(notes, why, streams),
-        ScaledReading::NoSuchRow => say::text(b"NoSuchRow", streams),
+        Ok(read) => value(read, streams),
+        Err(why) => not_read(notes, why, streams),
     }
 }
 
@@ -301,10 +310,10 @@ pub fn written(notes: &mut [u64], bytes: &[u8], answer: Writing, streams: &mut S
 
 fn tell_writing(notes: &mut [u64], answer: Writing, streams: &mut Streams) {
     match answer {
-        Writing::Written => say::text(b"Written", streams),
-        Writing::BadFrame(why) => frames::bad_frame(notes, why, streams),
-        Writing::NoSuchRow => say::text(b"NoSuchRow", streams),
-        Writing::NoCode => say::text(b"NoCode", streams),
+        Ok(()) => say::text(b"Written", streams),
+        Err(NotWritten::BadFrame(why)) => frames::bad_frame(notes, why, streams),
+        Err(NotWritten::NoSuchRow) => say::text(b"NoSuchRow", streams),
+        Err(NotWritten::NoCode) => say::text(b"NoCode", streams),
     }
 }
 

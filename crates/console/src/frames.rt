@@ -1,8 +1,9 @@
 // The words of crate `frame`.
 use crate::notes::{byte_at, get, get_u8, get_u32};
-use crate::streams::Streams;
+use streams::Streams;
 use crate::{notes, say};
-use frame::{Apart, BadFrame, Destination, Formed, Parts, Verdict};
+use frame::{BadFrame, BadIdentifier, Destination, NotFormed, Parts, Verdict};
+use words::Refusal;
 
 pub fn call(n: usize, notes: &mut [u64], bytes: &[u8], streams: &mut Streams) {
     match n {
@@ -28,9 +29,9 @@ fn bytes_and_numbers(n: usize, notes: &mut [u64], streams: &mut Streams) {
 fn take_apart(notes: &mut [u64], streams: &mut Streams) {
     let answer = frame::take_apart(get_u32(notes, notes::FIRST));
     match answer {
-        Apart::Into(into) => parts(b"Into priority=# dgn=~ source=%", into, streams),
-        Apart::IdentifierTooLarge => say::text(b"IdentifierTooLarge", streams),
-        Apart::ReservedBitSet => say::text(b"ReservedBitSet", streams),
+        Ok(into) => parts(b"Into priority=# dgn=~ source=%", into, streams),
+        Err(BadIdentifier::IdentifierTooLarge) => say::text(b"IdentifierTooLarge", streams),
+        Err(BadIdentifier::ReservedBitSet) => say::text(b"ReservedBitSet", streams),
     }
     say::end(notes, notes::FRAME_APART, answer.refusal(), streams);
 }
@@ -45,8 +46,8 @@ fn form(notes: &mut [u64], streams: &mut Streams) {
     let dgn = get_u32(notes, notes::SECOND);
     let answer = frame::form(priority, dgn, get_u8(notes, notes::THIRD));
     match answer {
-        Formed::Identifier(id) => say::number(b"Identifier ^", id as u64, streams),
-        Formed::NoCode => say::text(b"NoCode", streams),
+        Ok(id) => say::number(b"Identifier ^", id as u64, streams),
+        Err(NotFormed::NoCode) => say::text(b"NoCode", streams),
     }
     say::end(notes, notes::FRAME_FORMED, answer.refusal(), streams);
 }
@@ -62,8 +63,8 @@ fn check(notes: &mut [u64], bytes: &[u8], streams: &mut Streams) {
 
 fn tell(notes: &mut [u64], answer: Verdict, streams: &mut Streams) {
     match answer {
-        Verdict::Sound(sound) => parts(b"Sound priority=# dgn=~ source=%", sound, streams),
-        Verdict::Bad(why) => bad_frame(notes, why, streams),
+        Ok(sound) => parts(b"Sound priority=# dgn=~ source=%", sound, streams),
+        Err(why) => bad_frame(notes, why, streams),
     }
 }
 

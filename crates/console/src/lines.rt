@@ -1,5 +1,5 @@
 // Lines of standard input.
-use crate::streams::Streams;
+use streams::Streams;
 
 // A line of so many bytes is too long.
 pub const LONGEST: usize = 4096;

@@ -19,7 +19,6 @@ mod node_table;
 mod notes;
 mod say;
 mod state;
-mod streams;
 mod texts;
 mod typing;
 

@@ -3,10 +3,11 @@ use crate::notes::{
     bounded, field, field_u8, field_u16, field_u32, get, get_u8, get_u16, get_u32, put, put_all,
     record,
 };
-use crate::streams::Streams;
+use streams::Streams;
 use crate::{frames, notes, say, state};
 use message::limits::{PLACES, STRETCH};
-use message::{Announcing, Answer, Pausing, Place, Receiver, Splitting, Unsplittable};
+use message::{Announcing, Answer, Event, NotHeard, NotSplit, Place, Receiver, Splitting, Unsplittable};
+use words::Refusal;
 
 pub fn call(n: usize, notes: &mut [u64], bytes: &[u8], storage: &mut [u8], streams: &mut Streams) {
     match n {
@@ -46,13 +47,8 @@ fn heard_so(notes: &mut [u64], storage: &[u8], answer: Answer, streams: &mut Str
 
 fn tell(notes: &mut [u64], answer: Answer, streams: &mut Streams) {
     match answer {
-        Answer::BadFrame(why) => frames::bad_frame(notes, why, streams),
-        Answer::Finished {
-            place: _,
-            sender: _,
-            dgn: _,
-            length: _,
-        } => say::form(
+        Err(NotHeard::BadFrame(why)) => frames::bad_frame(notes, why, streams),
+        Ok(Event::Finished { .. }) => say::form(
             b"Finished place=# sender=% dgn=~ length=# message=",
             notes,
             notes::MESSAGE_FINISHED + 1,
@@ -69,14 +65,14 @@ fn tell(notes: &mut [u64], answer: Answer, streams: &mut Streams) {
 
 fn number(answer: Answer) -> usize {
     match answer {
-        Answer::StorageTooShort => 0,
-        Answer::BrokenState => 1,
-        Answer::MalformedAnnouncement => 2,
-        Answer::NoPlaceFree => 3,
-        Answer::NoOpenMessage => 4,
-        Answer::UnexpectedPacket => 5,
-        Answer::NothingToDo => 6,
-        Answer::Opened => 7,
+        Err(NotHeard::StorageTooShort) => 0,
+        Err(NotHeard::BrokenState) => 1,
+        Err(NotHeard::MalformedAnnouncement) => 2,
+        Err(NotHeard::NoPlaceFree) => 3,
+        Err(NotHeard::NoOpenMessage) => 4,
+        Err(NotHeard::UnexpectedPacket) => 5,
+        Ok(Event::NothingToDo) => 6,
+        Ok(Event::Opened) => 7,
         _ => 8,
     }
 }
@@ -96,8 +92,8 @@ fn pause(notes: &mut [u64], storage: &[u8], streams: &mut Streams) {
     keep(notes, paused.receiver);
     let answer = paused.answer;
     match answer {
-        Pausing::Closed(count) => say::number(b"Closed #", count as u64, streams),
-        Pausing::BrokenState => say::text(b"BrokenState", streams),
+        Ok(count) => say::number(b"Closed #", count as u64, streams),
+        Err(_) => say::text(b"BrokenState", streams),
     }
     say::end(notes, notes::MESSAGE_PAUSING, answer.refusal(), streams);
     show(notes, storage, streams);
@@ -114,8 +110,8 @@ fn announcement(notes: &mut [u64], bytes: &[u8], streams: &mut Streams) {
 
 fn tell_announcing(notes: &mut [u64], answer: Announcing, streams: &mut Streams) {
     match answer {
-        Announcing::Bytes => say::text(b"Bytes ", streams),
-        Announcing::Refused(why) => unsplittable(notes, why, streams),
+        Ok(()) => say::text(b"Bytes ", streams),
+        Err(why) => unsplittable(notes, why, streams),
     }
 }
 
@@ -131,9 +127,9 @@ fn packet(notes: &mut [u64], bytes: &[u8], streams: &mut Streams) {
 
 fn tell_splitting(notes: &mut [u64], answer: Splitting, streams: &mut Streams) {
     match answer {
-        Splitting::Bytes => say::text(b"Bytes ", streams),
-        Splitting::Refused(why) => unsplittable(notes, why, streams),
-        Splitting::NoSuchPacket => say::text(b"NoSuchPacket ", streams),
+        Ok(()) => say::text(b"Bytes ", streams),
+        Err(NotSplit::Unsplittable(why)) => unsplittable(notes, why, streams),
+        Err(NotSplit::NoSuchPacket) => say::text(b"NoSuchPacket ", streams),
     }
 }
 
@@ -149,10 +145,8 @@ fn unsplittable(notes: &mut [u64], why: Unsplittable, streams: &mut Streams) {
 fn receiver(notes: &[u64]) -> Receiver {
     let new = Receiver::new();
     let mut places = new.places;
-    let mut i: usize = 0;
-    while i < PLACES {
-        places[i] = place(notes, record(notes::MESSAGE_PLACES, 5, i));
-        i += 1;
+    for (i, kept) in places.iter_mut().enumerate() {
+        *kept = place(notes, record(notes::MESSAGE_PLACES, 5, i));
     }
     Receiver { places }
 }
@@ -174,10 +168,8 @@ fn keep(notes: &mut [u64], receiver: Receiver) {
 }
 
 fn keep_places(notes: &mut [u64], places: [Place; PLACES]) {
-    let mut i: usize = 0;
-    while i < PLACES {
-        keep_place(notes, record(notes::MESSAGE_PLACES, 5, i), places[i]);
-        i += 1;
+    for (i, place) in places.iter().enumerate() {
+        keep_place(notes, record(notes::MESSAGE_PLACES, 5, i), *place);
     }
 }
 
@@ -195,24 +187,24 @@ fn keep_place(notes: &mut [u64], at: usize, place: Place) {
 // The last answer, as far as it is about a finished message.
 fn kept_answer(notes: &[u64]) -> Answer {
     if get(notes, notes::MESSAGE_FINISHED) == 0 {
-        return Answer::NothingToDo;
+        return Ok(Event::NothingToDo);
     }
-    Answer::Finished {
+    Ok(Event::Finished {
         place: field(notes, notes::MESSAGE_FINISHED, 1) as usize,
         sender: field_u8(notes, notes::MESSAGE_FINISHED, 2),
         dgn: field_u32(notes, notes::MESSAGE_FINISHED, 3),
         length: field_u16(notes, notes::MESSAGE_FINISHED, 4),
-    }
+    })
 }
 
 fn keep_answer(notes: &mut [u64], answer: Answer) {
     match answer {
-        Answer::Finished {
+        Ok(Event::Finished {
             place,
             sender,
             dgn,
             length,
-        } => {
+        }) => {
             let finished = [1, place as u64, sender as u64, dgn as u64, length as u64];
             put_all(notes, notes::MESSAGE_FINISHED, &finished);
         }
@@ -222,10 +214,8 @@ fn keep_answer(notes: &mut [u64], answer: Answer) {
 
 // The places that are not all zeros, each with the bytes that it has stored.
 pub fn show(notes: &[u64], storage: &[u8], streams: &mut Streams) {
-    let mut i: usize = 0;
-    while i < PLACES {
+    for i in 0..PLACES {
         show_place(notes, storage, i, streams);
-        i += 1;
     }
 }
 

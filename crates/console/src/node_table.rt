@@ -3,9 +3,12 @@ ghost use Rattle.std.specs.Prelude.{◌≡◌, ◌≤◌, take};
 ghost use Rattle.nodes.specs.Promises.{Hear, Pause, LookUp, FindAddress, FindChallenger};
 
 use crate::notes::{field, field_u16, get, get_u8, get_u16, get_u32, put_all, record};
-use crate::streams::Streams;
+use streams::Streams;
 use crate::{frames, notes, say, state};
-use nodes::{FoundAddress, FoundChallenger, Hearing, LookedUp, Node, Pausing, RECORDS};
+use nodes::{
+    BadTable, Challenger, Effect, FoundAddress, FoundChallenger, Hearing, LookedUp, Node, NotHeard, Pausing, RECORDS,
+};
+use words::Refusal;
 
 // How many records the console keeps.
 pub const MOST_RECORDS: usize = 300;
@@ -29,10 +32,8 @@ fn emptied(notes: &mut [u64], streams: &mut Streams) {
 }
 
 fn keep_first(notes: &mut [u64], first: [Node; RECORDS]) {
-    let mut i: usize = 0;
-    while i < RECORDS {
-        keep_node(notes, record(notes::NODES, 4, i), first[i]);
-        i += 1;
+    for (i, node) in first.iter().enumerate() {
+        keep_node(notes, record(notes::NODES, 4, i), *node);
     }
 }
 
@@ -70,10 +71,10 @@ fn heard(notes: &mut [u64], bytes: &[u8], streams: &mut Streams) {
 
 fn tell(notes: &mut [u64], answer: Hearing, streams: &mut Streams) {
     match answer {
-        Hearing::Taken(address) => say::number(b"Taken %", address as u64, streams),
-        Hearing::Challenges(address) => say::number(b"Challenges %", address as u64, streams),
-        Hearing::HeldByLower(address) => say::number(b"HeldByLower %", address as u64, streams),
-        Hearing::BadFrame(why) => frames::bad_frame(notes, why, streams),
+        Ok(Effect::Taken(address)) => say::number(b"Taken %", address as u64, streams),
+        Ok(Effect::Challenges(address)) => say::number(b"Challenges %", address as u64, streams),
+        Ok(Effect::HeldByLower(address)) => say::number(b"HeldByLower %", address as u64, streams),
+        Err(NotHeard::BadFrame(why)) => frames::bad_frame(notes, why, streams),
         _ => say::word(
             b"Silent NothingToDo TableTooShort BrokenState",
             number(answer),
@@ -84,9 +85,9 @@ fn tell(notes: &mut [u64], answer: Hearing, streams: &mut Streams) {
 
 fn number(answer: Hearing) -> usize {
     match answer {
-        Hearing::Silent => 0,
-        Hearing::NothingToDo => 1,
-        Hearing::TableTooShort => 2,
+        Ok(Effect::Silent) => 0,
+        Ok(Effect::NothingToDo) => 1,
+        Err(NotHeard::TableTooShort) => 2,
         _ => 3,
     }
 }
@@ -104,19 +105,25 @@ fn paused(notes: &mut [u64], streams: &mut Streams) {
 
 fn tell_pause(answer: Pausing, streams: &mut Streams) {
     match answer {
-        Pausing::Replaced(count) => say::number(b"Replaced #", count as u64, streams),
-        Pausing::TableTooShort => say::text(b"TableTooShort", streams),
-        Pausing::BrokenState => say::text(b"BrokenState", streams),
+        Ok(count) => say::number(b"Replaced #", count as u64, streams),
+        Err(why) => bad_table(why, streams),
+    }
+}
+
+// Why a table is refused.
+fn bad_table(why: BadTable, streams: &mut Streams) {
+    match why {
+        BadTable::TableTooShort => say::text(b"TableTooShort", streams),
+        BadTable::BrokenState => say::text(b"BrokenState", streams),
     }
 }
 
 fn looked_up(notes: &mut [u64], streams: &mut Streams) {
     let answer = look_up(table(notes), lent(notes), get_u8(notes, notes::FIRST));
     match answer {
-        LookedUp::Present(name) => say::number(b"Present @", name, streams),
-        LookedUp::Absent => say::text(b"Absent", streams),
-        LookedUp::TableTooShort => say::text(b"TableTooShort", streams),
-        LookedUp::BrokenState => say::text(b"BrokenState", streams),
+        Ok(Some(name)) => say::number(b"Present @", name, streams),
+        Ok(None) => say::text(b"Absent", streams),
+        Err(why) => bad_table(why, streams),
     }
     say::end(notes, notes::NODES_LOOKED_UP, answer.refusal(), streams);
 }
@@ -124,10 +131,9 @@ fn looked_up(notes: &mut [u64], streams: &mut Streams) {
 fn found_address(notes: &mut [u64], streams: &mut Streams) {
     let answer = find_address(table(notes), lent(notes), get(notes, notes::FIRST));
     match answer {
-        FoundAddress::At(address) => say::number(b"At %", address as u64, streams),
-        FoundAddress::NoAddress => say::text(b"NoAddress", streams),
-        FoundAddress::TableTooShort => say::text(b"TableTooShort", streams),
-        FoundAddress::BrokenState => say::text(b"BrokenState", streams),
+        Ok(Some(address)) => say::number(b"At %", address as u64, streams),
+        Ok(None) => say::text(b"NoAddress", streams),
+        Err(why) => bad_table(why, streams),
     }
     say::end(notes, notes::NODES_FOUND_ADDRESS, answer.refusal(), streams);
 }
@@ -135,10 +141,9 @@ fn found_address(notes: &mut [u64], streams: &mut Streams) {
 fn found_challenger(notes: &mut [u64], streams: &mut Streams) {
     let answer = find_challenger(table(notes), lent(notes), get_u8(notes, notes::FIRST));
     match answer {
-        FoundChallenger::Waits { name, wait } => waits(name, wait, streams),
-        FoundChallenger::NoChallenger => say::text(b"NoChallenger", streams),
-        FoundChallenger::TableTooShort => say::text(b"TableTooShort", streams),
-        FoundChallenger::BrokenState => say::text(b"BrokenState", streams),
+        Ok(Some(challenger)) => waits(challenger, streams),
+        Ok(None) => say::text(b"NoChallenger", streams),
+        Err(why) => bad_table(why, streams),
     }
     say::end(
         notes,
@@ -148,8 +153,8 @@ fn found_challenger(notes: &mut [u64], streams: &mut Streams) {
     );
 }
 
-fn waits(name: u64, wait: u16, streams: &mut Streams) {
-    let two = [name, wait as u64];
+fn waits(challenger: Challenger, streams: &mut Streams) {
+    let two = [challenger.name, challenger.wait as u64];
     say::form(b"Waits name=@ wait=#", &two, 0, streams);
 }
 
@@ -229,10 +234,8 @@ fn find_challenger(table: [Node; 300], size: usize, address: u8) -> FoundChallen
 // The table of the notes.
 fn table(notes: &[u64]) -> [Node; MOST_RECORDS] {
     let mut table = [node(notes, notes::NODES); MOST_RECORDS];
-    let mut i: usize = 0;
-    while i < MOST_RECORDS {
-        table[i] = node(notes, record(notes::NODES, 4, i));
-        i += 1;
+    for (i, kept) in table.iter_mut().enumerate() {
+        *kept = node(notes, record(notes::NODES, 4, i));
     }
     table
 }
@@ -248,10 +251,8 @@ fn node(notes: &[u64], at: usize) -> Node {
 
 // Notes the table.
 fn keep(notes: &mut [u64], table: [Node; MOST_RECORDS]) {
-    let mut i: usize = 0;
-    while i < MOST_RECORDS {
-        keep_node(notes, record(notes::NODES, 4, i), table[i]);
-        i += 1;
+    for (i, node) in table.iter().enumerate() {
+        keep_node(notes, record(notes::NODES, 4, i), *node);
     }
 }
 

@@ -1,6 +1,6 @@
 // What the console prints: texts, numbers, bytes, and the end of an answer with its number.
 use crate::notes::{bounded, byte_at, get, put};
-use crate::streams::Streams;
+use streams::Streams;
 use crate::{notes, typing};
 use std::num::wrapping_add_usize;
 

@@ -2,7 +2,7 @@
 use crate::arguments::{argument, values};
 use crate::node_table::MOST_RECORDS;
 use crate::notes::{byte_at, field, get, get_u8, put, put_all, record};
-use crate::streams::Streams;
+use streams::Streams;
 use crate::typing::{NONE, ends_here, find_field, find_state, letter, nth_word, number_in};
 use crate::{active_faults, notes, say};
 use std::num::wrapping_add_usize;

@@ -1,6 +1,6 @@
 // The words of crate `text`: a piece put into bytes that the console lends for one call, hyphens all of them.
 use crate::notes::{bounded, get};
-use crate::streams::Streams;
+use streams::Streams;
 use crate::{notes, say};
 
 // So many bytes are lent at most.

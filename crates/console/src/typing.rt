@@ -1,6 +1,6 @@
 // A typed line: its words, and the numbers and bytes that they mean. The line stands in the notes, a letter a note.
 use crate::notes::{byte_at, field_u8, get, put};
-use crate::streams::Streams;
+use streams::Streams;
 use crate::{notes, say};
 use std::num::{wrapping_add_usize, wrapping_sub_usize};
 

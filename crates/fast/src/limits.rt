@@ -16,8 +16,8 @@ pub const IDLE_LIMIT: u16 = 750;
 // A caller names at most so many DGNs.
 pub const DGNS: usize = 16;
 
-// The storage bytes that each of a receiver's places owns.
-pub use places::storage::PLACES;
+// The receiver's places, and the storage bytes that each owns.
+pub const PLACES: usize = places::storage::PLACES;
 
 pub const STRETCH: usize = 223;
 

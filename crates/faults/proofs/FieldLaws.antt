@@ -1,25 +1,18 @@
 -- The statements of specs/FieldLaws.antt, proved.
 -- Assumes nothing.
-use Rattle.std.specs.Prelude.{if◌then◌else◌}
 use mathlib.Core.Path.{◌≡◌, refl, sym, ap, ◌∙◌}
-use mathlib.Core.Bool.{false}
 use mathlib.Core.List.{List}
 use mathlib.Core.Logic.{⊎_elim}
 use Prim.Native.Nat.{ℕ, ◌<◌}
 use native.Mathlib.Omega.{arith}
 use borrow.Author.Tests.{ltb-true, ltb-false}
 use lib.ListN.{length}
-use Rattle.words.specs.Words.{◌<?◌, ◌=?◌, Told, refused, gives}
+use Rattle.words.specs.Words.{◌<?◌, Told, refused, gives}
 use Rattle.frame.specs.Bytes.{number_of, bytes_of, AreBytes}
 use Rattle.frame.specs.Identifier.{priority_of, reserved_of, dgn_of, source_of, is_addressed, catalogue_form}
 use Rattle.frame.specs.Frame.{source_allowed, checked_of}
-use Rattle.frame.specs.Promises.{refusal_of}
 use Rattle.frame.specs.declared.Parts.{Parts}
-use Rattle.frame.specs.declared.BadFrame.{BadFrame}
-use Rattle.frame.specs.declared.BadFrame.TheVariants.{IdentifierTooLarge, NotEightBytes, ReservedBitSet}
-use Rattle.frame.specs.declared.BadFrame.TheVariants.{SourceNotAllowed}
 use Rattle.words.proofs.Words.{by_test, refused_gives, gives_same}
-use Rattle.frame.proofs.Laws.{bad_back, bad_back_lem}
 use Rattle.catalogue.specs.Rows as Catalogue
 use Rattle.catalogue.specs.Table.{no_row, nth, having, lies_in_frame}
 use Rattle.catalogue.specs.Field.{field_of, with_field}
@@ -35,33 +28,19 @@ use Rattle.catalogue.proofs.Laws.{rule_holds, told_looked_same, told_reading_sam
 use Rattle.catalogue.proofs.Laws.{row_bits_kept, row_eight_bytes}
 use Rattle.faults.specs.Rows.{dm_rv, rows, high_part, middle_part, low_part, read_of, written_of}
 use Rattle.faults.specs.ServicePoint.{joined, service_point_of, written_parts, with_service_point_of}
-use Rattle.faults.specs.Promises.{told_service_point}
 use Rattle.faults.specs.Laws as the
 use Rattle.faults.specs.FieldLaws as Laws
-use Rattle.faults.specs.declared.ServicePoint.{ServicePoint}
+use Rattle.words.proofs.Words.{told_same}
+use Rattle.catalogue.specs.Promises.{number_of_not_read}
+use Rattle.catalogue.proofs.Laws.{not_read_same}
+use Rattle.catalogue.proofs.Bits.{field_below}
 use Rattle.faults.proofs.Table as Table
 use Rattle.faults.proofs.Parts as Points
 
 -- an answer is read back from what it tells
 
-not_eleven : (why : BadFrame) → (refusal_of why =? 11) ≡ false
-not_eleven IdentifierTooLarge = refl
-not_eleven NotEightBytes = refl
-not_eleven ReservedBitSet = refl
-not_eleven SourceNotAllowed = refl
-
-point_back : Told ℕ → ServicePoint
-point_back (gives number) = ServicePoint.Is number
-point_back (refused n) = if n =? 11 then ServicePoint.NoSuchRow else ServicePoint.BadFrame (bad_back n)
-
-point_back_lem : (r : ServicePoint) → point_back (told_service_point r) ≡ r
-unfolding point_back
-point_back_lem (ServicePoint.Is number) = refl
-point_back_lem (ServicePoint.BadFrame why) = rw (not_eleven why) (ap ServicePoint.BadFrame (bad_back_lem why))
-point_back_lem ServicePoint.NoSuchRow = refl
-
 pub told_service_point_same : the.ToldServicePointSame
-told_service_point_same r s e = sym (point_back_lem r) ∙ ap point_back e ∙ point_back_lem s
+told_service_point_same = told_same number_of_not_read not_read_same
 
 -- no second answer
 
@@ -160,7 +139,7 @@ service_point_lowest_wins id bytes number =
     refuses : (k : ℕ) → opened_for high_part id (length bytes) ≡ refused k
         → (service_point_of id bytes ≡ refused k) × (with_service_point_of id bytes number ≡ refused k)
     refuses k e =
-        let s = sym (Points.number_none id bytes k (read_none high_part id bytes k e)) in
+        let s = sym (Points.high_refused id bytes k (read_none high_part id bytes k e)) in
         (s, Points.with_none id bytes number k s)
 
     opened : (parts : Parts) → checked_of id (length bytes) ≡ gives parts → parts.dgn ≡ dm_rv
@@ -177,10 +156,10 @@ service_point_lowest_wins id bytes number =
 
 pub service_point_fits : Laws.ServicePointFits
 service_point_fits id bytes number e =
-    let s = gives_same (sym e ∙ Points.number_read_lem id bytes (Points.opens_number id bytes number e)) in
-    let h = Points.code_below high_part id bytes in
-    let m = Points.code_below middle_part id bytes in
-    let l = Points.code_below low_part id bytes in
+    let s = gives_same (sym e ∙ Points.number_is id bytes (Points.opens_number id bytes number e)) in
+    let h = field_below 16 8 (number_of bytes) in
+    let m = field_below 24 8 (number_of bytes) in
+    let l = field_below 37 3 (number_of bytes) in
     omega arith
 
 pub service_point_bytes : Laws.ServicePointBytes

@@ -1,6 +1,6 @@
 -- The statements of specs/Laws.antt on answers, refusals, states and steps, proved.
 -- Assumes nothing.
-use Rattle.std.specs.Prelude.{Option, Some, None}
+use Rattle.std.specs.Prelude.{Option, Some, None, Ok, Err}
 use Rattle.std.specs.Prelude.{if◌then◌else◌}
 use mathlib.Core.Path.{◌≡◌, refl, sym, ap, ◌∙◌}
 use mathlib.Core.Bool.{Bool, true, false}
@@ -16,7 +16,7 @@ use Rattle.frame.specs.Bytes.{number_of}
 use Rattle.frame.specs.Standard.{Frame}
 use Rattle.frame.specs.declared.BadFrame.TheVariants.{IdentifierTooLarge, NotEightBytes, ReservedBitSet}
 use Rattle.frame.specs.declared.BadFrame.TheVariants.{SourceNotAllowed}
-use Rattle.words.proofs.Words.{by_test, both_true}
+use Rattle.words.proofs.Words.{by_test, both_true, told_same}
 use Rattle.frame.proofs.Laws as frame_laws
 use Rattle.words.proofs.Lists.{found_at, every_map, every_set, every_at}
 use Rattle.claim.specs.Claim.{keeps_rules as claim_keeps_rules, stand_of, holds_list}
@@ -30,15 +30,17 @@ use Rattle.faults.specs.Sender.{keeps_rules, standing, fault_at, replacing, adde
 use Rattle.faults.specs.Sender.{cleared_of, passed_all, Outcome}
 use Rattle.faults.specs.Sender.{nothing_due, sends, stepped_of}
 use Rattle.faults.specs.Requests as Requests
-use Rattle.faults.specs.Promises.{told_adding, told_clearing, told_stepping, told_requesting}
+use Rattle.faults.specs.Promises.{told_clearing, told_stepping, told_requesting}
 use Rattle.faults.specs.Runs.{Happened, no_call, a_call}
 use Rattle.faults.specs.Laws as the
 use Rattle.faults.specs.declared.Fault.{Fault}
+use Rattle.faults.specs.Promises.{Clearing, Stepping, Requesting, number_of_not_added, number_of_not_heard}
+use Rattle.faults.specs.declared.NotAdded.{NotAdded}
+use Rattle.faults.specs.declared.NotCleared.{NotCleared}
+use Rattle.faults.specs.declared.NotStepped.{NotStepped}
+use Rattle.faults.specs.declared.NotHeard.{NotHeard}
+use Rattle.faults.specs.declared.Response.{Response}
 use Rattle.faults.specs.declared.Sender.{Sender}
-use Rattle.faults.specs.declared.Adding.{Adding}
-use Rattle.faults.specs.declared.Clearing.{Clearing}
-use Rattle.faults.specs.declared.Stepping.{Stepping}
-use Rattle.faults.specs.declared.Requesting.{Requesting}
 use Rattle.faults.proofs.Passing.{Phase, vacant, ready, coming, phase, due_says}
 use Rattle.faults.proofs.Chosen.{chosen_at}
 use Rattle.faults.proofs.Moves.{Move, add_refused, added_at_lem, clear_refused, cleared_at, step_refused, rested}
@@ -47,78 +49,87 @@ use Rattle.faults.proofs.Waiting.{allowed_says}
 
 -- an answer is read back from what it tells
 
-adding_back : Told ℕ → Adding
-adding_back (gives place) = Adding.Added place
-adding_back (refused n) =
-    if n =? 2 then Adding.BrokenState else
-    if n =? 20 then Adding.NoPlace else
-    Adding.PeriodNotAllowed
+not_added_back : ℕ → NotAdded
+not_added_back n =
+    if n =? 2 then NotAdded.BrokenState else
+    if n =? 20 then NotAdded.NoPlace else
+    NotAdded.PeriodNotAllowed
 
-adding_back_lem : (r : Adding) → adding_back (told_adding r) ≡ r
-unfolding adding_back
-adding_back_lem (Adding.Added place) = refl
-adding_back_lem Adding.BrokenState = refl
-adding_back_lem Adding.NoPlace = refl
-adding_back_lem Adding.PeriodNotAllowed = refl
+not_added_back_lem : (w : NotAdded) → not_added_back (number_of_not_added w) ≡ w
+unfolding not_added_back
+not_added_back_lem NotAdded.BrokenState = refl
+not_added_back_lem NotAdded.NoPlace = refl
+not_added_back_lem NotAdded.PeriodNotAllowed = refl
+
+not_added_same : (v w : NotAdded) → number_of_not_added v ≡ number_of_not_added w → v ≡ w
+not_added_same v w e = sym (not_added_back_lem v) ∙ ap not_added_back e ∙ not_added_back_lem w
 
 pub told_adding_same : the.ToldAddingSame
-told_adding_same r s e = sym (adding_back_lem r) ∙ ap adding_back e ∙ adding_back_lem s
+told_adding_same = told_same number_of_not_added not_added_same
 
 clearing_back : Told ℕ → Clearing
-clearing_back (gives place) = Clearing.Cleared
-clearing_back (refused n) = if n =? 2 then Clearing.BrokenState else Clearing.NoSuchFault
+clearing_back (gives place) = Ok tt
+clearing_back (refused n) = Err (if n =? 2 then NotCleared.BrokenState else NotCleared.NoSuchFault)
 
 clearing_back_lem : (r : Clearing) (p : ℕ) → clearing_back (told_clearing r p) ≡ r
 unfolding clearing_back
-clearing_back_lem Clearing.Cleared p = refl
-clearing_back_lem Clearing.BrokenState p = refl
-clearing_back_lem Clearing.NoSuchFault p = refl
+clearing_back_lem (Ok nothing) p = refl
+clearing_back_lem (Err NotCleared.BrokenState) p = refl
+clearing_back_lem (Err NotCleared.NoSuchFault) p = refl
 
 pub told_clearing_same : the.ToldClearingSame
 told_clearing_same r s p q e = sym (clearing_back_lem r p) ∙ ap clearing_back e ∙ clearing_back_lem s q
 
 stepping_back : Told Outcome → Stepping
-stepping_back (gives nothing_due) = Stepping.NothingDue
-stepping_back (gives (sends place frame)) = Stepping.Send place
+stepping_back (gives nothing_due) = Ok None
+stepping_back (gives (sends place frame)) = Ok (Some place)
 stepping_back (refused n) =
-    if n =? 2 then Stepping.BrokenState else
-    if n =? 16 then Stepping.ListMalformed else
-    Stepping.NoAddressHeld
+    Err (
+    if n =? 2 then NotStepped.BrokenState else
+    if n =? 16 then NotStepped.ListMalformed else
+    NotStepped.NoAddressHeld
+    )
 
 stepping_back_lem : (r : Stepping) (f : Frame) → stepping_back (told_stepping r f) ≡ r
 unfolding stepping_back
-stepping_back_lem (Stepping.Send place) f = refl
-stepping_back_lem Stepping.NothingDue f = refl
-stepping_back_lem Stepping.BrokenState f = refl
-stepping_back_lem Stepping.ListMalformed f = refl
-stepping_back_lem Stepping.NoAddressHeld f = refl
+stepping_back_lem (Ok (Some place)) f = refl
+stepping_back_lem (Ok None) f = refl
+stepping_back_lem (Err NotStepped.BrokenState) f = refl
+stepping_back_lem (Err NotStepped.ListMalformed) f = refl
+stepping_back_lem (Err NotStepped.NoAddressHeld) f = refl
 
 pub told_stepping_same : the.ToldSteppingSame
 told_stepping_same r s f g e = sym (stepping_back_lem r f) ∙ ap stepping_back e ∙ stepping_back_lem s g
 
+not_heard_back : ℕ → NotHeard
+not_heard_back n =
+    if n =? 2 then NotHeard.BrokenState else
+    if n =? 16 then NotHeard.ListMalformed else
+    if n =? 17 then NotHeard.DgnTooLarge else
+    if n =? 18 then NotHeard.NoAddressHeld else
+    NotHeard.BadFrame (frame_laws.bad_back n)
+
+not_heard_back_lem : (w : NotHeard) → not_heard_back (number_of_not_heard w) ≡ w
+unfolding not_heard_back
+not_heard_back_lem NotHeard.BrokenState = refl
+not_heard_back_lem (NotHeard.BadFrame IdentifierTooLarge) = ap NotHeard.BadFrame (frame_laws.bad_back_lem IdentifierTooLarge)
+not_heard_back_lem (NotHeard.BadFrame NotEightBytes) = ap NotHeard.BadFrame (frame_laws.bad_back_lem NotEightBytes)
+not_heard_back_lem (NotHeard.BadFrame ReservedBitSet) = ap NotHeard.BadFrame (frame_laws.bad_back_lem ReservedBitSet)
+not_heard_back_lem (NotHeard.BadFrame SourceNotAllowed) = ap NotHeard.BadFrame (frame_laws.bad_back_lem SourceNotAllowed)
+not_heard_back_lem NotHeard.ListMalformed = refl
+not_heard_back_lem NotHeard.DgnTooLarge = refl
+not_heard_back_lem NotHeard.NoAddressHeld = refl
+
 requesting_back : Told Requests.Reply → Requesting
-requesting_back (gives Requests.nothing_to_do) = Requesting.NothingToDo
-requesting_back (gives (Requests.sends frame)) = Requesting.Send
-requesting_back (refused n) =
-    if n =? 2 then Requesting.BrokenState else
-    if n =? 16 then Requesting.ListMalformed else
-    if n =? 17 then Requesting.DgnTooLarge else
-    if n =? 18 then Requesting.NoAddressHeld else
-    Requesting.BadFrame (frame_laws.bad_back n)
+requesting_back (gives Requests.nothing_to_do) = Ok Response.NothingToDo
+requesting_back (gives (Requests.sends frame)) = Ok Response.Send
+requesting_back (refused n) = Err (not_heard_back n)
 
 requesting_back_lem : (r : Requesting) (f : Frame) → requesting_back (told_requesting r f) ≡ r
 unfolding requesting_back
-requesting_back_lem Requesting.NothingToDo f = refl
-requesting_back_lem Requesting.Send f = refl
-requesting_back_lem Requesting.BrokenState f = refl
-requesting_back_lem (Requesting.BadFrame IdentifierTooLarge) f =
-    ap Requesting.BadFrame (frame_laws.bad_back_lem IdentifierTooLarge)
-requesting_back_lem (Requesting.BadFrame NotEightBytes) f = ap Requesting.BadFrame (frame_laws.bad_back_lem NotEightBytes)
-requesting_back_lem (Requesting.BadFrame ReservedBitSet) f = ap Requesting.BadFrame (frame_laws.bad_back_lem ReservedBitSet)
-requesting_back_lem (Requesting.BadFrame SourceNotAllowed) f = ap Requesting.BadFrame (frame_laws.bad_back_lem SourceNotAllowed)
-requesting_back_lem Requesting.ListMalformed f = refl
-requesting_back_lem Requesting.DgnTooLarge f = refl
-requesting_back_lem Requesting.NoAddressHeld f = refl
+requesting_back_lem (Ok Response.NothingToDo) f = refl
+requesting_back_lem (Ok Response.Send) f = refl
+requesting_back_lem (Err why) f = ap Err (not_heard_back_lem why)
 
 pub told_requesting_same : the.ToldRequestingSame
 told_requesting_same r s f g e = sym (requesting_back_lem r f) ∙ ap requesting_back e ∙ requesting_back_lem s g
@@ -165,6 +176,18 @@ reply_only id bytes h c state r s p q =
     let d = p.host.sent_id ∙ sym q.host.sent_id in
     let b = p.host.sent_bytes ∙ sym q.host.sent_bytes in
     λ i. record { faults = f i; host = record { answer = a i; positions = x i; id = d i; bytes = b i } }
+
+pub not_added_refusal_only : the.NotAddedRefusalOnly
+not_added_refusal_only why r s p q = p.number ∙ sym q.number
+
+pub not_cleared_refusal_only : the.NotClearedRefusalOnly
+not_cleared_refusal_only why r s p q = p.number ∙ sym q.number
+
+pub not_stepped_refusal_only : the.NotSteppedRefusalOnly
+not_stepped_refusal_only why r s p q = p.number ∙ sym q.number
+
+pub not_heard_refusal_only : the.NotHeardRefusalOnly
+not_heard_refusal_only why r s p q = p.number ∙ sym q.number
 
 pub adding_refusal_only : the.AddingRefusalOnly
 adding_refusal_only answer r s p q = p.number ∙ sym q.number

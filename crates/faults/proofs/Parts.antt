@@ -8,13 +8,12 @@ use native.Mathlib.Omega.{arith}
 use borrow.Author.Tests.{leb-false, lt-leb, le-leb}
 use lib.IntN.{pos}
 use lib.ListN.{length, get_or}
-use lib.Pow.{pow_pos}
 use Rattle.words.specs.Words.{◌≤?◌, Told, refused, gives, done}
 use Rattle.frame.specs.Bytes.{number_of, AreBytes}
 use Rattle.frame.specs.Identifier.{catalogue_form}
 use Rattle.frame.specs.Frame.{frame_bytes}
 use Rattle.frame.specs.declared.Parts.{Parts}
-use Rattle.words.proofs.Words.{past_refusal, gives_same}
+use Rattle.words.proofs.Words.{past_refusal, gives_same, refused_gives}
 use Rattle.frame.proofs.Frame.{checked_given}
 use Rattle.catalogue.specs.Rows.{plain}
 use Rattle.catalogue.specs.Table.{lies_in_frame}
@@ -23,18 +22,19 @@ use Rattle.catalogue.specs.Classes.{class_in}
 use Rattle.catalogue.specs.Scale.{scaled_of, value_of}
 use Rattle.catalogue.specs.Codes.{code_of}
 use Rattle.catalogue.specs.Catalogue.{field_in, opened_for, read_row_of, written_row_of, replaced}
-use Rattle.catalogue.specs.Promises.{told_writing, done_if, bytes_after}
+use Rattle.catalogue.specs.Promises.{Writing, told_writing, done_if, bytes_after}
 use Rattle.catalogue.specs.Laws.{field_at}
 use Rattle.catalogue.specs.declared.Row.{Row}
 use Rattle.catalogue.specs.declared.Field.{Field}
 use Rattle.catalogue.specs.declared.Value.{Value}
 use Rattle.catalogue.specs.declared.Value.TheVariants.{Scaled}
-use Rattle.catalogue.specs.declared.Writing.{Writing}
-use Rattle.catalogue.proofs.Found.{given_then, found, match_same, for_sound, read_none, read_row, write_row}
+use Rattle.std.specs.Prelude.{Err}
+use Rattle.catalogue.specs.declared.NotWritten.{NotWritten}
+use Rattle.catalogue.proofs.Found.{given_then, found, match_same, for_sound, read_row, write_row, field_read}
 use Rattle.catalogue.proofs.Bits.{field_below}
 use Rattle.catalogue.proofs.Laws.{code_back, row_reads_code, row_reads_others, row_eight_bytes}
 use Rattle.faults.specs.Rows.{field, high_part, middle_part, low_part, read_of, written_of}
-use Rattle.faults.specs.ServicePoint.{service_points, joined, code_in, service_point_of, HasServicePoint}
+use Rattle.faults.specs.ServicePoint.{service_points, joined, service_point_of, HasServicePoint}
 use Rattle.faults.specs.ServicePoint.{written_parts, with_service_point_of}
 use Rattle.faults.specs.Promises.{WriteField, WriteServicePoint}
 
@@ -78,44 +78,19 @@ opens_number id bytes number e =
     opens_read id bytes a.0 a.1
 
 -- a code that is read fits its row
-pub code_below : (row : Row) (id : ℕ) (bytes : List ℕ) → code_in (read_row_of row id bytes) < 2 ^ row.width
+pub code_below : (row : Row) (id : ℕ) (bytes : List ℕ) (f : Field) → gives f ≡ read_row_of row id bytes → f.code < 2 ^ row.width
 unfolding field_in
-code_below row id bytes = go (opened_for row id (length bytes)) refl
-  where
-    go : (t : Told Row) → opened_for row id (length bytes) ≡ t → code_in (read_row_of row id bytes) < 2 ^ row.width
-    go (refused k) e = rw (← (read_none row id bytes k e)) (pow_pos row.width)
-    go (gives r) e =
-        let s = (found row id (length bytes) r e).is in
-        rw (← (read_row row id bytes r e), s) (field_below row.first row.width (number_of bytes))
-
--- the number that is read
-pub number_none : (id : ℕ) (bytes : List ℕ) (k : ℕ) → refused k ≡ read_of 5 id bytes
-    → refused k ≡ service_point_of id bytes
-unfolding service_point_of read_of
-number_none id bytes k e = rw (← e) refl
-
-abbrev code_at : Row → ℕ → List ℕ → ℕ
-code_at row id bytes = code_in (read_row_of row id bytes)
-
-pub number_read_lem : (id : ℕ) (bytes : List ℕ) → Opens id (length bytes)
-    → service_point_of id bytes
-    ≡ gives (joined (code_at high_part id bytes) (code_at middle_part id bytes) (code_at low_part id bytes))
-unfolding service_point_of
-number_read_lem id bytes o =
-    let h = read_row high_part id bytes high_part o.high in
-    let m = read_row middle_part id bytes middle_part o.middle in
-    let l = read_row low_part id bytes low_part o.low in
-    rw (← h, ← m, ← l)
+code_below row id bytes f e = rw (field_read row id bytes f e).1 (field_below row.first row.width (number_of bytes))
 
 pub number_is : (id : ℕ) (bytes : List ℕ) → Opens id (length bytes)
     → service_point_of id bytes
     ≡ gives (joined (field_of 16 8 (number_of bytes)) (field_of 24 8 (number_of bytes)) (field_of 37 3 (number_of bytes)))
-unfolding field_in
+unfolding service_point_of field_in
 number_is id bytes o =
     let h = read_row high_part id bytes high_part o.high in
     let m = read_row middle_part id bytes middle_part o.middle in
     let l = read_row low_part id bytes low_part o.low in
-    number_read_lem id bytes o ∙ rw (← h, ← m, ← l)
+    rw (← h, ← m, ← l)
 
 -- the parts as bytes: bytes 2 and 3, and the three highest bits of byte 4
 
@@ -148,22 +123,30 @@ in_bytes (a ∷ b ∷ c ∷ d ∷ e ∷ rest) h l =
       field_four a b c d e rest (h 0) (h 1) (h 2) (h 3) (h 4),
     )
 
--- what the code reads: the parts fit, and spell the number
-module _ (id : ℕ) (bytes : List ℕ) (f : Field) (m l : ℕ) (e : gives f ≡ read_of 5 id bytes)
-    (p : m ≡ code_in (read_of 6 id bytes)) (q : l ≡ code_in (read_of 8 id bytes)) where
-  pub parts_below : (f.code < 256) × (m < 256) × (l < 8)
-  unfolding read_of
-  parts_below = (
-    subst (λ (x : Told Field). code_in x < 256) (sym e) (code_below high_part id bytes),
-    rw p (code_below middle_part id bytes),
-    rw q (code_below low_part id bytes),
-  )
+-- what the code reads: the number that three parts spell, or the first refusal of a part
+module _ (id : ℕ) (bytes : List ℕ) where
+  pub high_refused : (k : ℕ) → refused k ≡ read_of 5 id bytes → refused k ≡ service_point_of id bytes
+  unfolding service_point_of read_of
+  high_refused k e = rw (← e) refl
 
-  pub parts_joined : (number : ℕ) → number ≡ joined f.code m l → gives number ≡ service_point_of id bytes
-  unfolding read_of
-  parts_joined number n =
-      let o = opens_read id bytes f (sym e) in
-      ap gives (n ∙ rw (p, q, ap code_in e)) ∙ sym (number_read_lem id bytes o)
+  module _ (high : Field) (e : gives high ≡ read_of 5 id bytes) where
+    pub middle_refused : (k : ℕ) → refused k ≡ read_of 6 id bytes → refused k ≡ service_point_of id bytes
+    unfolding service_point_of read_of
+    middle_refused k f = rw (← e, ← f) refl
+
+    module _ (middle : Field) (f : gives middle ≡ read_of 6 id bytes) where
+      pub low_refused : (k : ℕ) → refused k ≡ read_of 8 id bytes → refused k ≡ service_point_of id bytes
+      unfolding service_point_of read_of
+      low_refused k g = rw (← e, ← f, ← g) refl
+
+      pub parts_below : (low : Field) → gives low ≡ read_of 8 id bytes → (high.code < 256) × (middle.code < 256) × (low.code < 8)
+      unfolding read_of
+      parts_below low g = (code_below high_part id bytes high e, code_below middle_part id bytes middle f, code_below low_part id bytes low g)
+
+      pub parts_joined : (low : Field) (number : ℕ) → gives low ≡ read_of 8 id bytes
+          → number ≡ joined high.code middle.code low.code → gives number ≡ service_point_of id bytes
+      unfolding service_point_of read_of
+      parts_joined low number g n = rw (← e, ← f, ← g) (ap gives n)
 
 -- a plain row takes every code that fits
 plain_code : (first width c : ℕ) → c < 2 ^ width → code_of (field first width plain) (Scaled (pos c)) ≡ gives c
@@ -280,6 +263,27 @@ parts_written id bytes number a₁ a₂ a₃ v₁ v₂ v₃ r₁ r₂ r₃ p h q
       answer = d₃.told ∙ sym (ap done_if g);
       data_bytes = d₃.is ∙ sym (ap (λ (t : Told (List ℕ)). bytes_after t bytes) g);
     }
+
+-- none of the first two is refused
+first_not : (n id : ℕ) (bytes new after : List ℕ) (v value : Value) (w : NotWritten) → v ≡ value
+    → WriteField n id bytes v (Err w) after → written_of n id bytes value ≡ gives new → ⊥
+first_not n id bytes new after v value w q p e = refused_gives (did n id bytes new after v value (Err w) q p e).told
+
+module _ (id : ℕ) (bytes : List ℕ) (number : ℕ) (a₁ : List ℕ) (v₁ : Value) (p : HasServicePoint id bytes)
+    (h : number < service_points) (q₁ : v₁ ≡ Scaled (pos (number / 2048))) where
+  pub high_not : (w : NotWritten) → WriteField 5 id bytes v₁ (Err w) a₁ → ⊥
+  unfolding written_of
+  high_not w w₁ =
+      let s = (written id bytes number (opens_number id bytes p.number p.is) h).steps in
+      first_not 5 id bytes s.one a₁ v₁ _ w q₁ w₁ s.high
+
+  pub middle_not : (r₁ : Writing) (a₂ : List ℕ) (v₂ : Value) (w : NotWritten) → WriteField 5 id bytes v₁ r₁ a₁
+      → v₂ ≡ Scaled (pos (number / 8 % 256)) → WriteField 6 id a₁ v₂ (Err w) a₂ → ⊥
+  unfolding written_of
+  middle_not r₁ a₂ v₂ w w₁ q₂ w₂ =
+      let s = (written id bytes number (opens_number id bytes p.number p.is) h).steps in
+      let d₁ = did 5 id bytes s.one a₁ v₁ _ r₁ q₁ w₁ s.high in
+      first_not 6 id a₁ s.two a₂ v₂ _ w q₂ w₂ (rw d₁.is s.middle)
 
 -- for the code: a number that cannot be read is not written
 pub write_keeps : (id : ℕ) (bytes : List ℕ) (number : ℕ) (r : Writing) (k : ℕ) → told_writing r ≡ refused k

@@ -1,6 +1,6 @@
 -- There is a run of whatever calls are made; and one in which a due fault waits for 31 others.
 -- Assumes nothing.
-use Rattle.std.specs.Prelude.{Option, Some, None}
+use Rattle.std.specs.Prelude.{Option, Some, None, Ok, Err}
 use mathlib.Core.Path.{◌≡◌, refl, sym, ◌∙◌}
 use mathlib.Core.List.{List, [], ◌∷◌}
 use Prim.Native.Nat.{ℕ}
@@ -22,36 +22,37 @@ use Rattle.faults.specs.Promises.{told_adding, told_clearing, told_stepping, sen
 use Rattle.faults.specs.Runs.{Leads, no_call, a_call, Call, adding, clearing, stepping}
 use Rattle.faults.specs.Runs.{happens, leaves, played, played_to, EveryRunRuns, Sharp}
 use Rattle.faults.specs.Laws.{holding}
+use Rattle.faults.specs.Promises.{Adding, Clearing, Stepping}
+use Rattle.faults.specs.declared.NotAdded.{NotAdded}
+use Rattle.faults.specs.declared.NotCleared.{NotCleared}
+use Rattle.faults.specs.declared.NotStepped.{NotStepped}
 use Rattle.faults.specs.declared.Sender.{Sender}
-use Rattle.faults.specs.declared.Adding.{Adding}
-use Rattle.faults.specs.declared.Clearing.{Clearing}
-use Rattle.faults.specs.declared.Stepping.{Stepping}
 
 -- every answer of the definitions has a name in the code
 
 add_found : (period : ℕ) (found : Option ℕ) → (answer : Adding) × (told_adding answer ≡ added_for period found)
 unfolding added_at
-add_found period None = (Adding.NoPlace, refl)
+add_found period None = (Err NotAdded.NoPlace, refl)
 add_found period (Some at) =
     by_test (is_allowed period)
-    (λ e. (Adding.Added at, sym (rw e)))
-    (λ e. (Adding.PeriodNotAllowed, sym (rw e)))
+    (λ e. (Ok at, sym (rw e)))
+    (λ e. (Err NotAdded.PeriodNotAllowed, sym (rw e)))
 
 add_answer : (period : ℕ) (s : Sender) → (answer : Adding) × (told_adding answer ≡ added_of period s)
 unfolding added_of
 add_answer period s =
     by_test (keeps_rules s)
     (λ e. let t = add_found period (first is_empty s.faults) in (t.0, t.1 ∙ sym (rw e)))
-    (λ e. (Adding.BrokenState, sym (rw e)))
+    (λ e. (Err NotAdded.BrokenState, sym (rw e)))
 
 clear_answer : (place : ℕ) (s : Sender) → (answer : Clearing) × (told_clearing answer place ≡ cleared_of place s)
 unfolding cleared_of
 clear_answer place s =
     by_test (keeps_rules s)
     (λ e. by_test (is_active_at place s)
-    (λ k. (Clearing.Cleared, sym (rw (e, k))))
-    (λ k. (Clearing.NoSuchFault, sym (rw (e, k)))))
-    (λ e. (Clearing.BrokenState, sym (rw e)))
+    (λ k. (Ok tt, sym (rw (e, k))))
+    (λ k. (Err NotCleared.NoSuchFault, sym (rw (e, k)))))
+    (λ e. (Err NotCleared.BrokenState, sym (rw e)))
 
 -- an answer with its frame
 record Answered (told : Told Outcome) : Type 0 where
@@ -59,14 +60,14 @@ record Answered (told : Told Outcome) : Type 0 where
   pub is : told_stepping answer (sent_in told) ≡ told
 
 of_outcome : (outcome : Outcome) → Answered (gives outcome)
-of_outcome nothing_due = record { answer = Stepping.NothingDue; is = refl }
-of_outcome (sends at frame) = record { answer = Stepping.Send at; is = refl }
+of_outcome nothing_due = record { answer = Ok None; is = refl }
+of_outcome (sends at frame) = record { answer = Ok (Some at); is = refl }
 
 at_stand : (stand : Stand) (s : Sender) → Answered (given address_held stand then λ address. gives (held_step address s))
 unfolding address_held
 at_stand (held address) s = of_outcome (held_step address s)
-at_stand (claiming address) s = record { answer = Stepping.NoAddressHeld; is = refl }
-at_stand silent s = record { answer = Stepping.NoAddressHeld; is = refl }
+at_stand (claiming address) s = record { answer = Err NotStepped.NoAddressHeld; is = refl }
+at_stand silent s = record { answer = Err NotStepped.NoAddressHeld; is = refl }
 
 step_answer : (c : Claim) (s : Sender) → Answered (stepped_of c s)
 unfolding stepped_of standing sound_of
@@ -75,9 +76,9 @@ step_answer c s =
     (λ e. by_test (claim_keeps_rules c)
     (λ k. by_test (holds_list c)
     (λ l. rw (e, k, l) (at_stand (stand_of c) s))
-    (λ l. rw (e, k, l) (record { answer = Stepping.ListMalformed; is = refl })))
-    (λ k. rw (e, k) (record { answer = Stepping.BrokenState; is = refl })))
-    (λ e. rw e (record { answer = Stepping.BrokenState; is = refl }))
+    (λ l. rw (e, k, l) (record { answer = Err NotStepped.ListMalformed; is = refl })))
+    (λ k. rw (e, k) (record { answer = Err NotStepped.BrokenState; is = refl })))
+    (λ e. rw e (record { answer = Err NotStepped.BrokenState; is = refl }))
 
 one_call : (s : Sender) (call : Call) → Leads s (happens s call) (leaves s call)
 one_call s (adding bytes period) =

@@ -1,7 +1,7 @@
 -- The steps by which each call of a sender comes to its answer, answers with no frame beside them, a place that is
 -- read, and the pass that looks for the greatest age.
 -- Assumes nothing.
-use Rattle.std.specs.Prelude.{Option, Some, None}
+use Rattle.std.specs.Prelude.{Option, Some, None, Ok, Err}
 use Rattle.std.specs.Prelude.{if◌then◌else◌}
 use mathlib.Core.Path.{◌≡◌, refl, sym, ap, ◌∙◌}
 use mathlib.Core.Bool.{Bool, true, false}
@@ -10,22 +10,22 @@ use Prim.Native.Nat.{ℕ, zero, suc, ◌+◌, ◌≤◌, ◌<◌, max}
 use native.Mathlib.Nat.{le_of_suc-le-suc, not-suc-le-zero}
 use native.Mathlib.Numerals.{add-one}
 use native.Mathlib.Omega.{arith}
-use borrow.Author.Tests.{ltb-true, ltb-false, lt-ltb}
+use borrow.Author.Tests.{ltb-true, ltb-false}
 use lib.ListN.{length, drop, get_or, drop_of_length-le}
 use lib.Seq.{drop-cons}
 use Rattle.words.specs.Words.{given◌then◌, ◌<?◌, Told, refused, gives}
-use Rattle.words.specs.Lists.{first_from, first}
+use Rattle.words.specs.Lists.{first}
 use Rattle.frame.specs.Frame.{checked_of}
 use Rattle.frame.specs.Standard.{no_frame}
 use Rattle.frame.specs.Promises.{bytes_if}
 use Rattle.frame.specs.declared.Parts.{Parts}
 use Rattle.words.proofs.Words.{by_test, both_true}
-use Rattle.words.proofs.Lists.{search_pass, search_stop, search_end, found_at as found_at_lem}
+use Rattle.words.proofs.Lists.{found_at as found_at_lem}
 use Rattle.claim.specs.Claim as Claim
 use Rattle.claim.specs.Claim.{Stand, claiming, silent}
 use Rattle.claim.specs.Promises.{told_standing, Stands}
 use Rattle.claim.specs.declared.Claim as Claims
-use Rattle.claim.specs.declared.Standing.{Standing}
+use Rattle.claim.specs.Promises.{Standing}
 use Rattle.command.specs.Handed.{address_held}
 use Rattle.command.specs.Positions.{filled}
 use Rattle.command.specs.Requests as Host
@@ -39,20 +39,16 @@ use Rattle.faults.specs.Requests.{Asks, other, faults_of, meant_by, reply_bytes,
 use Rattle.faults.specs.Requests.{heard_of, requested_of}
 use Rattle.faults.specs.Promises as Promises
 use Rattle.faults.specs.Promises.{told_stepping, sent_in, SteppedBy, told_requesting, replied_in, RequestedBy}
-use Rattle.faults.specs.Promises.{Request, host_told}
-use Rattle.faults.specs.Private.{lowest, found_at, told_meant, sent_at, bare_stepped, bare_requested, answered_by}
+use Rattle.faults.specs.Promises.{Request, host_told, Stepping, Requesting, number_of_not_heard}
+use Rattle.faults.specs.Private.{Meant, told_meant, sent_at, bare_stepped, bare_requested, answered_by}
 use Rattle.faults.specs.Private.{without_host}
 use Rattle.faults.specs.declared.Fault.{Fault}
 use Rattle.faults.specs.declared.Sender.{Sender}
-use Rattle.faults.specs.declared.Stepping.{Stepping}
-use Rattle.faults.specs.declared.Stepping.TheVariants.{NothingDue}
 use Rattle.faults.specs.declared.Stepped.{Stepped}
-use Rattle.faults.specs.declared.Requesting.{Requesting}
-use Rattle.faults.specs.declared.Requesting.TheVariants.{NothingToDo}
+use Rattle.faults.specs.declared.Response.TheVariants.{NothingToDo}
+use Rattle.faults.specs.declared.NotHeard.{NotHeard}
 use Rattle.faults.specs.declared.Requested.{Requested}
 use Rattle.faults.specs.declared.Replied.{Replied}
-use Rattle.faults.specs.declared.requests.Meant.{Meant}
-use Rattle.faults.specs.declared.requests.Meant.TheVariants.{Other, DgnTooLarge, Faults}
 
 -- ---- A place that is read.
 
@@ -65,40 +61,6 @@ pub same_at : {A : Type 0} (l : List A) (i : ℕ) (d e : A) → i < length l →
 same_at [] i d e h = absurd (not-suc-le-zero h)
 same_at (x ∷ l) zero d e h = refl
 same_at (x ∷ l) (suc i) d e h = same_at l i d e (le_of_suc-le-suc h)
-
--- ---- The pass that looks for the lowest place.
-
--- what has been found, or will be from place i on
-abbrev pub found_or : (Fault → Bool) → ℕ → ℕ → List Fault → Option ℕ
-found_or f at i fs = if at <? fault_places then Some at else first_from f i (drop i fs)
-
-kept_lowest : (at i : ℕ) (b : Bool) → (at <? fault_places) ≡ true → lowest at i b ≡ at
-unfolding lowest
-kept_lowest at i true k = rw k
-kept_lowest at i false k = refl
-
-first_lowest : (at i : ℕ) → (at <? fault_places) ≡ false → lowest at i true ≡ i
-unfolding lowest
-first_lowest at i k = rw k
-
-pub pass_turn : (f : Fault → Bool) (fs : List Fault) (i at next : ℕ) (b : Bool) (d : Fault) → i < length fs
-    → i < fault_places
-    → b ≡ f (get_or fs i d) → next ≡ lowest at i b → found_or f at i fs ≡ found_or f next (i + 1) fs
-unfolding lowest
-pass_turn f fs i at next b d h l e n =
-    by_test (at <? fault_places)
-    (λ k. rw (n ∙ kept_lowest at i b k, k))
-    (λ k. by_test b
-    (λ t.
-    let m : next ≡ i = n ∙ ap (lowest at i) t ∙ first_lowest at i k in
-    rw (m, k, lt-ltb i fault_places l) (search_stop f fs i d h (sym e ∙ t)))
-    (λ t.
-    let m : next ≡ at = n ∙ ap (lowest at i) t in
-    rw (m, k) (search_pass f fs i d h (sym e ∙ t))))
-
-pub pass_end : (f : Fault → Bool) (fs : List Fault) (i at : ℕ) → length fs ≤ i → found_or f at i fs ≡ found_at at
-unfolding found_at
-pass_end f fs i at h = rw (search_end f fs i h)
 
 -- ---- The pass that looks for the greatest age.
 
@@ -187,10 +149,10 @@ module _ (address : ℕ) (s : Sender) where
       }
       )
 
-  pub step_quiet : (r : Stepped) → chosen (passed_all s).faults ≡ None → r ≡ bare_stepped (passed_all s) NothingDue
+  pub step_quiet : (r : Stepped) → chosen (passed_all s).faults ≡ None → r ≡ bare_stepped (passed_all s) (Ok None)
       → SteppedBy (gives (held_step address s)) s r
   unfolding held_step
-  step_quiet r e h = rw e (bare_stepped_lem (gives nothing_due) NothingDue s (passed_all s) r refl refl refl h)
+  step_quiet r e h = rw e (bare_stepped_lem (gives nothing_due) (Ok None) s (passed_all s) r refl refl refl h)
 
 -- what our claim's standing tells
 pub stands_told : (c : Claims.Claim) (r : Standing) → Stands c r → standing c ≡ told_standing r
@@ -235,14 +197,14 @@ abbrev pub answered : Stand → Sender → Told Asks → Told Reply
 answered stand s meant = given meant then λ asks. answer_at stand asks s
 
 module _ (stand : Stand) (s : Sender) (meant : Meant) where
-  pub answered_other : meant ≡ Other → answered stand s (told_meant meant) ≡ gives nothing_to_do
+  pub answered_other : meant ≡ Ok None → answered stand s (told_meant meant) ≡ gives nothing_to_do
   unfolding answer_at
   answered_other e = rw e
 
-  pub answered_large : meant ≡ DgnTooLarge → answered stand s (told_meant meant) ≡ refused 17
-  answered_large e = rw e
+  pub answered_refused : (why : NotHeard) → meant ≡ Err why → answered stand s (told_meant meant) ≡ refused (number_of_not_heard why)
+  answered_refused why e = rw e
 
-  pub answered_faults : (destination : ℕ) → meant ≡ Faults destination
+  pub answered_faults : (destination : ℕ) → meant ≡ Ok (Some destination)
       → answered stand s (told_meant meant) ≡ answer_at stand (faults_of destination) s
   answered_faults destination e = rw e
 
@@ -291,7 +253,7 @@ module _ (id : ℕ) (bytes : List ℕ) (c : Claims.Claim) (s : Sender) where
 -- ---- A request to a node that has a host too.
 
 pub reply_to_host : {id : ℕ} {bytes : List ℕ} {h : Hosts.Host} {c : Claims.Claim} {s : Sender} (r : Replied)
-    → Request id bytes c s r.faults → r.faults.answer ≡ NothingToDo → HostPromises.Request id bytes h c r.host
+    → Request id bytes c s r.faults → r.faults.answer ≡ Ok NothingToDo → HostPromises.Request id bytes h c r.host
     → Promises.Reply id bytes h c s r
 reply_to_host r f a h = record { faults = f; host = rw (sym f.answer, a) h }
 

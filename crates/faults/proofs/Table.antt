@@ -11,15 +11,13 @@ use Rattle.words.specs.Words.{◌<?◌, Told, refused, gives}
 use Rattle.frame.specs.Identifier.{is_addressed, destination_of, catalogue_form}
 use Rattle.frame.specs.Frame.{checked_of}
 use Rattle.frame.specs.declared.Parts.{Parts}
-use Rattle.words.proofs.Words.{by_test, before_refusal, gives_same, refused_gives}
+use Rattle.words.proofs.Words.{by_test}
 use Rattle.catalogue.specs.Table.{no_row, nth, row_in, below, having, row_with, span_in, lies_in_frame, in_order, KeepsRule}
 use Rattle.catalogue.specs.Packed.{unit_of, unpacked, pack, table_rows, table_row, table_row_with, table_span}
 use Rattle.catalogue.specs.Catalogue.{opened_for, read_row_of, written_row_of}
-use Rattle.catalogue.specs.Promises.{done_if, bytes_after, ReadRow, WriteRow}
+use Rattle.catalogue.specs.Promises.{Reading, Writing, done_if, bytes_after, ReadRow, WriteRow}
 use Rattle.catalogue.specs.declared.Row.{Row}
-use Rattle.catalogue.specs.declared.Reading.{Reading}
 use Rattle.catalogue.specs.declared.Value.{Value}
-use Rattle.catalogue.specs.declared.Writing.{Writing}
 use Rattle.catalogue.proofs.Rule.{lies_at}
 use Rattle.catalogue.proofs.Found.{match_outside, match_other, match_same, for_sound}
 use Rattle.catalogue.proofs.Laws.{rule_holds, row_in_ruled, rows_in_ruled, row_of_in_ruled}
@@ -69,17 +67,6 @@ write_by n id bytes value row r after e p =
 -- past the end
 pub past : (n : ℕ) → length rows ≤ n → nth rows n ≡ no_row
 past n h = get_or-eq_default rows no_row h
-
--- what a row that is looked for shows, for the code
-
-pub looked_row : (n : ℕ) (row : Row) → row_in rows n ≡ gives row → row ≡ nth rows n
-unfolding row_in
-looked_row n row e = sym (gives_same (before_refusal (n <? length rows) 11 (gives (nth rows n)) e).1)
-
-pub looked_none : (n : ℕ) {k : ℕ} → row_in rows n ≡ refused k → no_row ≡ nth rows n
-unfolding row_in
-looked_none n e =
-    by_test (n <? length rows) (λ t. refused_gives (sym (rw t at e))) (λ t. sym (past n (ltb-false n (length rows) t)))
 
 -- each row is one of DM_RV
 pub own : (n : ℕ) → n < length rows → (nth rows n).dgn ≡ dm_rv

@@ -15,7 +15,7 @@ use Rattle.catalogue.specs.Promises.{told_writing, done_if}
 use Rattle.catalogue.specs.Laws.{Ruled, bit_of}
 use Rattle.catalogue.specs.declared.Class.TheVariants.{Number, NoData}
 use Rattle.catalogue.specs.declared.Value.{Value}
-use Rattle.catalogue.specs.declared.Writing.{Writing}
+use Rattle.catalogue.specs.Promises.{Writing}
 use Rattle.faults.specs.Rows.{dm_rv, rows, packed, high_part, middle_part, low_part, read_of, written_of}
 use Rattle.faults.specs.ServicePoint.{service_points, joined, service_point_of, with_service_point_of}
 use Rattle.faults.specs.Promises.{WriteField, WriteServicePoint}

@@ -9,10 +9,7 @@ use Rattle.frame.specs.Identifier.{identifiers, catalogue_form, destination_of, 
 use Rattle.frame.specs.Frame.{checked_of, frame_bytes}
 use Rattle.frame.specs.Standard.{Frame, no_frame, greatest_address, everyone, request_dgn, dgn_at}
 use Rattle.frame.specs.declared.Parts.{Parts}
-use Rattle.catalogue.specs.declared.Looked.{Looked}
-use Rattle.catalogue.specs.declared.Reading.{Reading}
 use Rattle.catalogue.specs.declared.Value.{Value}
-use Rattle.catalogue.specs.declared.Writing.{Writing}
 use Rattle.claim.specs.Claim as Claims
 use Rattle.claim.specs.Claim.{holds_list, held, stand_of}
 use Rattle.claim.specs.Promises.{is_sound}
@@ -32,6 +29,13 @@ use Rattle.faults.specs.Sender.{dm_rv_priority, dm_rv_id, dm_rv_frame, keeps_rul
 use Rattle.faults.specs.Sender.{after_add, is_active_at, cleared_of, nothing_due, sends, held_step, stepped_of}
 use Rattle.faults.specs.Requests as Requests
 use Rattle.faults.specs.Requests.{meant_by, none_active, reply_bytes, requested_of}
+use Rattle.catalogue.specs.Promises.{Looked, Reading, Writing}
+use Rattle.faults.specs.Promises.{ServicePoint, Adding, Clearing, Stepping, Requesting}
+use Rattle.faults.specs.Promises.{NotAddedRefusal, NotClearedRefusal, NotSteppedRefusal, NotHeardRefusal}
+use Rattle.faults.specs.declared.NotAdded.{NotAdded}
+use Rattle.faults.specs.declared.NotCleared.{NotCleared}
+use Rattle.faults.specs.declared.NotStepped.{NotStepped}
+use Rattle.faults.specs.declared.NotHeard.{NotHeard}
 use Rattle.faults.specs.Promises.{told_service_point, PackedRows, RowAt, ReadField, WriteField, ReadServicePoint}
 use Rattle.faults.specs.Promises.{WriteServicePoint, ServicePointRefusal}
 use Rattle.faults.specs.Promises.{told_adding, told_clearing, told_stepping, told_requesting, Start, Add, Clear, Step}
@@ -39,14 +43,9 @@ use Rattle.faults.specs.Promises.{Request, Reply, AddingRefusal, ClearingRefusal
 use Rattle.faults.specs.Promises.{RequestingRefusal}
 use Rattle.faults.specs.Runs.{Happened, Ran}
 use Rattle.faults.specs.declared.Sender.{Sender}
-use Rattle.faults.specs.declared.ServicePoint.{ServicePoint}
-use Rattle.faults.specs.declared.Adding.{Adding}
 use Rattle.faults.specs.declared.Added.{Added}
-use Rattle.faults.specs.declared.Clearing.{Clearing}
 use Rattle.faults.specs.declared.Cleared.{Cleared}
-use Rattle.faults.specs.declared.Stepping.{Stepping}
 use Rattle.faults.specs.declared.Stepped.{Stepped}
-use Rattle.faults.specs.declared.Requesting.{Requesting}
 use Rattle.faults.specs.declared.Requested.{Requested}
 use Rattle.faults.specs.declared.Replied.{Replied}
 
@@ -122,6 +121,18 @@ ReplyOnly =
     (id : ℕ) (bytes : List ℕ) (h : Hosts.Host) (c : Claim) (state : Sender) (r s : Replied) → Reply id bytes h c state r
     → Reply id bytes h c state s
     → r ≡ s
+
+abbrev pub NotAddedRefusalOnly : Type 0
+NotAddedRefusalOnly = (why : NotAdded) (r s : ℕ) → NotAddedRefusal why r → NotAddedRefusal why s → r ≡ s
+
+abbrev pub NotClearedRefusalOnly : Type 0
+NotClearedRefusalOnly = (why : NotCleared) (r s : ℕ) → NotClearedRefusal why r → NotClearedRefusal why s → r ≡ s
+
+abbrev pub NotSteppedRefusalOnly : Type 0
+NotSteppedRefusalOnly = (why : NotStepped) (r s : ℕ) → NotSteppedRefusal why r → NotSteppedRefusal why s → r ≡ s
+
+abbrev pub NotHeardRefusalOnly : Type 0
+NotHeardRefusalOnly = (why : NotHeard) (r s : ℕ) → NotHeardRefusal why r → NotHeardRefusal why s → r ≡ s
 
 abbrev pub AddingRefusalOnly : Type 0
 AddingRefusalOnly = (answer : Adding) (r s : ℕ) → AddingRefusal answer r → AddingRefusal answer s → r ≡ s

@@ -1,15 +1,14 @@
 -- What each public call of this crate promises (RULES 14 and 13.7): one proposition over all that it answers. The
 -- answers are read as numbers and values (RULES 2.10).
-use Rattle.std.specs.Prelude.{◌≡◌, List, ℕ}
-use Rattle.words.specs.Words.{Told, refused, gives, number_in}
+use Rattle.std.specs.Prelude.{◌≡◌, List, ℕ, Option, Some, None, Result, Ok, Err}
+use Rattle.words.specs.Words.{Told, refused, gives, number_in, told}
 use Rattle.frame.specs.Standard.{Frame, no_frame}
 use Rattle.frame.specs.Promises.{refusal_of}
 use Rattle.catalogue.specs.Table.{row_in}
-use Rattle.catalogue.specs.Promises.{told_looked, told_reading, told_writing, done_if, bytes_after}
-use Rattle.catalogue.specs.declared.Looked.{Looked}
-use Rattle.catalogue.specs.declared.Reading.{Reading}
+use Rattle.catalogue.specs.Promises.{Looked, Reading, Writing, told_looked, told_reading, told_writing}
+use Rattle.catalogue.specs.Promises.{done_if, bytes_after, number_of_not_read}
+use Rattle.catalogue.specs.declared.NotRead.{NotRead}
 use Rattle.catalogue.specs.declared.Value.{Value}
-use Rattle.catalogue.specs.declared.Writing.{Writing}
 use Rattle.claim.specs.declared.Claim.{Claim}
 use Rattle.command.specs.Requests as Host
 use Rattle.command.specs.Promises as HostPromises
@@ -22,14 +21,14 @@ use Rattle.faults.specs.Sender.{after_step}
 use Rattle.faults.specs.Requests as Requests
 use Rattle.faults.specs.Requests.{nothing_to_do, requested_of}
 use Rattle.faults.specs.declared.Sender as Senders
-use Rattle.faults.specs.declared.ServicePoint.{ServicePoint}
-use Rattle.faults.specs.declared.Adding.{Adding}
+use Rattle.faults.specs.declared.NotAdded.{NotAdded}
+use Rattle.faults.specs.declared.NotCleared.{NotCleared}
+use Rattle.faults.specs.declared.NotStepped.{NotStepped}
+use Rattle.faults.specs.declared.NotHeard.{NotHeard}
+use Rattle.faults.specs.declared.Response.{Response}
 use Rattle.faults.specs.declared.Added.{Added}
-use Rattle.faults.specs.declared.Clearing.{Clearing}
 use Rattle.faults.specs.declared.Cleared.{Cleared}
-use Rattle.faults.specs.declared.Stepping.{Stepping}
 use Rattle.faults.specs.declared.Stepped.{Stepped}
-use Rattle.faults.specs.declared.Requesting.{Requesting}
 use Rattle.faults.specs.declared.Requested.{Requested}
 use Rattle.faults.specs.declared.Replied.{Replied}
 
@@ -50,10 +49,11 @@ pub record WriteField (n id : ℕ) (bytes : List ℕ) (value : Value) (r : Writi
 
 -- read_service_point and write_service_point
 
+abbrev pub ServicePoint : Type 0
+ServicePoint = Result ℕ NotRead
+
 abbrev pub told_service_point : ServicePoint → Told ℕ
-told_service_point (ServicePoint.Is number) = gives number
-told_service_point (ServicePoint.BadFrame why) = refused (refusal_of why)
-told_service_point ServicePoint.NoSuchRow = refused 11
+told_service_point r = told number_of_not_read r
 
 pub record ReadServicePoint (id : ℕ) (bytes : List ℕ) (r : ServicePoint) : Type 0 where
   pub answer : told_service_point r ≡ service_point_of id bytes
@@ -72,11 +72,16 @@ pub record Start (no_fault_bytes : List ℕ) (r : Senders.Sender) : Type 0 where
 
 -- Sender::add
 
+abbrev pub Adding : Type 0
+Adding = Result ℕ NotAdded
+
+abbrev pub number_of_not_added : NotAdded → ℕ
+number_of_not_added NotAdded.BrokenState = 2
+number_of_not_added NotAdded.NoPlace = 20
+number_of_not_added NotAdded.PeriodNotAllowed = 21
+
 abbrev pub told_adding : Adding → Told ℕ
-told_adding (Adding.Added place) = gives place
-told_adding Adding.BrokenState = refused 2
-told_adding Adding.NoPlace = refused 20
-told_adding Adding.PeriodNotAllowed = refused 21
+told_adding r = told number_of_not_added r
 
 pub record AddedBy (told : Told ℕ) (bytes : List ℕ) (period : ℕ) (s : Senders.Sender) (r : Added) : Type 0 where
   pub answer : told_adding r.answer ≡ told
@@ -85,19 +90,31 @@ pub record AddedBy (told : Told ℕ) (bytes : List ℕ) (period : ℕ) (s : Send
 abbrev pub Add : List ℕ → ℕ → Senders.Sender → Added → Type 0
 Add bytes period s r = AddedBy (added_of period s) bytes period s r
 
+pub record NotAddedRefusal (why : NotAdded) (r : ℕ) : Type 0 where
+  pub number : r ≡ number_of_not_added why
+
 pub record AddingRefusal (answer : Adding) (r : ℕ) : Type 0 where
   pub number : r ≡ number_in (told_adding answer)
 
--- Sender::clear: the answer `Cleared` is for the place that was named
+-- Sender::clear: the answer `Ok` is for the place that was named
+
+abbrev pub Clearing : Type 0
+Clearing = Result Unit NotCleared
+
+abbrev pub number_of_not_cleared : NotCleared → ℕ
+number_of_not_cleared NotCleared.BrokenState = 2
+number_of_not_cleared NotCleared.NoSuchFault = 22
 
 abbrev pub told_clearing : Clearing → ℕ → Told ℕ
-told_clearing Clearing.Cleared place = gives place
-told_clearing Clearing.BrokenState place = refused 2
-told_clearing Clearing.NoSuchFault place = refused 22
+told_clearing (Ok nothing) place = gives place
+told_clearing (Err why) place = refused (number_of_not_cleared why)
 
 pub record Clear (place : ℕ) (s : Senders.Sender) (r : Cleared) : Type 0 where
   pub answer : told_clearing r.answer place ≡ cleared_of place s
   pub state : r.sender ≡ after_clear (cleared_of place s) s
+
+pub record NotClearedRefusal (why : NotCleared) (r : ℕ) : Type 0 where
+  pub number : r ≡ number_of_not_cleared why
 
 -- the number is the same whatever place is named
 pub record ClearingRefusal (answer : Clearing) (r : ℕ) : Type 0 where
@@ -105,12 +122,18 @@ pub record ClearingRefusal (answer : Clearing) (r : ℕ) : Type 0 where
 
 -- Sender::step: an answer, and the frame that stands beside it
 
+abbrev pub Stepping : Type 0
+Stepping = Result (Option ℕ) NotStepped
+
+abbrev pub number_of_not_stepped : NotStepped → ℕ
+number_of_not_stepped NotStepped.BrokenState = 2
+number_of_not_stepped NotStepped.ListMalformed = 16
+number_of_not_stepped NotStepped.NoAddressHeld = 18
+
 abbrev pub told_stepping : Stepping → Frame → Told Outcome
-told_stepping (Stepping.Send place) frame = gives (Sender.sends place frame)
-told_stepping Stepping.NothingDue frame = gives nothing_due
-told_stepping Stepping.BrokenState frame = refused 2
-told_stepping Stepping.ListMalformed frame = refused 16
-told_stepping Stepping.NoAddressHeld frame = refused 18
+told_stepping (Ok (Some place)) frame = gives (Sender.sends place frame)
+told_stepping (Ok None) frame = gives nothing_due
+told_stepping (Err why) frame = refused (number_of_not_stepped why)
 
 -- the frame that is told; no frame where there is none
 abbrev pub sent_in : Told Outcome → Frame
@@ -127,20 +150,29 @@ pub record SteppedBy (told : Told Outcome) (s : Senders.Sender) (r : Stepped) : 
 abbrev pub Step : Claim → Senders.Sender → Stepped → Type 0
 Step c s r = SteppedBy (stepped_of c s) s r
 
+pub record NotSteppedRefusal (why : NotStepped) (r : ℕ) : Type 0 where
+  pub number : r ≡ number_of_not_stepped why
+
 -- the number is the same whatever frame stands beside the answer
 pub record SteppingRefusal (answer : Stepping) (r : ℕ) : Type 0 where
   pub number : r ≡ number_in (told_stepping answer no_frame)
 
 -- Sender::request: an answer, the state as it was, and the frame that stands beside it
 
+abbrev pub Requesting : Type 0
+Requesting = Result Response NotHeard
+
+abbrev pub number_of_not_heard : NotHeard → ℕ
+number_of_not_heard NotHeard.BrokenState = 2
+number_of_not_heard (NotHeard.BadFrame why) = refusal_of why
+number_of_not_heard NotHeard.ListMalformed = 16
+number_of_not_heard NotHeard.DgnTooLarge = 17
+number_of_not_heard NotHeard.NoAddressHeld = 18
+
 abbrev pub told_requesting : Requesting → Frame → Told Requests.Reply
-told_requesting Requesting.NothingToDo frame = gives nothing_to_do
-told_requesting Requesting.Send frame = gives (Requests.sends frame)
-told_requesting Requesting.BrokenState frame = refused 2
-told_requesting (Requesting.BadFrame why) frame = refused (refusal_of why)
-told_requesting Requesting.ListMalformed frame = refused 16
-told_requesting Requesting.DgnTooLarge frame = refused 17
-told_requesting Requesting.NoAddressHeld frame = refused 18
+told_requesting (Ok Response.NothingToDo) frame = gives nothing_to_do
+told_requesting (Ok Response.Send) frame = gives (Requests.sends frame)
+told_requesting (Err why) frame = refused (number_of_not_heard why)
 
 abbrev pub replied_in : Told Requests.Reply → Frame
 replied_in (refused n) = no_frame
@@ -155,6 +187,9 @@ pub record RequestedBy (told : Told Requests.Reply) (s : Senders.Sender) (r : Re
 
 abbrev pub Request : ℕ → List ℕ → Claim → Senders.Sender → Requested → Type 0
 Request id bytes c s r = RequestedBy (requested_of id bytes c s) s r
+
+pub record NotHeardRefusal (why : NotHeard) (r : ℕ) : Type 0 where
+  pub number : r ≡ number_of_not_heard why
 
 -- the number is the same whatever frame stands beside the answer
 pub record RequestingRefusal (answer : Requesting) (r : ℕ) : Type 0 where

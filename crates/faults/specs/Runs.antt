@@ -12,11 +12,8 @@ use Rattle.faults.specs.Sender.{added_of, after_add, cleared_of, after_clear, st
 use Rattle.faults.specs.Requests as Requests
 use Rattle.faults.specs.Promises.{Start, Add, Clear, Step, Request, told_adding, told_clearing, told_stepping}
 use Rattle.faults.specs.Promises.{told_requesting}
+use Rattle.faults.specs.Promises.{Adding, Clearing, Stepping, Requesting}
 use Rattle.faults.specs.declared.Sender.{Sender}
-use Rattle.faults.specs.declared.Adding.{Adding}
-use Rattle.faults.specs.declared.Clearing.{Clearing}
-use Rattle.faults.specs.declared.Stepping.{Stepping}
-use Rattle.faults.specs.declared.Requesting.{Requesting}
 
 -- A call, and what it was told.
 pub data Happened : Type 0 where

@@ -3,7 +3,6 @@
 use Rattle.std.specs.Prelude.{ℕ, ◌+◌, ◌*◌, ◌/◌, ◌%◌, ◌≡◌, List, pos, if◌then◌else◌}
 use Rattle.words.specs.Words.{given◌then◌, ◌≤?◌, Told, refused, gives}
 use Rattle.catalogue.specs.Catalogue.{read_row_of, written_row_of}
-use Rattle.catalogue.specs.declared.Field.{Field}
 use Rattle.catalogue.specs.declared.Value.TheVariants.{Scaled}
 use Rattle.faults.specs.Rows.{high_part, middle_part, low_part}
 
@@ -27,11 +26,6 @@ service_point_of id bytes =
 pub record HasServicePoint (id : ℕ) (bytes : List ℕ) : Type 0 where
   pub number : ℕ
   pub is : service_point_of id bytes ≡ gives number
-
--- the code of a part that was read; 0 where it was refused
-abbrev pub code_in : Told Field → ℕ
-code_in (refused n) = 0
-code_in (gives part) = part.code
 
 -- the three parts written, each by its row
 unfoldable pub written_parts : ℕ → List ℕ → ℕ → Told (List ℕ)

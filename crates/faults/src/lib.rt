@@ -16,13 +16,14 @@ ghost use Rattle.catalogue.specs.Table.{nth};
 ghost use Rattle.faults.specs.Rows.{rows};
 ghost use Rattle.faults.specs.Promises.{PackedRows, RowAt, ReadField, WriteField, ReadServicePoint};
 ghost use Rattle.faults.specs.Promises.{WriteServicePoint, Start, Add, Clear, Step, Request, Reply};
-ghost use Rattle.faults.specs.Promises.{ServicePointRefusal, AddingRefusal, ClearingRefusal, SteppingRefusal};
-ghost use Rattle.faults.specs.Promises.{RequestingRefusal};
+ghost use Rattle.faults.specs.Promises.{number_of_not_added, number_of_not_cleared, number_of_not_stepped};
+ghost use Rattle.faults.specs.Promises.{number_of_not_heard};
 
-use catalogue::{Looked, Reading, Row, Value, Writing};
-use claim::{Claim, Standing};
+use catalogue::{Looked, NotRead, Reading, Row, Value, Writing};
+use claim::{BadState, Claim, Place};
 use command::Host;
-use frame::{BadFrame, Verdict};
+use frame::BadFrame;
+use words::Refusal;
 
 // DM_RV.
 pub const DM_RV: u32 = 0x1FECA;
@@ -50,14 +51,16 @@ pub struct Sender {
     pub no_fault: [u8; 8],
 }
 
-// The place of the new fault; or refusal 2, 20, 21.
+// Why a fault is not added: refusals 2, 20, 21.
 #[derive(Clone, Copy)]
-pub enum Adding {
-    Added(usize),
+pub enum NotAdded {
     BrokenState,
     NoPlace,
     PeriodNotAllowed,
 }
+
+// The place of the new fault, or why there is none.
+pub type Adding = Result<usize, NotAdded>;
 
 #[derive(Clone, Copy)]
 pub struct Added {
@@ -65,13 +68,15 @@ pub struct Added {
     pub answer: Adding,
 }
 
-// The fault is active no more; or refusal 2, 22.
+// Why a fault is not cleared: refusals 2, 22.
 #[derive(Clone, Copy)]
-pub enum Clearing {
-    Cleared,
+pub enum NotCleared {
     BrokenState,
     NoSuchFault,
 }
+
+// The fault is active no more, or why not.
+pub type Clearing = Result<(), NotCleared>;
 
 #[derive(Clone, Copy)]
 pub struct Cleared {
@@ -79,17 +84,16 @@ pub struct Cleared {
     pub answer: Clearing,
 }
 
-// What a step comes to; or refusal 2, 16, 18.
+// Why a step is not made: refusals 2, 16, 18.
 #[derive(Clone, Copy)]
-pub enum Stepping {
-    // The DM_RV of this place is to be sent.
-    Send(usize),
-    // No fault is due.
-    NothingDue,
+pub enum NotStepped {
     BrokenState,
     ListMalformed,
     NoAddressHeld,
 }
+
+// The place whose DM_RV is to be sent, or none where no fault is due; or why the step is not made.
+pub type Stepping = Result<Option<usize>, NotStepped>;
 
 // The state, and the frame to send; no frame where nothing is to be sent.
 #[derive(Clone, Copy)]
@@ -100,19 +104,27 @@ pub struct Stepped {
     pub bytes: [u8; 8],
 }
 
-// What a frame comes to as a request for DM_RV; or refusal 2, 3 to 6, 16, 17, 18.
+// What a frame comes to as a request for DM_RV.
 #[derive(Clone, Copy)]
-pub enum Requesting {
+pub enum Response {
     // No request for DM_RV, or not for us.
     NothingToDo,
     // The frame beside is to be sent.
     Send,
+}
+
+// Why a frame is not heard: refusals 2, 3 to 6, 16, 17, 18.
+#[derive(Clone, Copy)]
+pub enum NotHeard {
     BrokenState,
     BadFrame(BadFrame),
     ListMalformed,
     DgnTooLarge,
     NoAddressHeld,
 }
+
+// What a frame comes to, or why it is not heard.
+pub type Requesting = Result<Response, NotHeard>;
 
 // The state as it was, and the frame to send; no frame where nothing is to be sent.
 #[derive(Clone, Copy)]
@@ -132,86 +144,53 @@ pub struct Replied {
 }
 
 // A service point number of 19 bits; or refusals 3 to 6, or 11: the frame is no DM_RV.
-#[derive(Clone, Copy)]
-pub enum ServicePoint {
-    Is(u32),
-    BadFrame(BadFrame),
-    NoSuchRow,
-}
+pub type ServicePoint = Result<u32, NotRead>;
 
-impl ServicePoint {
-    // The number of the refusal; 0 where the number is read.
-    pub fn refusal(self) -> u8
-        ensures { ServicePointRefusal self result }
-    {
-        let answer = self;
-        match answer {
-            ServicePoint::Is(_) => 0,
-            ServicePoint::BadFrame(why) => why.refusal(),
-            ServicePoint::NoSuchRow => 11,
+impl Refusal for NotAdded {
+    ghost number = { number_of_not_added };
+
+    fn refusal(self) -> u8 {
+        match self {
+            NotAdded::BrokenState => 2,
+            NotAdded::NoPlace => 20,
+            NotAdded::PeriodNotAllowed => 21,
         }
     }
 }
 
-impl Adding {
-    // The number of the refusal; 0 where the fault is added.
-    pub fn refusal(self) -> u8
-        ensures { AddingRefusal self result }
-    {
-        let answer = self;
-        match answer {
-            Adding::Added(_) => 0,
-            Adding::BrokenState => 2,
-            Adding::NoPlace => 20,
-            Adding::PeriodNotAllowed => 21,
+impl Refusal for NotCleared {
+    ghost number = { number_of_not_cleared };
+
+    fn refusal(self) -> u8 {
+        match self {
+            NotCleared::BrokenState => 2,
+            NotCleared::NoSuchFault => 22,
         }
     }
 }
 
-impl Clearing {
-    // The number of the refusal; 0 where the fault is cleared.
-    pub fn refusal(self) -> u8
-        ensures { ClearingRefusal self result }
-    {
-        let answer = self;
-        match answer {
-            Clearing::Cleared => 0,
-            Clearing::BrokenState => 2,
-            Clearing::NoSuchFault => 22,
+impl Refusal for NotStepped {
+    ghost number = { number_of_not_stepped };
+
+    fn refusal(self) -> u8 {
+        match self {
+            NotStepped::BrokenState => 2,
+            NotStepped::ListMalformed => 16,
+            NotStepped::NoAddressHeld => 18,
         }
     }
 }
 
-impl Stepping {
-    // The number of the refusal; 0 where the step is made.
-    pub fn refusal(self) -> u8
-        ensures { SteppingRefusal self result }
-    {
-        let answer = self;
-        match answer {
-            Stepping::Send(_) => 0,
-            Stepping::NothingDue => 0,
-            Stepping::BrokenState => 2,
-            Stepping::ListMalformed => 16,
-            Stepping::NoAddressHeld => 18,
-        }
-    }
-}
+impl Refusal for NotHeard {
+    ghost number = { number_of_not_heard };
 
-impl Requesting {
-    // The number of the refusal; 0 where the frame is heard.
-    pub fn refusal(self) -> u8
-        ensures { RequestingRefusal self result }
-    {
-        let answer = self;
-        match answer {
-            Requesting::NothingToDo => 0,
-            Requesting::Send => 0,
-            Requesting::BrokenState => 2,
-            Requesting::BadFrame(why) => why.refusal(),
-            Requesting::ListMalformed => 16,
-            Requesting::DgnTooLarge => 17,
-            Requesting::NoAddressHeld => 18,
+    fn refusal(self) -> u8 {
+        match self {
+            NotHeard::BrokenState => 2,
+            NotHeard::BadFrame(why) => why.refusal(),
+            NotHeard::ListMalformed => 16,
+            NotHeard::DgnTooLarge => 17,
+            NotHeard::NoAddressHeld => 18,
         }
     }
 }
@@ -252,16 +231,10 @@ pub fn write(n: usize, id: u32, bytes: &mut [u8], value: Value) -> Writing
 pub fn read_service_point(id: u32, bytes: &[u8]) -> ServicePoint
     ensures { ReadServicePoint id bytes.now result }
 {
-    let high = read(names::SERVICE_POINT_HIGH, id, bytes);
-    match high {
-        Reading::BadFrame(why) => ServicePoint::BadFrame(why),
-        Reading::NoSuchRow => ServicePoint::NoSuchRow,
-        Reading::Is(field) => {
-            let middle = service_point::part(names::SERVICE_POINT_MIDDLE, id, bytes);
-            let low = service_point::part(names::SERVICE_POINT_LOW, id, bytes);
-            ServicePoint::Is(service_point::join(field.code, middle, low))
-        }
-    }
+    let high = read(names::SERVICE_POINT_HIGH, id, bytes)?;
+    let middle = read(names::SERVICE_POINT_MIDDLE, id, bytes)?;
+    let low = read(names::SERVICE_POINT_LOW, id, bytes)?;
+    Ok(service_point::join(high.code, middle.code, low.code))
 }
 
 // Writes a service point number into a DM_RV, and alters no other bit. Refusals as of `read_service_point`, then 12
@@ -269,12 +242,8 @@ pub fn read_service_point(id: u32, bytes: &[u8]) -> ServicePoint
 pub fn write_service_point(id: u32, bytes: &mut [u8], number: u32) -> Writing
     ensures { WriteServicePoint id bytes.old number result bytes.new }
 {
-    let before = read_service_point(id, bytes);
-    match before {
-        ServicePoint::BadFrame(why) => Writing::BadFrame(why),
-        ServicePoint::NoSuchRow => Writing::NoSuchRow,
-        ServicePoint::Is(_) => service_point::write(id, bytes, number),
-    }
+    read_service_point(id, bytes)?;
+    service_point::write(id, bytes, number)
 }
 
 impl Sender {
@@ -298,14 +267,14 @@ impl Sender {
         if !rules::keep_rules(self) {
             return Added {
                 sender: self,
-                answer: Adding::BrokenState,
+                answer: Err(NotAdded::BrokenState),
             };
         }
         match searches::lowest_empty(self) {
-            words::Some(at) => sending::add(self, at, bytes, period),
-            words::None => Added {
+            Some(at) => sending::add(self, at, bytes, period),
+            None => Added {
                 sender: self,
-                answer: Adding::NoPlace,
+                answer: Err(NotAdded::NoPlace),
             },
         }
     }
@@ -318,18 +287,18 @@ impl Sender {
         if !rules::keep_rules(self) {
             return Cleared {
                 sender: self,
-                answer: Clearing::BrokenState,
+                answer: Err(NotCleared::BrokenState),
             };
         }
         if !searches::is_active_at(self, place) {
             return Cleared {
                 sender: self,
-                answer: Clearing::NoSuchFault,
+                answer: Err(NotCleared::NoSuchFault),
             };
         }
         Cleared {
             sender: sending::replace(self, place, place::empty()),
-            answer: Clearing::Cleared,
+            answer: Ok(()),
         }
     }
 
@@ -340,14 +309,14 @@ impl Sender {
         ensures { Step claim self result }
     {
         if !rules::keep_rules(self) {
-            return sending::bare(self, Stepping::BrokenState);
+            return sending::bare(self, Err(NotStepped::BrokenState));
         }
         match claim.stands() {
-            Standing::Held(address) => sending::step(self, address),
-            Standing::Claiming(_) => sending::bare(self, Stepping::NoAddressHeld),
-            Standing::Silent => sending::bare(self, Stepping::NoAddressHeld),
-            Standing::BrokenState => sending::bare(self, Stepping::BrokenState),
-            Standing::ListMalformed => sending::bare(self, Stepping::ListMalformed),
+            Ok(Place::Held(address)) => sending::step(self, address),
+            Ok(Place::Claiming(_)) => sending::bare(self, Err(NotStepped::NoAddressHeld)),
+            Ok(Place::Silent) => sending::bare(self, Err(NotStepped::NoAddressHeld)),
+            Err(BadState::BrokenState) => sending::bare(self, Err(NotStepped::BrokenState)),
+            Err(BadState::ListMalformed) => sending::bare(self, Err(NotStepped::ListMalformed)),
         }
     }
 
@@ -357,18 +326,13 @@ impl Sender {
     pub fn request(self, claim: Claim, id: u32, bytes: &[u8]) -> Requested
         ensures { Request id bytes.now claim self result }
     {
-        if !rules::keep_rules(self) {
-            return requests::bare(self, Requesting::BrokenState);
-        }
-        if !claim.keeps_rules() {
-            return requests::bare(self, Requesting::BrokenState);
+        if !rules::keep_rules(self) || !claim.keeps_rules() {
+            return requests::bare(self, Err(NotHeard::BrokenState));
         }
         let checked = frame::check(id, bytes);
-        let verdict = checked.verdict;
-        let eight = checked.bytes;
-        match verdict {
-            Verdict::Bad(why) => requests::bare(self, Requesting::BadFrame(why)),
-            Verdict::Sound(parts) => requests::heard(self, claim, parts.dgn, eight),
+        match checked.verdict {
+            Err(why) => requests::bare(self, Err(NotHeard::BadFrame(why))),
+            Ok(parts) => requests::heard(self, claim, parts.dgn, checked.bytes),
         }
     }
 
@@ -379,21 +343,13 @@ impl Sender {
         ensures { Reply id bytes.now host claim self result }
     {
         let faults = self.request(claim, id, bytes);
-        let answer = faults.answer;
-        match answer {
-            Requesting::NothingToDo => {
-                let asked = host.request(claim, id, bytes);
-                Replied {
-                    faults,
-                    host: asked,
-                }
-            }
-            Requesting::Send => requests::without_host(faults),
-            Requesting::BrokenState => requests::without_host(faults),
-            Requesting::BadFrame(_) => requests::without_host(faults),
-            Requesting::ListMalformed => requests::without_host(faults),
-            Requesting::DgnTooLarge => requests::without_host(faults),
-            Requesting::NoAddressHeld => requests::without_host(faults),
+        match faults.answer {
+            Ok(Response::NothingToDo) => Replied {
+                faults,
+                host: host.request(claim, id, bytes),
+            },
+            Ok(Response::Send) => requests::without_host(faults),
+            Err(_) => requests::without_host(faults),
         }
     }
 }
@@ -402,9 +358,5 @@ impl Sender {
 fn nth(n: usize) -> Row
     ensures { result ≡ nth rows n }
 {
-    let looked = row_at(n);
-    match looked {
-        Looked::Is(row) => row,
-        Looked::NoSuchRow => rows::none(),
-    }
+    row_at(n).unwrap_or_default()
 }

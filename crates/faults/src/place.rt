@@ -14,16 +14,11 @@ const LONGEST: u16 = 1000;
 const OLDEST: u8 = 31;
 
 // Whether a period is one of 100 to 1,000 ms, in multiples of 50.
+#[tactic(auto, unfolding(crate::specs::Fault::is_allowed))]
 pub fn is_allowed(period: u16) -> bool
     ensures { result ≡ is_allowed period }
 {
-    if period < SHORTEST {
-        return false;
-    }
-    if LONGEST < period {
-        return false;
-    }
-    period % STEP == 0
+    SHORTEST <= period && period <= LONGEST && period % STEP == 0
 }
 
 // An empty place.
@@ -39,92 +34,64 @@ pub fn empty() -> Fault
 }
 
 // Whether a place is all zeros.
+#[tactic(auto, unfolding(crate::specs::Fault::is_zero))]
 fn is_zero(f: Fault) -> bool
     ensures { result ≡ is_zero f }
 {
-    let bytes = f.bytes;
-    if frame::number_of(bytes) != 0 {
-        return false;
-    }
-    if f.until_due != 0 {
-        return false;
-    }
-    if f.age != 0 {
-        return false;
-    }
-    f.period == 0
+    frame::number_of(f.bytes) == 0 && f.until_due == 0 && f.age == 0 && f.period == 0
 }
 
 // Whether a place keeps its rules.
+#[tactic(auto, unfolding(crate::specs::Fault::place_keeps_rules))]
 pub fn keeps_rules(f: Fault) -> bool
     ensures { result ≡ place_keeps_rules f }
 {
     if f.period == 0 {
         return is_zero(f);
     }
-    if !is_allowed(f.period) {
-        return false;
-    }
-    if f.period < f.until_due {
-        return false;
-    }
-    if f.until_due == 0 {
-        return true;
-    }
-    f.age == 0
+    is_allowed(f.period) && f.until_due <= f.period && (f.until_due == 0 || f.age == 0)
 }
 
 // Whether a fault is due.
 pub fn is_due(f: Fault) -> bool
     ensures { result ≡ is_due f }
 {
-    if f.period == 0 {
-        return false;
-    }
-    f.until_due == 0
+    f.period != 0 && f.until_due == 0
 }
 
 // One step older; the age stops at 31.
 fn older(age: u8) -> u8
     ensures { result ≡ older age }
 {
-    if OLDEST <= age {
-        return OLDEST;
-    }
-    age + 1
+    age.saturating_add(1).min(OLDEST)
 }
 
 // One step sooner.
 fn sooner(until_due: u16) -> u16
     ensures { result ≡ sooner until_due }
 {
-    if until_due <= STEP {
-        return 0;
-    }
-    until_due - STEP
+    until_due.saturating_sub(STEP)
 }
 
 // What a step's time makes of a place: a fault that was due is one step older, any other is due one step sooner.
+#[tactic(auto, unfolding(crate::specs::Fault::passed))]
 pub fn passed(f: Fault) -> Fault
     ensures { result ≡ passed f }
 {
     if f.period == 0 {
-        return f;
-    }
-    let bytes = f.bytes;
-    if f.until_due == 0 {
-        return Fault {
-            bytes,
-            period: f.period,
+        f
+    } else if f.until_due == 0 {
+        Fault {
             until_due: 0,
             age: older(f.age),
-        };
-    }
-    Fault {
-        bytes,
-        period: f.period,
-        until_due: sooner(f.until_due),
-        age: 0,
+            ..f
+        }
+    } else {
+        Fault {
+            until_due: sooner(f.until_due),
+            age: 0,
+            ..f
+        }
     }
 }
 
@@ -144,11 +111,9 @@ pub fn added(bytes: [u8; 8], period: u16) -> Fault
 pub fn sent(f: Fault) -> Fault
     ensures { result ≡ sent f }
 {
-    let bytes = f.bytes;
     Fault {
-        bytes,
-        period: f.period,
         until_due: f.period,
         age: 0,
+        ..f
     }
 }

@@ -8,49 +8,41 @@ ghost use Rattle.faults.specs.Sender.{dm_rv_frame};
 ghost use Rattle.faults.specs.Promises.{RequestedBy};
 ghost use Rattle.faults.specs.Private.{told_meant, bare_requested, answered_by, without_host};
 
-use crate::{DM_RV, Replied, Requested, Requesting, Sender, searches, sending};
-use claim::{Claim, Standing};
+use crate::{DM_RV, NotHeard, Replied, Requested, Requesting, Response, Sender, searches, sending};
+use claim::{BadState, Claim, Place};
 use command::Positions;
 use frame::standard;
 
-// What a sound frame asks for.
-#[derive(Clone, Copy)]
-pub enum Meant {
-    // Not for DM_RV.
-    Other,
-    DgnTooLarge,
-    // For the DM_RV of this destination.
-    Faults(u8),
-}
+// What a sound frame asks for: the DM_RV of a destination, or anything else.
+type Meant = Result<Option<u8>, NotHeard>;
 
 // A frame EAxxh asks for the DGN in its bytes 0 to 2.
 fn meant_by(dgn: u32, bytes: [u8; 8]) -> Meant
     ensures { told_meant result ≡ meant_by dgn bytes }
 {
     if frame::catalogue_form(dgn) != standard::REQUEST {
-        return Meant::Other;
+        return Ok(None);
     }
     let asked = frame::dgn_of(bytes[0], bytes[1], bytes[2]);
     if standard::GREATEST_DGN < asked {
-        return Meant::DgnTooLarge;
+        return Err(NotHeard::DgnTooLarge);
     }
     if asked != DM_RV {
-        return Meant::Other;
+        return Ok(None);
     }
-    Meant::Faults((dgn % 256) as u8)
+    Ok(Some((dgn % 256) as u8))
 }
 
 // A sound frame.
 pub fn heard(s: Sender, claim: Claim, dgn: u32, bytes: [u8; 8]) -> Requested
     ensures { RequestedBy (heard_of dgn bytes claim s) s result }
 {
-    let standing = claim.stands();
-    match standing {
-        Standing::BrokenState => bare(s, Requesting::BrokenState),
-        Standing::ListMalformed => bare(s, Requesting::ListMalformed),
-        Standing::Held(address) => at_address(s, address, meant_by(dgn, bytes)),
-        Standing::Claiming(_) => nowhere(s, meant_by(dgn, bytes)),
-        Standing::Silent => nowhere(s, meant_by(dgn, bytes)),
+    match claim.stands() {
+        Err(BadState::BrokenState) => bare(s, Err(NotHeard::BrokenState)),
+        Err(BadState::ListMalformed) => bare(s, Err(NotHeard::ListMalformed)),
+        Ok(Place::Held(address)) => at_address(s, address, meant_by(dgn, bytes)),
+        Ok(Place::Claiming(_)) => nowhere(s, meant_by(dgn, bytes)),
+        Ok(Place::Silent) => nowhere(s, meant_by(dgn, bytes)),
     }
 }
 
@@ -59,11 +51,11 @@ fn at_address(s: Sender, address: u8, meant: Meant) -> Requested
     ensures { RequestedBy (given told_meant meant then λ m. answer_at (held address) m s) s result }
 {
     match meant {
-        Meant::Other => bare(s, Requesting::NothingToDo),
-        Meant::DgnTooLarge => bare(s, Requesting::DgnTooLarge),
-        Meant::Faults(destination) => {
+        Err(why) => bare(s, Err(why)),
+        Ok(None) => bare(s, Ok(Response::NothingToDo)),
+        Ok(Some(destination)) => {
             if !is_for_us(destination, address) {
-                return bare(s, Requesting::NothingToDo);
+                return bare(s, Ok(Response::NothingToDo));
             }
             send(s, address)
         }
@@ -75,25 +67,23 @@ fn nowhere(s: Sender, meant: Meant) -> Requested
     ensures { RequestedBy (given told_meant meant then λ m. answer_at silent m s) s result }
 {
     match meant {
-        Meant::Other => bare(s, Requesting::NothingToDo),
-        Meant::DgnTooLarge => bare(s, Requesting::DgnTooLarge),
-        Meant::Faults(destination) => {
+        Err(why) => bare(s, Err(why)),
+        Ok(None) => bare(s, Ok(Response::NothingToDo)),
+        Ok(Some(destination)) => {
             if destination != standard::EVERYONE {
-                return bare(s, Requesting::NothingToDo);
+                return bare(s, Ok(Response::NothingToDo));
             }
-            bare(s, Requesting::NoAddressHeld)
+            bare(s, Err(NotHeard::NoAddressHeld))
         }
     }
 }
 
 // Whether a destination is everyone or our address.
+#[tactic(auto, unfolding(crate::specs::Requests::is_for_us))]
 fn is_for_us(destination: u8, address: u8) -> bool
     ensures { result ≡ is_for_us destination address }
 {
-    if destination == standard::EVERYONE {
-        return true;
-    }
-    destination == address
+    destination == standard::EVERYONE || destination == address
 }
 
 // The DM_RV that answers a request, from our address.
@@ -105,13 +95,12 @@ fn send(s: Sender, address: u8) -> Requested
 }
 
 // The state as it was, and the frame to send.
-fn answered(s: Sender, id: u32, bytes: [u8; 8]) -> Requested
-    ensures { result ≡ answered_by s id bytes }
+fn answered(sender: Sender, id: u32, bytes: [u8; 8]) -> Requested
+    ensures { result ≡ answered_by sender id bytes }
 {
-    let sender = s;
     Requested {
         sender,
-        answer: Requesting::Send,
+        answer: Ok(Response::Send),
         id,
         bytes,
     }
@@ -131,9 +120,7 @@ fn bytes_at(s: Sender, at: usize) -> [u8; 8]
     requires { at < 32 }
     ensures { result ≡ (get_or s.faults at no_fault).bytes }
 {
-    let f = s.faults[at];
-    let bytes = f.bytes;
-    bytes
+    s.faults[at].bytes
 }
 
 // The DM_RV of no fault: bytes 2 to 5 are FFh.
@@ -161,7 +148,7 @@ pub fn bare(s: Sender, answer: Requesting) -> Requested
         sender: s,
         answer,
         id: standard::NO_FRAME,
-        bytes: [0u8; 8],
+        bytes: [0; 8],
     }
 }
 
@@ -172,13 +159,13 @@ pub fn without_host(faults: Requested) -> Replied
     Replied {
         faults,
         host: command::Requested {
-            answer: command::Requesting::NothingToDo,
+            answer: Ok(command::Response::NothingToDo),
             positions: Positions {
-                at: [0u8; 16],
+                at: [0; 16],
                 count: 0,
             },
             id: standard::NO_FRAME,
-            bytes: [0u8; 8],
+            bytes: [0; 8],
         },
     }
 }

@@ -2,19 +2,12 @@
 ghost use Rattle.std.specs.Prelude.{◌≡◌};
 ghost use Rattle.faults.specs.Sender.{keeps_rules};
 
-use crate::{PLACES, Sender, place};
+use crate::{Sender, place};
 
 // Whether each place keeps its rules.
+#[tactic(auto, unfolding(crate::specs::Sender::keeps_rules))]
 pub fn keep_rules(s: Sender) -> bool
     ensures { result ≡ keeps_rules s }
 {
-    let mut i: usize = 0;
-    while i < PLACES {
-        let f = s.faults[i];
-        if !place::keeps_rules(f) {
-            return false;
-        }
-        i += 1;
-    }
-    true
+    s.faults.iter().all(|f| place::keeps_rules(*f))
 }

@@ -3,7 +3,6 @@ ghost use Rattle.std.specs.Prelude.{◌≡◌};
 ghost use Rattle.words.specs.Lists.{first};
 ghost use Rattle.faults.specs.Fault.{is_empty, is_active};
 ghost use Rattle.faults.specs.Sender.{is_active_at, longer, longest_due, is_chosen, chosen};
-ghost use Rattle.faults.specs.Private.{lowest, found_at};
 
 use crate::{Fault, PLACES, Sender, place};
 
@@ -11,66 +10,42 @@ use crate::{Fault, PLACES, Sender, place};
 pub fn lowest_empty(s: Sender) -> Option<usize>
     ensures { result ≡ first is_empty s.faults }
 {
-    let mut i: usize = 0;
-    while i < PLACES {
-        let f = s.faults[i];
-        if f.period == 0 {
-            return Some(i);
-        }
-        i += 1;
-    }
-    None
+    s.faults.iter().position(|f| f.period == 0)
 }
 
 // The lowest place with an active fault.
 pub fn lowest_active(s: Sender) -> Option<usize>
     ensures { result ≡ first is_active s.faults }
 {
-    let mut i: usize = 0;
-    while i < PLACES {
-        let f = s.faults[i];
-        if f.period != 0 {
-            return Some(i);
-        }
-        i += 1;
-    }
-    None
+    s.faults.iter().position(|f| f.period != 0)
 }
 
 // Whether there is such a place, and a fault is active in it.
 pub fn is_active_at(s: Sender, at: usize) -> bool
     ensures { result ≡ is_active_at at s }
 {
-    if PLACES <= at {
-        return false;
-    }
-    let f = s.faults[at];
-    f.period != 0
+    at < PLACES && s.faults[at].period != 0
 }
 
 // The greater of an age and a fault's, if it is due.
+#[tactic(auto, unfolding(crate::specs::Sender::longer))]
 fn longer(f: Fault, longest: u8) -> u8
     ensures { result ≡ longer f longest }
 {
-    if !place::is_due(f) {
-        return longest;
+    if place::is_due(f) && longest < f.age {
+        f.age
+    } else {
+        longest
     }
-    if f.age <= longest {
-        return longest;
-    }
-    f.age
 }
 
 // The age of the fault that has been due longest; 0 where none is due.
 fn longest_due(s: Sender) -> u8
     ensures { result ≡ longest_due s.faults }
 {
-    let mut longest: u8 = 0;
-    let mut i: usize = 0;
-    while i < PLACES {
-        let f = s.faults[i];
-        longest = longer(f, longest);
-        i += 1;
+    let mut longest = 0;
+    for f in &s.faults {
+        longest = longer(*f, longest);
     }
     longest
 }
@@ -79,46 +54,14 @@ fn longest_due(s: Sender) -> u8
 fn is_chosen(f: Fault, age: u8) -> bool
     ensures { result ≡ is_chosen age f }
 {
-    if !place::is_due(f) {
-        return false;
-    }
-    f.age == age
-}
-
-// The place found before; where there is none yet, this one, if it is to be chosen.
-fn lowest(at: usize, i: usize, chosen: bool) -> usize
-    ensures { result ≡ lowest at i chosen }
-{
-    if !chosen {
-        return at;
-    }
-    if at < PLACES {
-        return at;
-    }
-    i
-}
-
-// A place, if there is such a one.
-fn found(at: usize) -> Option<usize>
-    ensures { result ≡ found_at at }
-{
-    if PLACES <= at {
-        return None;
-    }
-    Some(at)
+    place::is_due(f) && f.age == age
 }
 
 // The place whose fault has been due longest; of several the lowest.
+#[tactic(auto, unfolding(crate::specs::Sender::chosen))]
 pub fn chosen(s: Sender) -> Option<usize>
     ensures { result ≡ chosen s.faults }
 {
     let age = longest_due(s);
-    let mut at: usize = PLACES;
-    let mut i: usize = 0;
-    while i < PLACES {
-        let f = s.faults[i];
-        at = lowest(at, i, is_chosen(f, age));
-        i += 1;
-    }
-    found(at)
+    s.faults.iter().position(|f| is_chosen(*f, age))
 }

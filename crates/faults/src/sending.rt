@@ -5,7 +5,7 @@ ghost use Rattle.faults.specs.Sender.{dm_rv_id, replacing, added_at, passed_all,
 ghost use Rattle.faults.specs.Promises.{AddedBy, SteppedBy};
 ghost use Rattle.faults.specs.Private.{sent_at, bare_stepped};
 
-use crate::{Added, Adding, DM_RV, Fault, PLACES, Sender, Stepped, Stepping, place, searches};
+use crate::{Added, DM_RV, Fault, NotAdded, Sender, Stepped, Stepping, place, searches};
 use frame::standard;
 
 // The identifier of a DM_RV without its source: priority 6.
@@ -15,7 +15,7 @@ const DM_RV_ID: u32 = 6 * 0x4000000 + DM_RV * 256;
 pub fn id_from(address: u8) -> u32
     ensures { result ≡ dm_rv_id address }
 {
-    DM_RV_ID + address as u32
+    DM_RV_ID + u32::from(address)
 }
 
 // One place replaced.
@@ -36,12 +36,12 @@ pub fn add(s: Sender, at: usize, bytes: [u8; 8], period: u16) -> Added
     if !place::is_allowed(period) {
         return Added {
             sender: s,
-            answer: Adding::PeriodNotAllowed,
+            answer: Err(NotAdded::PeriodNotAllowed),
         };
     }
     Added {
         sender: replace(s, at, place::added(bytes, period)),
-        answer: Adding::Added(at),
+        answer: Ok(at),
     }
 }
 
@@ -50,14 +50,10 @@ fn all_passed(s: Sender) -> Sender
     ensures { result ≡ passed_all s }
 {
     let mut faults = s.faults;
-    let mut i: usize = 0;
-    while i < PLACES {
-        let f = faults[i];
-        faults[i] = place::passed(f);
-        i += 1;
+    for f in &mut faults {
+        *f = place::passed(*f);
     }
-    let no_fault = s.no_fault;
-    Sender { faults, no_fault }
+    Sender { faults, ..s }
 }
 
 // A step while we hold this address.
@@ -67,7 +63,7 @@ pub fn step(s: Sender, address: u8) -> Stepped
     let later = all_passed(s);
     match searches::chosen(later) {
         Some(at) => send(later, at, address),
-        None => bare(later, Stepping::NothingDue),
+        None => bare(later, Ok(None)),
     }
 }
 
@@ -80,21 +76,20 @@ fn send(s: Sender, at: usize, address: u8) -> Stepped
     let bytes = f.bytes;
     Stepped {
         sender: replace(s, at, place::sent(f)),
-        answer: Stepping::Send(at),
+        answer: Ok(Some(at)),
         id: id_from(address),
         bytes,
     }
 }
 
 // An answer with no frame beside it.
-pub fn bare(s: Sender, answer: Stepping) -> Stepped
-    ensures { result ≡ bare_stepped s answer }
+pub fn bare(sender: Sender, answer: Stepping) -> Stepped
+    ensures { result ≡ bare_stepped sender answer }
 {
-    let sender = s;
     Stepped {
         sender,
         answer,
         id: standard::NO_FRAME,
-        bytes: [0u8; 8],
+        bytes: [0; 8],
     }
 }

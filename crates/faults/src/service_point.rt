@@ -1,12 +1,11 @@
 // The service point number of a DM_RV, read and written by the rows of its three parts.
 ghost use Rattle.std.specs.Prelude.{◌≡◌, ◌<◌, pos};
 ghost use Rattle.catalogue.specs.declared.Value.TheVariants.{Scaled};
-ghost use Rattle.faults.specs.Rows.{read_of};
-ghost use Rattle.faults.specs.ServicePoint.{service_points, joined, code_in, HasServicePoint};
+ghost use Rattle.faults.specs.ServicePoint.{service_points, joined, HasServicePoint};
 ghost use Rattle.faults.specs.Promises.{WriteServicePoint};
 
 use crate::names;
-use catalogue::{Reading, Value, Writing};
+use catalogue::{NotWritten, Value, Writing};
 
 // How many numbers there are.
 const NUMBERS: u32 = 0x80000;
@@ -17,18 +16,6 @@ const LOW_VALUES: u32 = 8;
 const MIDDLE_VALUES: u32 = 256;
 
 const LOWER_VALUES: u32 = 2048;
-
-// The code of a part; 0 where it is refused.
-pub fn part(n: usize, id: u32, bytes: &[u8]) -> u64
-    ensures { result ≡ code_in (read_of n id bytes.now) }
-{
-    let reading = crate::read(n, id, bytes);
-    match reading {
-        Reading::Is(field) => field.code,
-        Reading::BadFrame(_) => 0,
-        Reading::NoSuchRow => 0,
-    }
-}
 
 // The number that three parts spell.
 pub fn join(high: u64, middle: u64, low: u64) -> u32
@@ -44,7 +31,7 @@ pub fn write(id: u32, bytes: &mut [u8], number: u32) -> Writing
     ensures { WriteServicePoint id bytes.old number result bytes.new }
 {
     if NUMBERS <= number {
-        return Writing::NoCode;
+        return Err(NotWritten::NoCode);
     }
     write_parts(id, bytes, number)
 }
@@ -60,13 +47,13 @@ fn write_parts(id: u32, bytes: &mut [u8], number: u32) -> Writing
         id,
         bytes,
         value_of(number / LOWER_VALUES),
-    );
+    )?;
     crate::write(
         names::SERVICE_POINT_MIDDLE,
         id,
         bytes,
         value_of(number / LOW_VALUES % MIDDLE_VALUES),
-    );
+    )?;
     crate::write(
         names::SERVICE_POINT_LOW,
         id,
@@ -79,5 +66,5 @@ fn write_parts(id: u32, bytes: &mut [u8], number: u32) -> Writing
 fn value_of(code: u32) -> Value
     ensures { result ≡ Scaled (pos code) }
 {
-    Value::Scaled(code as i64)
+    Value::Scaled(i64::from(code))
 }

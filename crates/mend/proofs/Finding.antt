@@ -1,7 +1,7 @@
 -- The turns of the loops that look at a line: keys, digits, small letters and leading zeros; and the fields that they
 -- find.
 -- Assumes nothing.
-use Rattle.std.specs.Prelude.{Some, None}
+use Rattle.std.specs.Prelude.{Option, Some, None}
 use mathlib.Core.Path.{◌≡◌, refl, sym, ap, ◌∙◌}
 use mathlib.Core.Bool.{Bool, true, false}
 use mathlib.Core.List.{List, [], ◌∷◌}
@@ -21,7 +21,6 @@ use Rattle.capture.specs.Line.{gap_key, id_key, data_key, begins_with}
 use Rattle.mend.specs.Mending.{is_small, capital, ahead, field_of, carriage_return, return_in, Parts, parts_in, without_zeros, actions_of}
 use Rattle.mend.specs.Places.{part, FieldFound, parts_at, PlacesFit, FieldsFound}
 use Rattle.mend.specs.declared.fields.Places.{Places}
-use Rattle.mend.specs.declared.fields.Fields.TheVariants.{Whole, Broken}
 
 -- Keys: none stands where too little is left.
 
@@ -169,14 +168,14 @@ length_part line from to h k = length-take (to - from) (drop from line) ∙ omeg
 
 -- The fields, one after the other.
 
-whole_same : {p q : Places} → Whole p ≡ Whole q → p ≡ q
+whole_same : {p q : Places} → ◌≡◌ {A = Option Places} (Some p) (Some q) → p ≡ q
 whole_same e = cc
 
-broken : (line : List ℕ) → parts_in line ≡ refused 19 → FieldsFound line Broken
+broken : (line : List ℕ) → parts_in line ≡ refused 19 → FieldsFound line None
 broken line e = record { told = sym e; fits = λ p f. let z : ◌≡◌ {A = ℕ} 0 1 = cc in absurd (omega arith) }
 
 module _ (line : List ℕ) where
-  pub no_gap : FieldFound line 0 gap_key 10 None → FieldsFound line Broken
+  pub no_gap : FieldFound line 0 gap_key 10 None → FieldsFound line None
   unfolding parts_in
   no_gap f =
       let e : field_of gap_key 10 line ≡ refused 19 = sym f.told in
@@ -189,7 +188,7 @@ module _ (line : List ℕ) where
     pub gap_room : g ≤ length line
     gap_room = (f₁.fits g refl).1
 
-    pub no_id : FieldFound line g id_key 16 None → FieldsFound line Broken
+    pub no_id : FieldFound line g id_key 16 None → FieldsFound line None
     unfolding parts_in
     no_id f = broken line (rw (gap_there, ← f.told))
 
@@ -197,7 +196,7 @@ module _ (line : List ℕ) where
       pub id_room : i ≤ length line
       id_room = (f₂.fits i refl).1
 
-      pub no_data : FieldFound line i data_key 16 None → FieldsFound line Broken
+      pub no_data : FieldFound line i data_key 16 None → FieldsFound line None
       unfolding parts_in
       no_data f = broken line (rw (gap_there, ← f₂.told, ← f.told))
 
@@ -205,12 +204,12 @@ module _ (line : List ℕ) where
         pub data_room : d ≤ length line
         data_room = (f₃.fits d refl).1
 
-        pub no_end : refused 19 ≡ return_in (drop d line) → FieldsFound line Broken
+        pub no_end : refused 19 ≡ return_in (drop d line) → FieldsFound line None
         unfolding parts_in
         no_end e = broken line (rw (gap_there, ← f₂.told, ← f₃.told, ← e))
 
         pub all_there : (b : Bool) → gives b ≡ return_in (drop d line)
-            → FieldsFound line (Whole (record { gap_to = g; id_to = i; data_to = d; returns = b }))
+            → FieldsFound line (Some (record { gap_to = g; id_to = i; data_to = d; returns = b }))
         unfolding parts_in parts_at
         all_there b e =
             record {

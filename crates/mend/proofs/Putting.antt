@@ -1,5 +1,6 @@
 -- What is put into the lent bytes: capitals, the fields of a mended line, actions and lines of the report.
 -- Assumes nothing.
+use Rattle.std.specs.Prelude.{Ok, Err}
 use mathlib.Core.Path.{◌≡◌, refl, sym, ap, ◌∙◌}
 use mathlib.Core.Bool.{Bool, true, false}
 use mathlib.Core.List.{List, [], ◌∷◌, ◌++◌, append_assoc, append-nil}
@@ -16,7 +17,8 @@ use Rattle.text.proofs.Pieces.{put_turn, put_end, put_fits, fits_wrote, wrote_de
 use Rattle.capture.specs.Line.{gap_key, id_key, data_key, line_read}
 use Rattle.capture.specs.Promises.{TakeApart, told_reading, frame_in}
 use Rattle.capture.specs.declared.Line.{Line}
-use Rattle.capture.specs.declared.Reading.TheVariants as Reading
+use Rattle.capture.specs.declared.NotRead.{NotRead}
+use Rattle.capture.specs.declared.NotRead.TheVariants.{Malformed}
 use Rattle.mend.specs.Mending.{capital, capitals, zeros, without_zeros, eight_digits, Parts, parts_in, tidied, actions_of, mended}
 use Rattle.mend.specs.Report.{end_of_line, written_of, action_text, actions_text, any_action, action_line, report_of}
 use Rattle.mend.specs.Places.{KeptText, Became, action_word, mended_line}
@@ -145,13 +147,13 @@ module _ (line : List ℕ) (p : Parts) {out out' : List ℕ} {at to : ℕ} (e : 
   read_so : told_reading r.answer (frame_in r) ≡ line_read (tidied p)
   read_so = t.answer ∙ ap line_read (wrote_part w h)
 
-  pub unsound : r.answer ≡ Reading.Malformed → Became line out at out' Dropped
+  pub unsound : (why : NotRead) → r.answer ≡ Err why → Became line out at out' Dropped
   unfolding mended
-  unsound a =
+  unsound Malformed a =
       let q : refused 19 ≡ line_read (tidied p) = rw a at read_so in
       became_dropped (rw (e, ne_eqb (length p.id) 0 n, ← q)) (wrote_before w h) w.room
 
-  pub kept_so : {actions : Actions} → actions ≡ actions_of p → to ≤ at + 96 → r.answer ≡ Reading.Sound → Became line out at out' (Kept to actions)
+  pub kept_so : {actions : Actions} → actions ≡ actions_of p → to ≤ at + 96 → r.answer ≡ Ok tt → Became line out at out' (Kept to actions)
   unfolding mended
   kept_so {actions} s k a =
       let q : gives (frame_in r) ≡ line_read (tidied p) = rw a at read_so in

@@ -1,16 +1,12 @@
 -- What the private functions promise of a line, by places in it and in the lent bytes (for RULES 17.3 to 17.12).
 use Rattle.std.specs.Prelude.{Option, Some, None}
-use Rattle.std.specs.Prelude.{◌≡◌, Bool, true, false, List, [], ◌++◌, ℕ, ◌+◌, ◌-◌, ◌≤◌, length, take, drop, if◌then◌else◌}
+use Rattle.std.specs.Prelude.{◌≡◌, Bool, List, [], ◌++◌, ℕ, ◌+◌, ◌-◌, ◌≤◌, length, take, drop, if◌then◌else◌}
 use Rattle.words.specs.Words.{Told, refused, gives}
 use Rattle.text.specs.Text.{text}
 use Rattle.text.specs.Pieces.{Wrote}
 use Rattle.mend.specs.Mending.{Parts, Field, field_of, parts_in, mended}
 use Rattle.mend.specs.Report.{actions_text, any_action, action_line}
 use Rattle.mend.specs.declared.fields.Places.{Places}
-use Rattle.mend.specs.declared.fields.Fields.{Fields}
-use Rattle.mend.specs.declared.fields.Fields.TheVariants.{Whole, Broken}
-use Rattle.mend.specs.declared.fields.Tail.{Tail}
-use Rattle.mend.specs.declared.fields.Tail.TheVariants.{Nothing, Return, Other}
 use Rattle.mend.specs.declared.line.Actions.{Actions}
 use Rattle.mend.specs.declared.line.Outcome.{Outcome}
 use Rattle.mend.specs.declared.line.Outcome.TheVariants.{Kept, Dropped}
@@ -28,10 +24,10 @@ pub record FieldFound (line : List ℕ) (at : ℕ) (key : List ℕ) (base : ℕ)
   pub told : field_at line (at + length key) r ≡ field_of key base (drop at line)
   pub fits : (to : ℕ) → r ≡ Some to → (at + length key ≤ to) × (to ≤ length line)
 
-abbrev pub told_tail : Tail → Told Bool
-told_tail Nothing = gives false
-told_tail Return = gives true
-told_tail Other = refused 19
+-- what stands behind the last field: nothing, a carriage return, or anything else
+abbrev pub told_return : Option Bool → Told Bool
+told_return (Some returns) = gives returns
+told_return None = refused 19
 
 -- the fields of a line
 
@@ -44,9 +40,9 @@ parts_at line p =
       returns = p.returns;
     }
 
-abbrev pub told_fields : List ℕ → Fields → Told Parts
-told_fields line (Whole p) = gives (parts_at line p)
-told_fields line Broken = refused 19
+abbrev pub told_fields : List ℕ → Option Places → Told Parts
+told_fields line (Some p) = gives (parts_at line p)
+told_fields line None = refused 19
 
 pub record PlacesFit (line : List ℕ) (p : Places) : Type 0 where
   pub gap : 4 ≤ p.gap_to
@@ -54,9 +50,9 @@ pub record PlacesFit (line : List ℕ) (p : Places) : Type 0 where
   pub bytes : p.id_to + 6 ≤ p.data_to
   pub within : p.data_to ≤ length line
 
-pub record FieldsFound (line : List ℕ) (r : Fields) : Type 0 where
+pub record FieldsFound (line : List ℕ) (r : Option Places) : Type 0 where
   pub told : told_fields line r ≡ parts_in line
-  pub fits : (p : Places) → r ≡ Whole p → PlacesFit line p
+  pub fits : (p : Places) → r ≡ Some p → PlacesFit line p
 
 -- a line that is kept: its text stands in the lent bytes, from `at` to before `to`
 pub record KeptText (line out : List ℕ) (at : ℕ) (out' : List ℕ) (to : ℕ) (actions : Actions) : Type 0 where

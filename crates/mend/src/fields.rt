@@ -3,8 +3,7 @@ ghost use Rattle.std.specs.Prelude.{◌≡◌, ◌+◌, ◌≤◌, length, drop}
 ghost use Rattle.capture.specs.Digits.{value_of};
 ghost use Rattle.capture.specs.Line.{begins_with};
 ghost use Rattle.mend.specs.Mending.{is_small, capital, ahead, return_in};
-ghost use Rattle.mend.specs.Places.{FieldFound, FieldsFound, told_tail};
-
+ghost use Rattle.mend.specs.Places.{FieldFound, FieldsFound, told_return};
 
 // Where the digits of each field end, and whether a carriage return stands behind the last. The gap's digits begin at
 // 4, those of the identifier 4 behind the gap's end, and those of the data 6 behind the identifier's.
@@ -16,49 +15,20 @@ pub struct Places {
     pub returns: bool,
 }
 
-#[derive(Clone, Copy)]
-pub enum Fields {
-    Whole(Places),
-    Broken,
-}
-
-// What stands behind the last field.
-#[derive(Clone, Copy)]
-pub enum Tail {
-    Nothing,
-    Return,
-    Other,
-}
-
 // The fields of a line, from left to right.
-pub fn find(line: &[u8]) -> Fields
+pub fn find(line: &[u8]) -> Option<Places>
     ensures { FieldsFound line.now result }
 {
-    let Some(gap_to) = field(line, 0, b"gap=", 10) else {
-        return Fields::Broken;
-    };
-    let Some(id_to) = field(line, gap_to, b" id=", 16) else {
-        return Fields::Broken;
-    };
-    let Some(data_to) = field(line, id_to, b" data=", 16) else {
-        return Fields::Broken;
-    };
-    let tail = rest(line, data_to);
-    match tail {
-        Tail::Nothing => Fields::Whole(Places {
-            gap_to,
-            id_to,
-            data_to,
-            returns: false,
-        }),
-        Tail::Return => Fields::Whole(Places {
-            gap_to,
-            id_to,
-            data_to,
-            returns: true,
-        }),
-        Tail::Other => Fields::Broken,
-    }
+    let gap_to = field(line, 0, b"gap=", 10)?;
+    let id_to = field(line, gap_to, b" id=", 16)?;
+    let data_to = field(line, id_to, b" data=", 16)?;
+    let returns = return_in(line, data_to)?;
+    Some(Places {
+        gap_to,
+        id_to,
+        data_to,
+        returns,
+    })
 }
 
 // Where the digits end that stand behind a key, where the key is at this place of the line.
@@ -77,17 +47,7 @@ fn begins(line: &[u8], at: usize, key: &[u8]) -> bool
     requires { at ≤ length line.now }
     ensures { result ≡ begins_with key.now (drop at line.now) }
 {
-    if line.len() - at < key.len() {
-        return false;
-    }
-    let mut i: usize = 0;
-    while i < key.len() {
-        if line[at + i] != key[i] {
-            return false;
-        }
-        i += 1;
-    }
-    true
+    line[at..].starts_with(key)
 }
 
 // Where the digits end that begin at a place of the line.
@@ -95,14 +55,12 @@ fn digits_to(line: &[u8], from: usize, base: u32) -> usize
     requires { from ≤ length line.now }
     ensures { result ≡ from + length (ahead base (drop from line.now)) }
 {
-    let mut i = from;
-    while i < line.len() {
+    for i in from..line.len() {
         if base <= value_of(line[i]) {
             return i;
         }
-        i += 1;
     }
-    i
+    line.len()
 }
 
 // The digit that a byte spells, in a letter of either case; 16 where it is none.
@@ -144,20 +102,20 @@ pub fn is_small(code: u8) -> bool
     code <= b'f'
 }
 
-// What stands from a place of the line to its end.
-fn rest(line: &[u8], at: usize) -> Tail
+// Whether a carriage return stands from a place of the line to its end, if nothing else does.
+fn return_in(line: &[u8], at: usize) -> Option<bool>
     requires { at ≤ length line.now }
-    ensures { told_tail result ≡ return_in (drop at line.now) }
+    ensures { told_return result ≡ return_in (drop at line.now) }
 {
     let count = line.len() - at;
     if count == 0 {
-        return Tail::Nothing;
+        return Some(false);
     }
     if count != 1 {
-        return Tail::Other;
+        return None;
     }
     if line[at] != b'\r' {
-        return Tail::Other;
+        return None;
     }
-    Tail::Return
+    Some(true)
 }

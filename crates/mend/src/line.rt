@@ -8,8 +8,7 @@ ghost use Rattle.mend.specs.Mending.{is_small, capitals, without_zeros, eight_di
 ghost use Rattle.mend.specs.Places.{parts_at, PlacesFit, Became};
 
 use crate::fields;
-use crate::fields::{Fields, Places};
-use capture::Reading;
+use crate::fields::Places;
 
 // Which of the four mendings changed a line.
 #[derive(Clone, Copy)]
@@ -32,7 +31,7 @@ pub fn mend(out: &mut [u8], at: usize, line: &[u8]) -> Outcome
     requires { (at + 96 ≤ length out.old) × (length line.now ≤ 80) }
     ensures { Became line.now out.old at out.new result }
 {
-    let Fields::Whole(places) = fields::find(line) else {
+    let Some(places) = fields::find(line) else {
         return Outcome::Dropped;
     };
     if places.id_to == places.gap_to + 4 {
@@ -40,13 +39,12 @@ pub fn mend(out: &mut [u8], at: usize, line: &[u8]) -> Outcome
     }
     let to = put_tidied(out, at, line, places);
     let read = capture::take_apart(&out[at..to]);
-    let answer = read.answer;
-    match answer {
-        Reading::Sound => Outcome::Kept {
+    match read.answer {
+        Ok(()) => Outcome::Kept {
             to,
             actions: due(line, places),
         },
-        Reading::Malformed => Outcome::Dropped,
+        Err(_) => Outcome::Dropped,
     }
 }
 
@@ -81,14 +79,13 @@ fn put_gap(out: &mut [u8], at: usize, part: &[u8]) -> usize
 fn leading_zeros(part: &[u8]) -> usize
     ensures { (drop result part.now ≡ without_zeros part.now) × (result ≤ length part.now) }
 {
-    let mut i: usize = 0;
-    while i + 1 < part.len() {
+    let last = part.len().saturating_sub(1);
+    for i in 0..last {
         if part[i] != b'0' {
             return i;
         }
-        i += 1;
     }
-    i
+    last
 }
 
 // An identifier in capitals, behind its key and as many zeros as it lacks of eight digits.
@@ -127,12 +124,10 @@ fn put_capitals(out: &mut [u8], at: usize, part: &[u8]) -> usize
     ensures { Wrote out.old at (capitals part.now) out.new result
         × (result ≡ at + length part.now) }
 {
-    let mut i: usize = 0;
-    while i < part.len() {
-        out[at + i] = fields::capital_of(part[i]);
-        i += 1;
+    for (i, code) in part.iter().enumerate() {
+        out[at + i] = fields::capital_of(*code);
     }
-    at + i
+    at + part.len()
 }
 
 // Which mendings change a line.
@@ -160,14 +155,7 @@ fn due(line: &[u8], places: Places) -> Actions
 fn has_small(part: &[u8]) -> bool
     ensures { result ≡ any is_small part.now }
 {
-    let mut i: usize = 0;
-    while i < part.len() {
-        if fields::is_small(part[i]) {
-            return true;
-        }
-        i += 1;
-    }
-    false
+    part.iter().any(|code| fields::is_small(*code))
 }
 
 pub fn either(a: bool, b: bool) -> bool

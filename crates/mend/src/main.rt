@@ -147,7 +147,7 @@ fn output() -> [u8; 131072]
     [0; 131072]
 }
 
-// Block after block. Nothing says that a file ends, so the loop counts down from a number that no file uses up.
+// Block after block. Nothing says that a file ends, so the loop goes up to a number that no file reaches.
 fn read_all(
     rt: &HostRuntime,
     pass: Pass,
@@ -159,8 +159,7 @@ fn read_all(
     requires { out_room ≤ length out.old }
 {
     let mut cutter = Cutter::new();
-    let mut turns = u64::MAX;
-    while turns > 0 {
+    for _ in 0..u64::MAX {
         let fed = read_block(rt, pass, cutter, file, name, block, out);
         if !fed.well {
             return fed;
@@ -169,7 +168,6 @@ fn read_all(
             return fed;
         }
         cutter = fed.cutter;
-        turns -= 1;
     }
     Fed {
         cutter,

@@ -14,8 +14,8 @@ pub const IDLE_LIMIT: u16 = 750;
 // Byte 0 of an announcement to all.
 pub const TO_ALL: u8 = 32;
 
-// The storage bytes that each of a receiver's places owns.
-pub use places::storage::PLACES;
+// The receiver's places, and the storage bytes that each owns.
+pub const PLACES: usize = places::storage::PLACES;
 
 pub const STRETCH: usize = 1785;
 

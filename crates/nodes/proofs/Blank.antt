@@ -4,7 +4,7 @@ use Rattle.std.specs.Prelude.{None}
 use mathlib.Core.Path.{◌≡◌, refl, ap, ◌∙◌}
 use mathlib.Core.Bool.{true, false}
 use mathlib.Core.List.{List, ◌∷◌, ◌++◌}
-use Prim.Native.Nat.{ℕ, zero, suc, ◌≤◌}
+use Prim.Native.Nat.{ℕ, zero, suc, ◌+◌, ◌≤◌}
 use native.Mathlib.Omega.{arith}
 use lib.ListN.{length, get_or, take, replicate, length-append, length-replicate}
 use lib.Dec.{ltb}
@@ -50,7 +50,7 @@ all_absent (suc k) (suc a) = all_absent k a
 all_nameless : (name k a : ℕ) → first_from (has_name name) a (replicate k absent) ≡ None
 unfolding has_name
 all_nameless name zero a = refl
-all_nameless name (suc k) a = all_nameless name k (suc a)
+all_nameless name (suc k) a = all_nameless name k (a + 1)
 
 -- ---- those of the addresses
 

@@ -1,85 +1,25 @@
--- A call judged: by the first refusal that applies, or by what comes of it; the answer, the turns and the change that
--- belong to it; and the ways in which a call on a table can go.
+-- A call judged: by the first refusal that applies, or by what comes of it; and the ways in which a call on a table can
+-- go.
 -- Assumes nothing.
 use mathlib.Core.Path.{◌≡◌, refl, sym, ap, ◌∙◌}
 use mathlib.Core.List.{List}
-use mathlib.Core.Bool.{Bool, true, false, not}
+use mathlib.Core.Bool.{true, false, not}
 use Prim.Native.Nat.{ℕ, ◌≤◌, ◌<◌}
 use borrow.Author.Tests.{lt-ltb, le-ltb, ltb-false}
 use lib.ListN.{length, get_or, take}
 use lib.Dec.{ltb}
-use Rattle.words.specs.Words.{◌=?◌, Told, refused, gives}
+use Rattle.words.specs.Words.{◌=?◌, Told, refused, gives, done}
 use Rattle.frame.specs.Bytes.{number_of}
 use Rattle.frame.specs.Frame.{checked_of}
 use Rattle.frame.specs.Standard.{greatest_address, claim_dgn}
 use Rattle.frame.specs.declared.Parts.{Parts}
-use Rattle.words.proofs.Words.{past_refusal, not_flips, by_test}
+use Rattle.words.proofs.Words.{past_refusal, refused_gives, refused_same, not_flips, by_test}
 use Rattle.nodes.specs.Table.{addresses, absent, claimed_of, paused_of, replaced_in, keeps_rules}
-use Rattle.nodes.specs.Call.{table_or, claim_in, Outcome, nothing_to_do, claim_outcome, heard_by, left_by, heard_of}
+use Rattle.nodes.specs.Call.{table_or, claim_in, nothing_to_do, claim_outcome, heard_by, left_by, heard_of}
 use Rattle.nodes.specs.Call.{table_after}
 use Rattle.nodes.specs.Call.{pause_told, table_paused, nobody, holder_of, holder_at, no_rival, rival_of, rival_at}
-use Rattle.nodes.specs.Promises.{told_hearing, told_pausing}
-use Rattle.nodes.specs.Private.{sized_or, heard_in, change_by, change_in, paused_in, pause_in, change_of, turns_of}
-use Rattle.nodes.specs.Private.{unasked_as, JudgedAs, unpaused_as, JudgedPauseAs}
 use Rattle.nodes.specs.declared.Node.{Node}
 use Rattle.nodes.specs.declared.Claim.{Claim}
-use Rattle.nodes.specs.declared.Change.{Change}
-use Rattle.nodes.specs.declared.Change.TheVariants.{Nothing}
-use Rattle.nodes.specs.declared.Judged.{Judged}
-use Rattle.nodes.specs.declared.JudgedPause.{JudgedPause}
-use Rattle.nodes.specs.declared.Hearing.{Hearing}
-use Rattle.nodes.specs.declared.Pausing.{Pausing}
-
--- ---- the answer, the turns and the change
-
-module _ (answer : Told Outcome) (change : Told Change) (r : Judged) where
-  -- of a refusal, and of a frame that is nothing to do
-  pub judged_unasked : (h : Hearing) → told_hearing h ≡ answer → change_of change ≡ Nothing → r ≡ unasked_as h
-      → JudgedAs answer change r
-  judged_unasked h t e u =
-      record {
-        told = ap (λ (j : Judged). told_hearing j.answer) u ∙ t;
-        changes = ap (λ (j : Judged). j.change) u ∙ sym e;
-        turns = ap (λ (j : Judged). j.turns) u ∙ sym (ap turns_of e);
-      }
-
-  pub judged_asked : (c : Change) → change ≡ gives c → told_hearing r.answer ≡ answer → r.turns ≡ turns_of c
-      → r.change ≡ c → JudgedAs answer change r
-  judged_asked c e t n k =
-      let f = ap change_of e in
-      record { told = t; changes = k ∙ sym f; turns = n ∙ sym (ap turns_of f) }
-
-module _ (answer : Told ℕ) (change : Told Change) (r : JudgedPause) where
-  pub judged_unpaused : (p : Pausing) → told_pausing p ≡ answer → change_of change ≡ Nothing → r ≡ unpaused_as p
-      → JudgedPauseAs answer change r
-  judged_unpaused p t e u =
-      record {
-        told = ap (λ (j : JudgedPause). told_pausing j.answer) u ∙ t;
-        changes = ap (λ (j : JudgedPause). j.change) u ∙ sym e;
-        turns = ap (λ (j : JudgedPause). j.turns) u ∙ sym (ap turns_of e);
-      }
-
-  pub judged_passed : (c : Change) → change ≡ gives c → told_pausing r.answer ≡ answer → r.turns ≡ turns_of c
-      → r.change ≡ c → JudgedPauseAs answer change r
-  judged_passed c e t n k =
-      let f = ap change_of e in
-      record { told = t; changes = k ∙ sym f; turns = n ∙ sym (ap turns_of f) }
-
--- ---- by the first refusal that applies
-
-module _ {A : Type 0} (size : ℕ) (records : List Node) (told : Told A) where
-  pub sized_short : size < addresses → sized_or size records told ≡ refused 1
-  sized_short h = rw (lt-ltb _ _ h)
-
-  pub sized_broken : addresses ≤ size → keeps_rules records ≡ false → sized_or size records told ≡ refused 2
-  sized_broken h k = rw (le-ltb _ _ h, k)
-
-  -- as the code finds it
-  pub told_broken : (b : Bool) → addresses ≤ size → b ≡ keeps_rules records → b ≡ false → refused 2 ≡ sized_or size records told
-  told_broken b h e f = sym (sized_broken h (sym e ∙ f))
-
-  pub sized_sound : addresses ≤ size → keeps_rules records ≡ true → sized_or size records told ≡ told
-  sized_sound h k = rw (le-ltb _ _ h, k)
 
 -- a table that is not refused
 module _ {A : Type 0} (table : List Node) (told : Told A) where
@@ -94,38 +34,20 @@ module _ {A : Type 0} (table : List Node) (told : Told A) where
       let q = past_refusal (not (keeps_rules (take addresses table))) 2 _ p.1 in
       (ltb-false _ _ p.0, not_flips _ q.0, q.1)
 
--- what is heard and changed, as the core judges it
-module _ (size : ℕ) (records : List Node) (id : ℕ) (bytes : List ℕ) where
-  pub asked_short : size < addresses
-      → (heard_in size records id bytes ≡ refused 1) × (change_in size records id bytes ≡ refused 1)
-  unfolding heard_in change_in
-  asked_short h = (rw (lt-ltb _ _ h), rw (lt-ltb _ _ h))
+-- a table judged by itself, as the code has it
 
-  pub asked_broken : addresses ≤ size → keeps_rules records ≡ false
-      → (heard_in size records id bytes ≡ refused 2) × (change_in size records id bytes ≡ refused 2)
-  unfolding heard_in change_in
-  asked_broken h k = (rw (le-ltb _ _ h, k), rw (le-ltb _ _ h, k))
+pub judged_sound : (table : List Node) → gives done ≡ table_or table (gives done)
+    → (addresses ≤ length table) × (keeps_rules (take addresses table) ≡ true)
+judged_sound table e = let s = table_sound table (gives done) (sym e) in (s.0, s.1)
 
-  pub asked_bad : addresses ≤ size → keeps_rules records ≡ true → (n : ℕ) → checked_of id (length bytes) ≡ refused n
-      → (heard_in size records id bytes ≡ refused n) × (change_in size records id bytes ≡ refused n)
-  unfolding heard_in change_in
-  asked_bad h k n e = (rw (le-ltb _ _ h, k, e), rw (le-ltb _ _ h, k, e))
-
-  pub asked_sound : addresses ≤ size → keeps_rules records ≡ true → (p : Parts) → checked_of id (length bytes) ≡ gives p
-      → (heard_in size records id bytes ≡ gives (heard_by p bytes records))
-      × (change_in size records id bytes ≡ gives (change_by p bytes))
-  unfolding heard_in change_in
-  asked_sound h k p e = (rw (le-ltb _ _ h, k, e), rw (le-ltb _ _ h, k, e))
-
-module _ (size : ℕ) (records : List Node) (ms : ℕ) where
-  pub pause_short : size < addresses → (paused_in size records ms ≡ refused 1) × (pause_in size records ms ≡ refused 1)
-  unfolding paused_in pause_in
-  pause_short h = (rw (lt-ltb _ _ h), rw (lt-ltb _ _ h))
-
-  pub pause_broken : addresses ≤ size → keeps_rules records ≡ false
-      → (paused_in size records ms ≡ refused 2) × (pause_in size records ms ≡ refused 2)
-  unfolding paused_in pause_in
-  pause_broken h k = (rw (le-ltb _ _ h, k), rw (le-ltb _ _ h, k))
+pub judged_refused : {A : Type 0} (table : List Node) (told : Told A) (n : ℕ) → refused n ≡ table_or table (gives done)
+    → table_or table told ≡ refused n
+judged_refused table told n e =
+    by_test (ltb (length table) addresses)
+    (λ t. rw t (ap refused (refused_same (sym (rw t at e)))))
+    (λ t. by_test (keeps_rules (take addresses table))
+    (λ k. refused_gives (rw (t, k) at e))
+    (λ k. rw (t, k) (ap refused (refused_same (sym (rw (t, k) at e))))))
 
 -- ---- what a frame that is a claim comes to, and one that is none
 

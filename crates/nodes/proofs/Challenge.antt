@@ -1,6 +1,7 @@
 -- A challenge from the call that enters it to the call that ends it: first at the record of its address, then over runs
 -- of calls.
 -- Assumes nothing.
+use Rattle.std.specs.Prelude.{Some, None, Ok}
 use mathlib.Core.Path.{◌≡◌, refl, sym, ap, ◌∙◌, subst}
 use mathlib.Core.Bool.{true, false}
 use mathlib.Core.List.{List, [], ◌∷◌, ◌++◌, map}
@@ -29,8 +30,6 @@ use Rattle.nodes.specs.Runs.{ChallengeTakes, HolderLeaves, TakesOnlySo, Challeng
 use Rattle.nodes.specs.Runs.{AllUndisputed, HolderStays}
 use Rattle.nodes.specs.declared.Node.{Node}
 use Rattle.nodes.specs.declared.Claim.{Claim}
-use Rattle.nodes.specs.declared.LookedUp.TheVariants.{Present}
-use Rattle.nodes.specs.declared.FoundChallenger.TheVariants.{Waits, NoChallenger}
 use Rattle.nodes.proofs.Blank.{empty_keeps_rules, empty_has_no_challenger}
 use Rattle.nodes.proofs.Call.{heard_sound, heard_claim}
 use Rattle.nodes.proofs.Find.{get_d_front, holder_held}
@@ -178,7 +177,7 @@ quiet_run p c a l (s ∷ ss) w q h =
 -- ---- what is shown of such a record
 
 module _ (table : List Node) (a : ℕ) (s : Shows table a) where
-  show_holder : (n : Node) → get_or table a absent ≡ n → n.present ≡ true → LookUp table a (Present n.name)
+  show_holder : (n : Node) → get_or table a absent ≡ n → n.present ≡ true → LookUp table a (Ok (Some n.name))
   show_holder n e p =
       record {
         answer = sym (looked_here table s.enough s.keeps a s.low ∙ ap (λ (x : Node). gives (holder_of x)) e
@@ -186,14 +185,14 @@ module _ (table : List Node) (a : ℕ) (s : Shows table a) where
       }
 
   show_rival : (n : Node) → get_or table a absent ≡ n → is_challenged n ≡ true
-      → FindChallenger table a (Waits n.challenger n.wait)
+      → FindChallenger table a (Ok (Some (record { name = n.challenger; wait = n.wait })))
   show_rival n e t =
       record {
         answer = sym (rival_here table s.enough s.keeps a s.low ∙ ap (λ (x : Node). gives (rival_of x)) e
             ∙ ap gives (rival_is n t));
       }
 
-  show_alone : (n : Node) → get_or table a absent ≡ n → is_challenged n ≡ false → FindChallenger table a NoChallenger
+  show_alone : (n : Node) → get_or table a absent ≡ n → is_challenged n ≡ false → FindChallenger table a (Ok None)
   show_alone n e t =
       record {
         answer = sym (rival_here table s.enough s.keeps a s.low ∙ ap (λ (x : Node). gives (rival_of x)) e
@@ -254,7 +253,7 @@ module _ (a p c w : ℕ) (end : List Node) (k : Challenge a p c w end) where
     next_is = left.records a stands_on.shows.low ∙ ap (record_after (said_by call) a) stands_on.is
 
     taken_over : record_after (said_by call) a (waiting p c w) ≡ held c
-        → LookUp next a (Present c) × FindChallenger next a NoChallenger
+        → LookUp next a (Ok (Some c)) × FindChallenger next a (Ok None)
     taken_over e = (
       show_holder next a shows_next (held c) (next_is ∙ e) refl,
       show_alone next a shows_next (held c) (next_is
@@ -494,7 +493,7 @@ module _ (table : List Node) (s : Sound table) (a : ℕ) (low : a < addresses) (
   )
 
 abbrev Known : List Node → Type 0
-Known table = (a c w : ℕ) → FindChallenger table a (Waits c w) → (p : ℕ) × Challenge a p c w table
+Known table = (a c w : ℕ) → FindChallenger table a (Ok (Some (record { name = c; wait = w }))) → (p : ℕ) × Challenge a p c w table
 
 module _ (table next : List Node) (s : Sound table) (known : Known table) (a c w : ℕ)
     (q : Shows next a × (is_challenged (get_or next a absent) ≡ true) × ((get_or next a absent).challenger ≡ c)

@@ -1,9 +1,9 @@
 -- What `each_from` does to a list, one element at a time. Assumes nothing.
 use mathlib.Core.Path.{◌≡◌, refl, sym, ◌∙◌, ap, subst}
 use Prim.Native.Nat.{ℕ, zero, suc, ◌+◌, ◌<◌, ◌≤◌}
-use native.Mathlib.Nat.{add-zero, add-suc, suc-add, not-suc-le-zero, le_of_suc-le-suc}
+use native.Mathlib.Nat.{zero-add, add-zero, add-suc, suc-add, not-suc-le-zero, le_of_suc-le-suc}
 use native.Mathlib.Omega.{arith}
-use mathlib.Core.List.{List, [], ◌∷◌}
+use mathlib.Core.List.{List, [], ◌∷◌, ◌++◌}
 use lib.ListN.{length, get_or, set, take, drop}
 use Rattle.nodes.specs.Table.{each_from}
 
@@ -28,6 +28,17 @@ module _ {A : Type 0} (f : ℕ → A → A) where
   each_step zero a (x ∷ xs) d = ap (λ (n : ℕ). f n x ∷ xs) (add-zero a)
   each_step (suc k) a [] d = refl
   each_step (suc k) a (x ∷ xs) d = ap (λ (n : ℕ). f a x ∷ set (each_from f k (suc a) xs) k (f n (get_or xs k d))) (add-suc a k ∙ sym (suc-add a k)) ∙ ap (λ (l : List A). f a x ∷ l) (each_step k (suc a) xs d)
+
+  -- the same, as a loop makes it of the list so far
+  pub each_turn : (i : ℕ) (xs ys : List A) (y d : A) → ys ≡ each_from f i 0 xs → y ≡ f i (get_or ys i d)
+      → set ys i y ≡ each_from f (i + 1) 0 xs
+  each_turn i xs ys y d e h =
+      let at : get_or ys i d ≡ get_or xs i d = ap (λ (l : List A). get_or l i d) e ∙ each_at i 0 xs d in
+      let r : y ≡ f (0 + i) (get_or xs i d) =
+      h ∙ ap (f i) at ∙ ap (λ (k : ℕ). f k (get_or xs i d)) (sym (zero-add i)) in
+      let next : suc i ≡ i + 1 = omega arith in
+      ap (λ (l : List A). set l i y) e ∙ ap (set (each_from f i 0 xs) i) r ∙ each_step i 0 xs d
+      ∙ ap (λ (k : ℕ). each_from f k 0 xs) next
 
   -- an element that is done, and one that is past them
   pub each_inside : (k a : ℕ) (xs : List A) (d : A) (i : ℕ) → i < k → i < length xs → get_or (each_from f k a xs) i d ≡ f (a + i) (get_or xs i d)
@@ -56,6 +67,13 @@ module _ {A : Type 0} (f : ℕ → A → A) where
   drop_each zero a xs = refl
   drop_each (suc k) a [] = refl
   drop_each (suc k) a (x ∷ xs) = drop_each k (suc a) xs
+
+  -- the first elements alone, with those past them behind
+  pub each_front : (k a : ℕ) (xs : List A) → each_from f k a (take k xs) ++ drop k xs ≡ each_from f k a xs
+  unfolding each_from
+  each_front zero a xs = refl
+  each_front (suc k) a [] = refl
+  each_front (suc k) a (x ∷ xs) = ap (λ (l : List A). f a x ∷ l) (each_front k (suc a) xs)
 
 -- two functions that agree on each of the first elements
 pub each_same : {A : Type 0} (f g : ℕ → A → A) (k a : ℕ) (xs : List A) (d : A)

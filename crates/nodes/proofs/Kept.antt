@@ -2,7 +2,7 @@
 -- Assumes nothing.
 use mathlib.Core.Path.{◌≡◌, refl, sym, ap, ◌∙◌, subst}
 use mathlib.Core.Bool.{true, false}
-use mathlib.Core.List.{List}
+use mathlib.Core.List.{List, ◌++◌}
 use mathlib.Core.Logic.{◌⊎◌, inl, inr}
 use Prim.Native.Nat.{ℕ, ◌<◌, ◌≤◌}
 use native.Mathlib.Nat.{zero-add}
@@ -17,7 +17,7 @@ use Rattle.nodes.specs.Table.{claimed_of, paused_of, keeps_rules}
 use Rattle.nodes.specs.Laws.{Rules, NameOnce, TakenByLower}
 use Rattle.nodes.specs.declared.Node.{Node}
 use Rattle.nodes.specs.declared.Claim.{Claim}
-use Rattle.nodes.proofs.Each.{each_length, each_inside, take_each, drop_each}
+use Rattle.nodes.proofs.Each.{each_length, each_inside, take_each, drop_each, each_front}
 use Rattle.nodes.proofs.Find.{get_d_front, front_length}
 use Rattle.nodes.proofs.Sound.{Facts, name_of, rules_of, of_rules, rules_facts, facts_at, cleared_challenger}
 use Rattle.nodes.proofs.Sound.{cleared_none, entered_taken, entered_challenges, entered_not, present_gives}
@@ -100,6 +100,11 @@ module _ (claim : Claim) (table : List Node) where
       (take addresses table)
   unfolding claimed_of
   claimed_front = take_each (claimed_at claim) addresses 0 table
+
+  -- the pass over the records of the addresses leaves the whole table so
+  pub claimed_whole : claimed_of claim (take addresses table) ++ drop addresses table ≡ claimed_of claim table
+  unfolding claimed_of
+  claimed_whole = each_front (claimed_at claim) addresses 0 table
 
   pub claimed_keeps : keeps_rules (take addresses table) ≡ true
       → keeps_rules (take addresses (claimed_of claim table)) ≡ true
@@ -208,6 +213,10 @@ module _ (ms : ℕ) (table : List Node) where
   pub paused_front : take addresses (paused_of ms table) ≡ each_from (λ a. paused_at ms) addresses 0 (take addresses table)
   unfolding paused_of
   paused_front = take_each (λ a. paused_at ms) addresses 0 table
+
+  pub paused_whole : paused_of ms (take addresses table) ++ drop addresses table ≡ paused_of ms table
+  unfolding paused_of
+  paused_whole = each_front (λ a. paused_at ms) addresses 0 table
 
   pub paused_keeps : keeps_rules (take addresses table) ≡ true → keeps_rules (take addresses (paused_of ms table)) ≡ true
   unfolding paused_of

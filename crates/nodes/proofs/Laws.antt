@@ -1,7 +1,6 @@
 -- The statements of specs/Laws.antt, proved.
 -- Assumes nothing.
-use Rattle.std.specs.Prelude.{Option, Some, None}
-use Rattle.std.specs.Prelude.{if◌then◌else◌}
+use Rattle.std.specs.Prelude.{Option, Some, None, Ok, Err, if◌then◌else◌}
 use mathlib.Core.Path.{◌≡◌, refl, sym, ap, ◌∙◌}
 use mathlib.Core.Bool.{Bool, true}
 use mathlib.Core.List.{List}
@@ -18,7 +17,7 @@ use Rattle.frame.specs.Standard.{greatest_address, claim_dgn}
 use Rattle.frame.specs.Laws.{told_but_priority}
 use Rattle.frame.specs.declared.Parts.{Parts}
 use Rattle.frame.specs.declared.BadFrame.TheVariants as Bad
-use Rattle.words.proofs.Words.{refused_gives, gives_same, by_test}
+use Rattle.words.proofs.Words.{refused_gives, gives_same, refused_same, told_same, by_test}
 use Rattle.frame.proofs.Laws.{bad_back, bad_back_lem, priority_ignored as frame_priority}
 use Rattle.nodes.specs.Table.{addresses, has_name, gives_way, may_challenge, claimed_at, claimed_of, paused_at}
 use Rattle.nodes.specs.Table.{paused_of, each_from, keeps_rules, replaced_in}
@@ -26,7 +25,10 @@ use Rattle.nodes.specs.Call.{table_or, leaves, claim_in, Outcome, nothing_to_do,
 use Rattle.nodes.specs.Call.{silent}
 use Rattle.nodes.specs.Call.{source_record, claim_outcome, heard_by, left_by, table_after, table_paused}
 use Rattle.nodes.specs.Call.{Holder, nobody, holder, holder_at, Rival, no_rival, rival, rival_at}
-use Rattle.nodes.specs.Promises.{told_hearing, told_pausing, told_looked_up, told_found_address, told_found_challenger}
+use Rattle.nodes.specs.Promises.{number_of_bad_table, number_of_not_heard, outcome_in, holder_in, rival_in}
+use Rattle.nodes.specs.Laws.{NotHeardRefusalOnly, BadTableRefusalOnly}
+use Rattle.nodes.specs.Laws.{HearingRefusalTold, PausingRefusalTold, LookedUpRefusalTold, FoundAddressRefusalTold}
+use Rattle.nodes.specs.Laws.{FoundChallengerRefusalTold}
 use Rattle.nodes.specs.Laws.{ToldHearingSame, ToldPausingSame, ToldLookedUpSame, ToldFoundAddressSame}
 use Rattle.nodes.specs.Laws.{ToldFoundChallengerSame, EmptyOnly, HearOnly, PauseOnly, LookUpOnly, FindAddressOnly}
 use Rattle.nodes.specs.Laws.{FindChallengerOnly, HearingRefusalOnly, PausingRefusalOnly, LookedUpRefusalOnly}
@@ -36,11 +38,10 @@ use Rattle.nodes.specs.Laws.{PastUntouched, PausePastUntouched, PastUnread, Leng
 use Rattle.nodes.specs.Laws.{RulesRead, RulesKept, PauseRulesKept}
 use Rattle.nodes.specs.declared.Node.{Node}
 use Rattle.nodes.specs.declared.Claim.{Claim}
-use Rattle.nodes.specs.declared.Hearing.{Hearing}
-use Rattle.nodes.specs.declared.Pausing.{Pausing}
-use Rattle.nodes.specs.declared.LookedUp.{LookedUp}
-use Rattle.nodes.specs.declared.FoundAddress.{FoundAddress}
-use Rattle.nodes.specs.declared.FoundChallenger.{FoundChallenger}
+use Rattle.nodes.specs.declared.Effect.{Effect}
+use Rattle.nodes.specs.declared.Challenger as Declared
+use Rattle.nodes.specs.declared.BadTable.{BadTable}
+use Rattle.nodes.specs.declared.NotHeard.{NotHeard}
 use Rattle.nodes.proofs.Call.{heard_bad, heard_sound, heard_claim, heard_other, left_claim, pause_told_lem}
 use Rattle.nodes.proofs.Call.{pause_left}
 use Rattle.nodes.proofs.Call.{Went, stopped, ignored, claimed, went, Paused, kept, passed, paused}
@@ -60,91 +61,112 @@ pub use Rattle.nodes.proofs.Challenge.{challenge_entered, holder_stays}
 
 -- an answer is read back from what it tells
 
-hearing_back : Told Outcome → Hearing
-hearing_back (gives nothing_to_do) = Hearing.NothingToDo
-hearing_back (gives (taken address)) = Hearing.Taken address
-hearing_back (gives (held_by_lower address)) = Hearing.HeldByLower address
-hearing_back (gives silent) = Hearing.Silent
-hearing_back (gives (challenges address)) = Hearing.Challenges address
-hearing_back (refused n) =
-    if n =? 1 then Hearing.TableTooShort else
-    if n =? 2 then Hearing.BrokenState else
-    Hearing.BadFrame (bad_back n)
+bad_table_back : ℕ → BadTable
+bad_table_back n = if n =? 1 then BadTable.TableTooShort else BadTable.BrokenState
 
-hearing_back_lem : (r : Hearing) → hearing_back (told_hearing r) ≡ r
-unfolding hearing_back
-hearing_back_lem (Hearing.Taken address) = refl
-hearing_back_lem (Hearing.Challenges address) = refl
-hearing_back_lem (Hearing.HeldByLower address) = refl
-hearing_back_lem Hearing.Silent = refl
-hearing_back_lem Hearing.NothingToDo = refl
-hearing_back_lem Hearing.TableTooShort = refl
-hearing_back_lem Hearing.BrokenState = refl
-hearing_back_lem (Hearing.BadFrame Bad.IdentifierTooLarge) = ap Hearing.BadFrame (bad_back_lem Bad.IdentifierTooLarge)
-hearing_back_lem (Hearing.BadFrame Bad.NotEightBytes) = ap Hearing.BadFrame (bad_back_lem Bad.NotEightBytes)
-hearing_back_lem (Hearing.BadFrame Bad.ReservedBitSet) = ap Hearing.BadFrame (bad_back_lem Bad.ReservedBitSet)
-hearing_back_lem (Hearing.BadFrame Bad.SourceNotAllowed) = ap Hearing.BadFrame (bad_back_lem Bad.SourceNotAllowed)
+bad_table_back_lem : (w : BadTable) → bad_table_back (number_of_bad_table w) ≡ w
+unfolding bad_table_back
+bad_table_back_lem BadTable.TableTooShort = refl
+bad_table_back_lem BadTable.BrokenState = refl
+
+bad_table_same : (v w : BadTable) → number_of_bad_table v ≡ number_of_bad_table w → v ≡ w
+bad_table_same v w e = sym (bad_table_back_lem v) ∙ ap bad_table_back e ∙ bad_table_back_lem w
+
+not_heard_back : ℕ → NotHeard
+not_heard_back n =
+    if n =? 1 then NotHeard.TableTooShort else
+    if n =? 2 then NotHeard.BrokenState else
+    NotHeard.BadFrame (bad_back n)
+
+not_heard_back_lem : (w : NotHeard) → not_heard_back (number_of_not_heard w) ≡ w
+unfolding not_heard_back
+not_heard_back_lem NotHeard.TableTooShort = refl
+not_heard_back_lem NotHeard.BrokenState = refl
+not_heard_back_lem (NotHeard.BadFrame Bad.IdentifierTooLarge) = ap NotHeard.BadFrame (bad_back_lem Bad.IdentifierTooLarge)
+not_heard_back_lem (NotHeard.BadFrame Bad.NotEightBytes) = ap NotHeard.BadFrame (bad_back_lem Bad.NotEightBytes)
+not_heard_back_lem (NotHeard.BadFrame Bad.ReservedBitSet) = ap NotHeard.BadFrame (bad_back_lem Bad.ReservedBitSet)
+not_heard_back_lem (NotHeard.BadFrame Bad.SourceNotAllowed) = ap NotHeard.BadFrame (bad_back_lem Bad.SourceNotAllowed)
+
+effect_back : Outcome → Effect
+effect_back nothing_to_do = Effect.NothingToDo
+effect_back (taken address) = Effect.Taken address
+effect_back (challenges address) = Effect.Challenges address
+effect_back (held_by_lower address) = Effect.HeldByLower address
+effect_back silent = Effect.Silent
+
+effect_back_lem : (effect : Effect) → effect_back (outcome_in effect) ≡ effect
+unfolding effect_back
+effect_back_lem (Effect.Taken address) = refl
+effect_back_lem (Effect.Challenges address) = refl
+effect_back_lem (Effect.HeldByLower address) = refl
+effect_back_lem Effect.Silent = refl
+effect_back_lem Effect.NothingToDo = refl
+
+holder_back : Holder → Option ℕ
+holder_back nobody = None
+holder_back (holder name) = Some name
+
+holder_back_lem : (found : Option ℕ) → holder_back (holder_in found) ≡ found
+unfolding holder_back
+holder_back_lem (Some name) = refl
+holder_back_lem None = refl
+
+rival_back : Rival → Option Declared.Challenger
+rival_back no_rival = None
+rival_back (rival r) = Some (record { name = r.name; wait = r.wait })
+
+rival_back_lem : (found : Option Declared.Challenger) → rival_back (rival_in found) ≡ found
+unfolding rival_back
+rival_back_lem (Some c) = refl
+rival_back_lem None = refl
 
 pub told_hearing_same : ToldHearingSame
-told_hearing_same r s e = sym (hearing_back_lem r) ∙ ap hearing_back e ∙ hearing_back_lem s
-
-pausing_back : Told ℕ → Pausing
-pausing_back (gives count) = Pausing.Replaced count
-pausing_back (refused n) = if n =? 1 then Pausing.TableTooShort else Pausing.BrokenState
-
-pausing_back_lem : (r : Pausing) → pausing_back (told_pausing r) ≡ r
-unfolding pausing_back
-pausing_back_lem (Pausing.Replaced count) = refl
-pausing_back_lem Pausing.TableTooShort = refl
-pausing_back_lem Pausing.BrokenState = refl
+told_hearing_same (Ok a) (Ok b) e =
+    ap Ok (sym (effect_back_lem a) ∙ ap effect_back (gives_same e) ∙ effect_back_lem b)
+told_hearing_same (Ok a) (Err w) e = refused_gives (sym e)
+told_hearing_same (Err v) (Ok b) e = refused_gives e
+told_hearing_same (Err v) (Err w) e =
+    ap Err (sym (not_heard_back_lem v) ∙ ap not_heard_back (refused_same e) ∙ not_heard_back_lem w)
 
 pub told_pausing_same : ToldPausingSame
-told_pausing_same r s e = sym (pausing_back_lem r) ∙ ap pausing_back e ∙ pausing_back_lem s
-
-looked_back : Told Holder → LookedUp
-looked_back (gives nobody) = LookedUp.Absent
-looked_back (gives (holder name)) = LookedUp.Present name
-looked_back (refused n) = if n =? 1 then LookedUp.TableTooShort else LookedUp.BrokenState
-
-looked_back_lem : (r : LookedUp) → looked_back (told_looked_up r) ≡ r
-unfolding looked_back
-looked_back_lem (LookedUp.Present name) = refl
-looked_back_lem LookedUp.Absent = refl
-looked_back_lem LookedUp.TableTooShort = refl
-looked_back_lem LookedUp.BrokenState = refl
+told_pausing_same = told_same number_of_bad_table bad_table_same
 
 pub told_looked_up_same : ToldLookedUpSame
-told_looked_up_same r s e = sym (looked_back_lem r) ∙ ap looked_back e ∙ looked_back_lem s
-
-found_back : Told Option ℕ → FoundAddress
-found_back (gives None) = FoundAddress.NoAddress
-found_back (gives (Some address)) = FoundAddress.At address
-found_back (refused n) = if n =? 1 then FoundAddress.TableTooShort else FoundAddress.BrokenState
-
-found_back_lem : (r : FoundAddress) → found_back (told_found_address r) ≡ r
-unfolding found_back
-found_back_lem (FoundAddress.At address) = refl
-found_back_lem FoundAddress.NoAddress = refl
-found_back_lem FoundAddress.TableTooShort = refl
-found_back_lem FoundAddress.BrokenState = refl
+told_looked_up_same (Ok a) (Ok b) e =
+    ap Ok (sym (holder_back_lem a) ∙ ap holder_back (gives_same e) ∙ holder_back_lem b)
+told_looked_up_same (Ok a) (Err w) e = refused_gives (sym e)
+told_looked_up_same (Err v) (Ok b) e = refused_gives e
+told_looked_up_same (Err v) (Err w) e = ap Err (bad_table_same v w (refused_same e))
 
 pub told_found_address_same : ToldFoundAddressSame
-told_found_address_same r s e = sym (found_back_lem r) ∙ ap found_back e ∙ found_back_lem s
-
-challenger_back : Told Rival → FoundChallenger
-challenger_back (gives no_rival) = FoundChallenger.NoChallenger
-challenger_back (gives (rival r)) = FoundChallenger.Waits r.name r.wait
-challenger_back (refused n) = if n =? 1 then FoundChallenger.TableTooShort else FoundChallenger.BrokenState
-
-challenger_back_lem : (r : FoundChallenger) → challenger_back (told_found_challenger r) ≡ r
-unfolding challenger_back
-challenger_back_lem (FoundChallenger.Waits name wait) = refl
-challenger_back_lem FoundChallenger.NoChallenger = refl
-challenger_back_lem FoundChallenger.TableTooShort = refl
-challenger_back_lem FoundChallenger.BrokenState = refl
+told_found_address_same = told_same number_of_bad_table bad_table_same
 
 pub told_found_challenger_same : ToldFoundChallengerSame
-told_found_challenger_same r s e = sym (challenger_back_lem r) ∙ ap challenger_back e ∙ challenger_back_lem s
+told_found_challenger_same (Ok a) (Ok b) e =
+    ap Ok (sym (rival_back_lem a) ∙ ap rival_back (gives_same e) ∙ rival_back_lem b)
+told_found_challenger_same (Ok a) (Err w) e = refused_gives (sym e)
+told_found_challenger_same (Err v) (Ok b) e = refused_gives e
+told_found_challenger_same (Err v) (Err w) e = ap Err (bad_table_same v w (refused_same e))
+
+-- the number of a refusal, as an answer gives it, is that of the refusal which is told
+
+pub hearing_refusal_told : HearingRefusalTold
+hearing_refusal_told (Ok effect) = record { number = refl }
+hearing_refusal_told (Err why) = record { number = refl }
+
+pub pausing_refusal_told : PausingRefusalTold
+pausing_refusal_told answer = record { number = refl }
+
+pub looked_up_refusal_told : LookedUpRefusalTold
+looked_up_refusal_told (Ok found) = record { number = refl }
+looked_up_refusal_told (Err why) = record { number = refl }
+
+pub found_address_refusal_told : FoundAddressRefusalTold
+found_address_refusal_told answer = record { number = refl }
+
+pub found_challenger_refusal_told : FoundChallengerRefusalTold
+found_challenger_refusal_told (Ok found) = record { number = refl }
+found_challenger_refusal_told (Err why) = record { number = refl }
 
 -- no second answer
 
@@ -171,8 +193,14 @@ find_address_only table name r s p q = told_found_address_same r s (p.answer ∙
 pub find_challenger_only : FindChallengerOnly
 find_challenger_only table address r s p q = told_found_challenger_same r s (p.answer ∙ sym q.answer)
 
+pub not_heard_refusal_only : NotHeardRefusalOnly
+not_heard_refusal_only why r s p q = p.number ∙ sym q.number
+
 pub hearing_refusal_only : HearingRefusalOnly
 hearing_refusal_only answer r s p q = p.number ∙ sym q.number
+
+pub bad_table_refusal_only : BadTableRefusalOnly
+bad_table_refusal_only why r s p q = p.number ∙ sym q.number
 
 pub pausing_refusal_only : PausingRefusalOnly
 pausing_refusal_only answer r s p q = p.number ∙ sym q.number

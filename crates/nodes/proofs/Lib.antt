@@ -1,8 +1,6 @@
 pub mod Rules
 pub mod Call
 pub mod Each
-pub mod Copy
-pub mod Whole
 pub mod Sound
 pub mod Sentences
 pub mod Find

@@ -1,5 +1,6 @@
 -- The pauses of a node table add up (specs/Pauses.antt): at one record, and at all.
 -- Assumes nothing.
+use Rattle.std.specs.Prelude.{Ok, Err}
 use Rattle.std.specs.Prelude.{if◌then◌else◌}
 use mathlib.Core.Path.{◌≡◌, refl, sym, ap, ◌∙◌}
 use mathlib.Core.Bool.{true, false, not}
@@ -15,11 +16,11 @@ use Rattle.words.proofs.Pauses.{standing, computed_add_up, map_none, count_sum, 
 use Rattle.nodes.specs.Table.{addresses, takes_after, held, challenged, is_challenged, paused_at, is_replaced}
 use Rattle.nodes.specs.Table.{each_from, paused_of, replaced_in, sound_record, keeps_rules}
 use Rattle.nodes.specs.Call.{table_or, table_paused, pause_told}
-use Rattle.nodes.specs.Promises.{told_pausing}
+use Rattle.nodes.specs.Promises.{Pausing, told_pausing}
 use Rattle.nodes.specs.Runs.{Sound}
 use Rattle.nodes.specs.Pauses.{Pauses, pause_call, PausesAddUp}
 use Rattle.nodes.specs.declared.Node.{Node}
-use Rattle.nodes.specs.declared.Pausing.{Pausing}
+use Rattle.nodes.specs.declared.BadTable.{BadTable}
 use Rattle.nodes.proofs.Sound.{facts_of, paused_alone, paused_waits, paused_takes, still_challenged}
 use Rattle.nodes.proofs.Sentences.{counts_none, counts_waiting, counts_one}
 use Rattle.nodes.proofs.Kept.{paused_length, paused_keeps}
@@ -210,9 +211,9 @@ module _ (table : List Node) where
   some : (ms : ℕ) → (told : Told ℕ) × (after : List Node) × Pauses table ms told after
   some ms =
       by_table
-      (λ l. answers Pausing.TableTooShort (rw l))
-      (λ l k. answers Pausing.BrokenState (rw (l, k)))
-      (λ l k. answers (Pausing.Replaced (replaced_in ms records)) (rw (l, k)))
+      (λ l. answers (Err BadTable.TableTooShort) (rw l))
+      (λ l k. answers (Err BadTable.BrokenState) (rw (l, k)))
+      (λ l k. answers (Ok (replaced_in ms records)) (rw (l, k)))
     where
       answers : (answer : Pausing) → told_pausing answer ≡ pause_told table ms
           → (told : Told ℕ) × (after : List Node) × Pauses table ms told after

@@ -1,5 +1,6 @@
 -- Runs of calls: what each call makes of each record, from one call to every run.
 -- Assumes nothing.
+use Rattle.std.specs.Prelude.{Ok, Err}
 use mathlib.Core.Path.{◌≡◌, refl, sym, ap, ◌∙◌, subst}
 use mathlib.Core.Bool.{not}
 use mathlib.Core.List.{List, [], ◌∷◌, map}
@@ -18,14 +19,15 @@ use Rattle.frame.specs.declared.BadFrame.TheVariants as Bad
 use Rattle.words.proofs.Words.{refused_gives, refused_same, by_test}
 use Rattle.nodes.specs.Table.{addresses, absent, claimed_of, paused_of, replaced_in}
 use Rattle.nodes.specs.Call.{claim_in, claim_outcome, heard_by, left_by, heard_of, table_after, table_paused}
+use Rattle.nodes.specs.Promises.{Hearing}
 use Rattle.nodes.specs.Promises.{told_hearing}
 use Rattle.nodes.specs.Runs.{Call, hearing, pausing, Leads, no_call, a_call, Said, nothing, claims, pauses}
 use Rattle.nodes.specs.Runs.{said_of}
 use Rattle.nodes.specs.Runs.{said_in, said_by, record_after, record_after_all, Sound, RunByRecord, EveryRunRuns}
+use Rattle.nodes.specs.declared.Effect.{Effect}
+use Rattle.nodes.specs.declared.NotHeard.{NotHeard}
 use Rattle.nodes.specs.declared.Node.{Node}
 use Rattle.nodes.specs.declared.Claim.{Claim}
-use Rattle.nodes.specs.declared.Hearing.{Hearing}
-use Rattle.nodes.specs.declared.Pausing.TheVariants as Pausing
 use Rattle.nodes.proofs.Call.{heard_bad, heard_sound, heard_claim, heard_other, pause_told_lem, pause_left}
 use Rattle.nodes.proofs.Kept.{claimed_length, claimed_past, claimed_keeps, claimed_at_lem, paused_length}
 use Rattle.nodes.proofs.Kept.{paused_past, paused_keeps, paused_at_lem}
@@ -118,10 +120,10 @@ bad_of id size n e =
 
 outcome_told : (records : List Node) (c : Claim) → Came records c
     → (r : Hearing) × (told_hearing r ≡ gives (claim_outcome records c))
-outcome_told records c (was_silent h o) = (Hearing.Silent, ap gives (sym o))
-outcome_told records c (was_taken h g o) = (Hearing.Taken c.source, ap gives (sym o))
-outcome_told records c (was_challenge h g m o) = (Hearing.Challenges c.source, ap gives (sym o))
-outcome_told records c (was_held h g m o) = (Hearing.HeldByLower c.source, ap gives (sym o))
+outcome_told records c (was_silent h o) = (Ok Effect.Silent, ap gives (sym o))
+outcome_told records c (was_taken h g o) = (Ok (Effect.Taken c.source), ap gives (sym o))
+outcome_told records c (was_challenge h g m o) = (Ok (Effect.Challenges c.source), ap gives (sym o))
+outcome_told records c (was_held h g m o) = (Ok (Effect.HeldByLower c.source), ap gives (sym o))
 
 module _ (table : List Node) (s : Sound table) where
   abbrev records : List Node
@@ -132,13 +134,13 @@ module _ (table : List Node) (s : Sound table) where
       by_test (p.dgn =? claim_dgn)
       (λ d. let o = outcome_told records (claim_in p bytes) (came records (claim_in p bytes)) in
       (o.0, o.1 ∙ sym (ap gives (heard_claim p bytes records d))))
-      (λ d. (Hearing.NothingToDo, sym (ap gives (heard_other p bytes records d))))
+      (λ d. (Ok Effect.NothingToDo, sym (ap gives (heard_other p bytes records d))))
 
   heard_some : (id : ℕ) (bytes : List ℕ) (t : Told Parts) → checked_of id (length bytes) ≡ t
       → (r : Hearing) × (told_hearing r ≡ heard_of table id bytes)
   heard_some id bytes (refused n) e =
       let b = bad_of id (length bytes) n e in (
-        Hearing.BadFrame b.0,
+        Err (NotHeard.BadFrame b.0),
         ap refused b.1
             ∙ sym (heard_bad table id bytes s.enough s.rules n e).0,
       )
@@ -152,7 +154,7 @@ module _ (table : List Node) (s : Sound table) where
       (table_after table id bytes, (o.0, record { answer = o.1; table_after = refl }))
   leads_some (pausing ms) =
       let k = pause_told_lem table ms s.enough s.rules in
-      (table_paused table ms, (Pausing.Replaced (replaced_in ms records), record { answer = sym k; table_after = refl }))
+      (table_paused table ms, (Ok (replaced_in ms records), record { answer = sym k; table_after = refl }))
 
 pub every_run_runs : EveryRunRuns
 every_run_runs table [] s = (table, no_call table)

@@ -1,7 +1,6 @@
 -- What a call on the node table is told, and what it leaves (RULES 9.2, 9.7, 9.8, 9.10, 9.11, 9.18 and 9.19). It goes
 -- by the length of the table and the records of the addresses; no other record is read.
-use Rattle.std.specs.Prelude.{Option}
-use Rattle.std.specs.Prelude.{not, List, ℕ, length, get_or, take, if◌then◌else◌}
+use Rattle.std.specs.Prelude.{not, List, ℕ, length, get_or, take, Option, if◌then◌else◌}
 use Rattle.words.specs.Words.{given◌then◌, ◌<?◌, ◌=?◌, Told, refused, gives}
 use Rattle.words.specs.Lists.{first}
 use Rattle.frame.specs.Bytes.{number_of}
@@ -102,7 +101,7 @@ looked_up_of table address = table_or table (gives (holder_at address (take addr
 
 -- ---- find_address: where a NAME is, at the address of the first record that has it
 
-abbrev pub found_of : List Node → ℕ → Told Option ℕ
+abbrev pub found_of : List Node → ℕ → Told (Option ℕ)
 found_of table name = table_or table (gives (first (has_name name) (take addresses table)))
 
 -- ---- find_challenger: who challenges the holder of an address, and for how long it has; above 253 nobody does

@@ -1,8 +1,7 @@
 -- The laws of this crate (RULES 9), each a named statement. proofs/Laws.antt has a proof of each, under the same name
 -- written small.
-use Rattle.std.specs.Prelude.{Some, None}
-use Rattle.std.specs.Prelude.{◌≡◌, true, false, List, ◌++◌, map, ◌⊎◌, ℕ, ◌≤◌, ◌<◌, ◌%◌, ◌^◌, length, get_or, set, take, drop, if◌then◌else◌}
-use Rattle.words.specs.Words.{◌≤?◌, Told, refused, gives}
+use Rattle.std.specs.Prelude.{◌≡◌, true, false, List, ◌++◌, map, ◌⊎◌, ℕ, ◌≤◌, ◌<◌, ◌%◌, ◌^◌, length, get_or, set, take, drop, Some, None, Ok, if◌then◌else◌}
+use Rattle.words.specs.Words.{◌≤?◌, Told, refused, gives, number_of_answer}
 use Rattle.frame.specs.Bytes.{number_of}
 use Rattle.frame.specs.Identifier.{identifiers}
 use Rattle.frame.specs.Frame.{checked_of}
@@ -14,17 +13,17 @@ use Rattle.nodes.specs.Table.{is_replaced, replaced_in, keeps_rules, sound_recor
 use Rattle.nodes.specs.Call.{claim_in, nothing_to_do, taken, challenges, held_by_lower, claim_outcome, heard_of}
 use Rattle.nodes.specs.Call.{table_after, pause_told, table_paused, Holder, nobody, holder, looked_up_of, found_of}
 use Rattle.nodes.specs.Call.{Rival, no_rival, rival, challenger_of}
+use Rattle.nodes.specs.Promises.{NotHeardRefusal, BadTableRefusal}
+use Rattle.nodes.specs.Promises.{Hearing, Pausing, LookedUp, FoundAddress, FoundChallenger}
+use Rattle.nodes.specs.Promises.{number_of_bad_table, number_of_not_heard}
 use Rattle.nodes.specs.Promises.{Empty, Hear, Pause, LookUp, FindAddress, FindChallenger, HearingRefusal}
 use Rattle.nodes.specs.Promises.{PausingRefusal, LookedUpRefusal, FoundAddressRefusal, FoundChallengerRefusal}
 use Rattle.nodes.specs.Promises.{told_hearing, told_pausing, told_looked_up, told_found_address, told_found_challenger}
 use Rattle.nodes.specs.declared.Node.{Node}
 use Rattle.nodes.specs.declared.Claim.{Claim}
-use Rattle.nodes.specs.declared.Hearing.{Hearing}
-use Rattle.nodes.specs.declared.Hearing.TheVariants.{NothingToDo}
-use Rattle.nodes.specs.declared.Pausing.{Pausing}
-use Rattle.nodes.specs.declared.LookedUp.{LookedUp}
-use Rattle.nodes.specs.declared.FoundAddress.{FoundAddress}
-use Rattle.nodes.specs.declared.FoundChallenger.{FoundChallenger}
+use Rattle.nodes.specs.declared.Effect.TheVariants.{NothingToDo}
+use Rattle.nodes.specs.declared.NotHeard.{NotHeard}
+use Rattle.nodes.specs.declared.BadTable.{BadTable}
 
 -- An answer read as number and values loses nothing (RULES 2.10).
 
@@ -71,8 +70,14 @@ FindChallengerOnly =
     (table : List Node) (address : ℕ) (r s : FoundChallenger)
     → FindChallenger table address r → FindChallenger table address s → r ≡ s
 
+abbrev pub NotHeardRefusalOnly : Type 0
+NotHeardRefusalOnly = (why : NotHeard) (r s : ℕ) → NotHeardRefusal why r → NotHeardRefusal why s → r ≡ s
+
 abbrev pub HearingRefusalOnly : Type 0
 HearingRefusalOnly = (answer : Hearing) (r s : ℕ) → HearingRefusal answer r → HearingRefusal answer s → r ≡ s
+
+abbrev pub BadTableRefusalOnly : Type 0
+BadTableRefusalOnly = (why : BadTable) (r s : ℕ) → BadTableRefusal why r → BadTableRefusal why s → r ≡ s
 
 abbrev pub PausingRefusalOnly : Type 0
 PausingRefusalOnly = (answer : Pausing) (r s : ℕ) → PausingRefusal answer r → PausingRefusal answer s → r ≡ s
@@ -87,6 +92,25 @@ FoundAddressRefusalOnly =
 abbrev pub FoundChallengerRefusalOnly : Type 0
 FoundChallengerRefusalOnly =
     (answer : FoundChallenger) (r s : ℕ) → FoundChallengerRefusal answer r → FoundChallengerRefusal answer s → r ≡ s
+
+-- The number that an answer gives for its refusal is the one that is told of it, and 0 where there is none.
+
+abbrev pub HearingRefusalTold : Type 0
+HearingRefusalTold = (answer : Hearing) → HearingRefusal answer (number_of_answer number_of_not_heard answer)
+
+abbrev pub PausingRefusalTold : Type 0
+PausingRefusalTold = (answer : Pausing) → PausingRefusal answer (number_of_answer number_of_bad_table answer)
+
+abbrev pub LookedUpRefusalTold : Type 0
+LookedUpRefusalTold = (answer : LookedUp) → LookedUpRefusal answer (number_of_answer number_of_bad_table answer)
+
+abbrev pub FoundAddressRefusalTold : Type 0
+FoundAddressRefusalTold =
+    (answer : FoundAddress) → FoundAddressRefusal answer (number_of_answer number_of_bad_table answer)
+
+abbrev pub FoundChallengerRefusalTold : Type 0
+FoundChallengerRefusalTold =
+    (answer : FoundChallenger) → FoundChallengerRefusal answer (number_of_answer number_of_bad_table answer)
 
 -- A refusal keeps the table, and so does a frame that asks nothing.
 
@@ -103,7 +127,7 @@ PauseRefusedKeeps =
 abbrev pub HearNothingKeeps : Type 0
 HearNothingKeeps =
     (table : List Node) (id : ℕ) (bytes : List ℕ) (after : List Node)
-    → Hear table id bytes NothingToDo after → after ≡ table
+    → Hear table id bytes (Ok NothingToDo) after → after ≡ table
 
 -- The lowest number wins: 1, then 2, then 3 to 6; then a frame of another DGN is nothing to do, and a claim is heard.
 pub record LowestWins (table : List Node) (id : ℕ) (bytes : List ℕ) : Type 0 where

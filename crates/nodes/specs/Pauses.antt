@@ -4,10 +4,10 @@
 use Rattle.std.specs.Prelude.{◌≡◌, List, ℕ}
 use Rattle.words.specs.Words.{Told}
 use Rattle.words.specs.Pauses.{PauseCall, AddUp}
+use Rattle.nodes.specs.Promises.{Pausing}
 use Rattle.nodes.specs.Promises.{told_pausing, Pause}
 use Rattle.nodes.specs.Runs.{Sound}
 use Rattle.nodes.specs.declared.Node.{Node}
-use Rattle.nodes.specs.declared.Pausing.{Pausing}
 
 pub record Pauses (table : List Node) (ms : ℕ) (told : Told ℕ) (after : List Node) : Type 0 where
   pub answer : Pausing

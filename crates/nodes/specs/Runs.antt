@@ -1,6 +1,6 @@
 -- Runs of calls on one table (RULES 9.16, 9.21 and 13.6): each call is told by its promise, and is lent the table that
 -- the one before it left. What a run makes of a record goes by the claims and pauses, by that record and its address.
-use Rattle.std.specs.Prelude.{◌≡◌, List, [], ◌∷◌, ◌++◌, map, true, ◌⊎◌, ℕ, ◌+◌, ◌≤◌, ◌<◌, length, get_or, take, drop, if◌then◌else◌}
+use Rattle.std.specs.Prelude.{◌≡◌, List, [], ◌∷◌, ◌++◌, map, true, ◌⊎◌, ℕ, ◌+◌, ◌≤◌, ◌<◌, length, get_or, take, drop, Some, None, Ok, if◌then◌else◌}
 use Rattle.words.specs.Words.{◌=?◌, Told, refused, gives}
 use Rattle.frame.specs.Bytes.{number_of}
 use Rattle.frame.specs.Frame.{checked_of}
@@ -8,14 +8,11 @@ use Rattle.frame.specs.Standard.{claim_dgn}
 use Rattle.frame.specs.declared.Parts.{Parts}
 use Rattle.nodes.specs.Table.{addresses, takes_after, absent, claimed_at, paused_at, keeps_rules}
 use Rattle.nodes.specs.Call.{claim_in}
+use Rattle.nodes.specs.Promises.{Hearing, Pausing}
 use Rattle.nodes.specs.Promises.{Empty, Hear, Pause, LookUp, FindChallenger}
 use Rattle.nodes.specs.declared.Node.{Node}
 use Rattle.nodes.specs.declared.Claim.{Claim}
-use Rattle.nodes.specs.declared.Hearing.{Hearing}
-use Rattle.nodes.specs.declared.Hearing.TheVariants.{Challenges}
-use Rattle.nodes.specs.declared.Pausing.{Pausing}
-use Rattle.nodes.specs.declared.LookedUp.TheVariants.{Present}
-use Rattle.nodes.specs.declared.FoundChallenger.TheVariants.{Waits, NoChallenger}
+use Rattle.nodes.specs.declared.Effect.TheVariants.{Challenges}
 
 -- A call that may change the table, and what its promise allows.
 pub data Call : Type 0 where
@@ -110,9 +107,9 @@ pub record Challenge (a p c w : ℕ) (end : List Node) : Type 0 where
   pub bytes : List ℕ
   pub after : List Node
   pub since : List Call
-  pub entered : Hear table id bytes (Challenges a) after
+  pub entered : Hear table id bytes (Ok (Challenges a)) after
   pub challenger : number_of bytes ≡ c
-  pub holder : LookUp after a (Present p)
+  pub holder : LookUp after a (Ok (Some p))
   pub ran : Ran after since end
   pub quiet : AllQuiet p c a (map said_by since)
   pub ms : waited_in (map said_by since) ≡ w
@@ -122,14 +119,14 @@ pub record Challenge (a p c w : ℕ) (end : List Node) : Type 0 where
 abbrev pub ChallengeWaits : Type 0
 ChallengeWaits =
     (a p c w : ℕ) (end : List Node) → Challenge a p c w end
-    → LookUp end a (Present p) × FindChallenger end a (Waits c w)
+    → LookUp end a (Ok (Some p)) × FindChallenger end a (Ok (Some (record { name = c; wait = w })))
 
 -- The pause that brings the sum to 250 ms shows the challenger as the holder.
 abbrev pub ChallengeTakes : Type 0
 ChallengeTakes =
     (a p c w : ℕ) (end : List Node) → Challenge a p c w end
     → (ms : ℕ) (r : Pausing) (next : List Node) → Pause end ms r next → takes_after ≤ w + ms
-    → LookUp next a (Present c) × FindChallenger next a NoChallenger
+    → LookUp next a (Ok (Some c)) × FindChallenger next a (Ok None)
 
 -- So does a claim of the holder from any other source, at once.
 abbrev pub HolderLeaves : Type 0
@@ -137,13 +134,13 @@ HolderLeaves =
     (a p c w : ℕ) (end : List Node) → Challenge a p c w end
     → (id : ℕ) (bytes : List ℕ) (r : Hearing) (next : List Node) (claim : Claim) → Hear end id bytes r next
     → said_by (hearing id bytes) ≡ claims claim → claim.name ≡ p → (claim.source ≡ a → ⊥)
-    → LookUp next a (Present c) × FindChallenger next a NoChallenger
+    → LookUp next a (Ok (Some c)) × FindChallenger next a (Ok None)
 
 -- And nothing else does: a call after which the challenger is shown as the holder was one of these two.
 abbrev pub TakesOnlySo : Type 0
 TakesOnlySo =
     (a p c w : ℕ) (end : List Node) → Challenge a p c w end
-    → (call : Call) (next : List Node) → Leads end call next → LookUp next a (Present c)
+    → (call : Call) (next : List Node) → Leads end call next → LookUp next a (Ok (Some c))
     → ((ms : ℕ) × (said_by call ≡ pauses ms) × (takes_after ≤ w + ms))
     ⊎ ((claim : Claim) × (said_by call ≡ claims claim) × (claim.name ≡ p) × (claim.source ≡ a → ⊥))
 
@@ -152,7 +149,7 @@ TakesOnlySo =
 abbrev pub ChallengeEntered : Type 0
 ChallengeEntered =
     (r behind end : List Node) (calls : List Call) → Empty r → Ran (r ++ behind) calls end
-    → (a c w : ℕ) → FindChallenger end a (Waits c w) → (p : ℕ) × Challenge a p c w end
+    → (a c w : ℕ) → FindChallenger end a (Ok (Some (record { name = c; wait = w }))) → (p : ℕ) × Challenge a p c w end
 
 -- A holder whom nobody challenges stays as long as nobody claims its address and it claims nothing elsewhere.
 abbrev pub Undisputed : ℕ → ℕ → Said → Type 0
@@ -167,5 +164,5 @@ AllUndisputed p a (s ∷ ss) = Undisputed p a s × AllUndisputed p a ss
 abbrev pub HolderStays : Type 0
 HolderStays =
     (a p : ℕ) (table end : List Node) (calls : List Call)
-    → LookUp table a (Present p) → FindChallenger table a NoChallenger → Ran table calls end
-    → AllUndisputed p a (map said_by calls) → LookUp end a (Present p) × FindChallenger end a NoChallenger
+    → LookUp table a (Ok (Some p)) → FindChallenger table a (Ok None) → Ran table calls end
+    → AllUndisputed p a (map said_by calls) → LookUp end a (Ok (Some p)) × FindChallenger end a (Ok None)

@@ -2,16 +2,15 @@
 // records that the caller lends; record a stands for address a.
 #![tactic(auto)]
 
-mod flat; // the work on values
+mod records;
 
-ghost use Rattle.std.specs.Prelude.{◌≡◌, ◌≤◌, length};
-ghost use Rattle.nodes.specs.Table.{each_from};
+ghost use Rattle.std.specs.Prelude.{◌≡◌};
 ghost use Rattle.nodes.specs.Promises.{Empty, Hear, Pause, LookUp, FindAddress, FindChallenger};
-ghost use Rattle.nodes.specs.Promises.{HearingRefusal, PausingRefusal, LookedUpRefusal, FoundAddressRefusal};
-ghost use Rattle.nodes.specs.Promises.{FoundChallengerRefusal};
-ghost use Rattle.nodes.specs.Private.{after_of, records_of};
+ghost use Rattle.nodes.specs.Promises.{number_of_bad_table, number_of_not_heard, not_heard_for};
+ghost use Rattle.nodes.specs.declared.NotHeard.TheVariants.{BadFrame};
 
-use frame::BadFrame;
+use frame::{BadFrame, standard};
+use words::Refusal;
 
 // A table has a record for each of the addresses 0 to 253; what stands past them is neither read nor written.
 pub const RECORDS: usize = 254;
@@ -30,55 +29,54 @@ pub struct Node {
     pub wait: u16,
 }
 
-// What came of a frame: a claim's record took the NAME; or stays with a lower one, which the NAME now challenges; or
-// which a lower NAME than this one challenges already, so that the claimer stands nowhere; a claim from 254, whose
-// sender has no address; or refusal 1, 2, or 3 to 6.
+// What came of a frame that is heard: a claim's record took the NAME; or stays with a lower one, which the NAME now
+// challenges; or which a lower NAME than this one challenges already, so that the claimer stands nowhere; a claim from
+// 254, whose sender has no address; or no claim.
 #[derive(Clone, Copy)]
-pub enum Hearing {
+pub enum Effect {
     Taken(u8),
     Challenges(u8),
     HeldByLower(u8),
     Silent,
     NothingToDo,
+}
+
+// Which NAME challenges the holder of an address, and for how many milliseconds it has.
+#[derive(Clone, Copy)]
+pub struct Challenger {
+    pub name: u64,
+    pub wait: u16,
+}
+
+// Why a table is refused: 1 and 2.
+#[derive(Clone, Copy)]
+pub enum BadTable {
+    TableTooShort,
+    BrokenState,
+}
+
+// Why a frame is not heard: refusals 1, 2, and 3 to 6.
+#[derive(Clone, Copy)]
+pub enum NotHeard {
     TableTooShort,
     BrokenState,
     BadFrame(BadFrame),
 }
 
-// In how many records the challenger took the address; or refusal 1 or 2.
-#[derive(Clone, Copy)]
-pub enum Pausing {
-    Replaced(u8),
-    TableTooShort,
-    BrokenState,
-}
+// What came of a frame, or why it is not heard.
+pub type Hearing = Result<Effect, NotHeard>;
 
-// Who has an address, or refusal 1 or 2.
-#[derive(Clone, Copy)]
-pub enum LookedUp {
-    Present(u64),
-    Absent,
-    TableTooShort,
-    BrokenState,
-}
+// In how many records the challenger took the address, or why no time passed.
+pub type Pausing = Result<u8, BadTable>;
 
-// The address that a NAME has, or refusal 1 or 2.
-#[derive(Clone, Copy)]
-pub enum FoundAddress {
-    At(u8),
-    NoAddress,
-    TableTooShort,
-    BrokenState,
-}
+// The NAME of who has an address, if somebody has, or why that is not told.
+pub type LookedUp = Result<Option<u64>, BadTable>;
 
-// Which NAME challenges the holder of an address, and for how many milliseconds it has; or refusal 1 or 2.
-#[derive(Clone, Copy)]
-pub enum FoundChallenger {
-    Waits { name: u64, wait: u16 },
-    NoChallenger,
-    TableTooShort,
-    BrokenState,
-}
+// The address that a NAME has, if it has one, or why that is not told.
+pub type FoundAddress = Result<Option<u8>, BadTable>;
+
+// Who challenges the holder of an address, if somebody does, or why that is not told.
+pub type FoundChallenger = Result<Option<Challenger>, BadTable>;
 
 // A claim: who sends it, and its NAME.
 #[derive(Clone, Copy)]
@@ -87,105 +85,45 @@ struct Claim {
     name: u64,
 }
 
-// What is done to a table. What it makes of one record `flat::after` alone says.
-#[derive(Clone, Copy)]
-enum Change {
-    Nothing,
-    Claims(Claim),
-    Pauses(u16),
-}
+impl Refusal for BadTable {
+    ghost number = { number_of_bad_table };
 
-// A call judged: its answer, over how many records its change goes, and the change.
-#[derive(Clone, Copy)]
-struct Judged {
-    answer: Hearing,
-    turns: usize,
-    change: Change,
-}
-
-// A pause judged in the same way.
-#[derive(Clone, Copy)]
-struct JudgedPause {
-    answer: Pausing,
-    turns: usize,
-    change: Change,
-}
-
-impl Hearing {
-    // The number of the refusal; 0 where the frame is heard.
-    pub fn refusal(self) -> u8
-        ensures { HearingRefusal self result }
-    {
-        let answer = self;
-        match answer {
-            Hearing::Taken(_) => 0,
-            Hearing::Challenges(_) => 0,
-            Hearing::HeldByLower(_) => 0,
-            Hearing::Silent => 0,
-            Hearing::NothingToDo => 0,
-            Hearing::TableTooShort => 1,
-            Hearing::BrokenState => 2,
-            Hearing::BadFrame(why) => why.refusal(),
+    fn refusal(self) -> u8 {
+        match self {
+            BadTable::TableTooShort => 1,
+            BadTable::BrokenState => 2,
         }
     }
 }
 
-impl Pausing {
-    // The number of the refusal; 0 where the pause is passed on.
-    pub fn refusal(self) -> u8
-        ensures { PausingRefusal self result }
-    {
-        let answer = self;
-        match answer {
-            Pausing::Replaced(_) => 0,
-            Pausing::TableTooShort => 1,
-            Pausing::BrokenState => 2,
+impl Refusal for NotHeard {
+    ghost number = { number_of_not_heard };
+
+    fn refusal(self) -> u8 {
+        match self {
+            NotHeard::TableTooShort => 1,
+            NotHeard::BrokenState => 2,
+            NotHeard::BadFrame(why) => why.refusal(),
         }
     }
 }
 
-impl LookedUp {
-    // The number of the refusal; 0 where the address is looked up.
-    pub fn refusal(self) -> u8
-        ensures { LookedUpRefusal self result }
-    {
-        let answer = self;
-        match answer {
-            LookedUp::Present(_) => 0,
-            LookedUp::Absent => 0,
-            LookedUp::TableTooShort => 1,
-            LookedUp::BrokenState => 2,
+impl From<BadTable> for NotHeard {
+    ghost from_gives = { λ why answer. answer ≡ not_heard_for why };
+
+    fn from(why: BadTable) -> NotHeard {
+        match why {
+            BadTable::TableTooShort => NotHeard::TableTooShort,
+            BadTable::BrokenState => NotHeard::BrokenState,
         }
     }
 }
 
-impl FoundAddress {
-    // The number of the refusal; 0 where the NAME is looked for.
-    pub fn refusal(self) -> u8
-        ensures { FoundAddressRefusal self result }
-    {
-        let answer = self;
-        match answer {
-            FoundAddress::At(_) => 0,
-            FoundAddress::NoAddress => 0,
-            FoundAddress::TableTooShort => 1,
-            FoundAddress::BrokenState => 2,
-        }
-    }
-}
+impl From<BadFrame> for NotHeard {
+    ghost from_gives = { λ why answer. answer ≡ BadFrame why };
 
-impl FoundChallenger {
-    // The number of the refusal; 0 where a challenger is looked for.
-    pub fn refusal(self) -> u8
-        ensures { FoundChallengerRefusal self result }
-    {
-        let answer = self;
-        match answer {
-            FoundChallenger::Waits { name: _, wait: _ } => 0,
-            FoundChallenger::NoChallenger => 0,
-            FoundChallenger::TableTooShort => 1,
-            FoundChallenger::BrokenState => 2,
-        }
+    fn from(why: BadFrame) -> NotHeard {
+        NotHeard::BadFrame(why)
     }
 }
 
@@ -193,12 +131,7 @@ impl FoundChallenger {
 pub fn empty() -> [Node; RECORDS]
     ensures { Empty result }
 {
-    [Node {
-        present: false,
-        name: 0,
-        challenger: 0,
-        wait: 0,
-    }; RECORDS]
+    [records::absent(); RECORDS]
 }
 
 // Hears one frame. Refusals 1, 2 and 3 to 6 leave the table as it is, and so does a frame that is no claim: it is
@@ -209,9 +142,19 @@ pub fn empty() -> [Node; RECORDS]
 pub fn hear(table: &mut [Node], id: u32, bytes: &[u8]) -> Hearing
     ensures { Hear table.old id bytes.now result table.new }
 {
-    let judged = flat::judge(table.len(), records(table), id, bytes);
-    changed(table, judged.turns, judged.change);
-    judged.answer
+    records::judge(table)?; // 1 and 2 come first
+    let checked = frame::check(id, bytes);
+    let parts = checked.verdict?;
+    if parts.dgn != standard::CLAIM {
+        return Ok(Effect::NothingToDo);
+    }
+    let claim = Claim {
+        source: parts.source,
+        name: frame::number_of(checked.bytes),
+    };
+    let effect = records::effect(&table[..RECORDS], claim);
+    records::claim_all(&mut table[..RECORDS], claim);
+    Ok(effect)
 }
 
 // Passes so many milliseconds since the last pause: every challenger waits so much longer, and one that has waited 250
@@ -219,9 +162,10 @@ pub fn hear(table: &mut [Node], id: u32, bytes: &[u8]) -> Hearing
 pub fn pause(table: &mut [Node], ms: u16) -> Pausing
     ensures { Pause table.old ms result table.new }
 {
-    let judged = flat::judge_pause(table.len(), records(table), ms);
-    changed(table, judged.turns, judged.change);
-    judged.answer
+    records::judge(table)?; // nothing else is refused
+    let count = records::replaced(&table[..RECORDS], ms);
+    records::pause_all(&mut table[..RECORDS], ms);
+    Ok(count)
 }
 
 // Looks up who has an address: the holder, until a challenger takes the record. Above 253 nobody has one. Refusals 1
@@ -229,7 +173,8 @@ pub fn pause(table: &mut [Node], ms: u16) -> Pausing
 pub fn look_up(table: &[Node], address: u8) -> LookedUp
     ensures { LookUp table.now address result }
 {
-    flat::looked_up(table.len(), records(table), address)
+    records::judge(table)?;
+    Ok(records::holder(&table[..RECORDS], address))
 }
 
 // Finds the address that a NAME has: that of the one record present with it. A challenger has none yet. Refusals 1 and
@@ -237,7 +182,8 @@ pub fn look_up(table: &[Node], address: u8) -> LookedUp
 pub fn find_address(table: &[Node], name: u64) -> FoundAddress
     ensures { FindAddress table.now name result }
 {
-    flat::found_address(table.len(), records(table), name)
+    records::judge(table)?; // before the NAME is looked for
+    Ok(records::address(&table[..RECORDS], name))
 }
 
 // Finds out who challenges the holder of an address, and for how many milliseconds it has, up to 249. Above 253 nobody
@@ -245,31 +191,6 @@ pub fn find_address(table: &[Node], name: u64) -> FoundAddress
 pub fn find_challenger(table: &[Node], address: u8) -> FoundChallenger
     ensures { FindChallenger table.now address result }
 {
-    flat::found_challenger(table.len(), records(table), address)
-}
-
-// The one pass over the lent table: what the change makes of each of the first `turns` records.
-fn changed(table: &mut [Node], turns: usize, change: Change)
-    requires { turns ≤ length table.old }
-    ensures { table.new ≡ each_from (after_of change) turns 0 table.old }
-{
-    let mut i: usize = 0;
-    while i < turns {
-        table[i] = flat::after(table[i], i, change);
-        i += 1;
-    }
-}
-
-// The records of the addresses, read out of the lent table.
-fn records(table: &[Node]) -> [Node; RECORDS]
-    ensures { result ≡ records_of table.now }
-{
-    let count = flat::readable(table.len());
-    let mut out = empty();
-    let mut i: usize = 0;
-    while i < count {
-        out[i] = table[i];
-        i += 1;
-    }
-    out
+    records::judge(table)?;
+    Ok(records::challenger(&table[..RECORDS], address))
 }

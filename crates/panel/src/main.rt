@@ -10,12 +10,12 @@ mod own_faults;
 mod replies;
 mod show;
 mod state;
-mod streams;
 
 ghost use Rattle.std.specs.Prelude.{◌≡◌, ◌<◌, length};
 
-use rvc::captures::{Cutter, Cutting, Ending, Reading};
-use rvc::identifiers::{Parts, Verdict};
+use rvc::Refusal;
+use rvc::captures::{Cutter, Cutting, Ending, NotRead};
+use rvc::identifiers::Parts;
 use rvc::messages::limits::STORAGE_BYTES;
 use state::Panel;
 use std::io;
@@ -58,7 +58,7 @@ fn block() -> [u8; 65536]
     [0; 65536]
 }
 
-// Block after block. Nothing says that an input ends, so the loop counts down from a number that no input uses up.
+// Block after block. Nothing says that an input ends, so the loop goes up to a number that no input reaches.
 fn listen(
     listener: Listener,
     block: &mut [u8],
@@ -66,13 +66,11 @@ fn listen(
     streams: &mut Streams,
 ) -> Listener {
     let mut listener = listener;
-    let mut turns = u64::MAX;
-    while turns > 0 {
+    for _ in 0..u64::MAX {
         listener = read_block(listener, block, storage, streams);
         if !listener.more {
-            return listener;
+            break;
         }
-        turns -= 1;
     }
     listener
 }
@@ -86,12 +84,9 @@ fn read_block(
 ) -> Listener {
     let count = streams.read(block);
     if count == 0 {
-        let cutter = listener.cutter;
-        let panel = listener.panel;
         return Listener {
-            cutter,
-            panel,
             more: false,
+            ..listener
         };
     }
     hear_block(listener, &block[..count], storage, streams)
@@ -182,22 +177,19 @@ fn last_line(listener: Listener, storage: &mut [u8], streams: &mut Streams) -> P
 
 // A line that is too long is malformed.
 fn too_long(streams: &mut Streams) {
-    let answer = Reading::Malformed;
-    show::refused(answer.refusal(), streams);
+    show::refused(NotRead::Malformed.refusal(), streams);
 }
 
 // A line: the pause before its frame, then the frame. A malformed line passes no time.
 fn hear_line(panel: Panel, text: &[u8], storage: &mut [u8], streams: &mut Streams) -> Panel {
     let line = rvc::captures::take_apart(text);
-    let answer = line.answer;
-    let bytes = line.bytes;
-    match answer {
-        Reading::Sound => {
+    match line.answer {
+        Ok(()) => {
             let panel = network::pause(panel, line.gap, streams);
-            hear_frame(panel, line.id, bytes, storage, streams)
+            hear_frame(panel, line.id, line.bytes, storage, streams)
         }
-        Reading::Malformed => {
-            show::refused(answer.refusal(), streams);
+        Err(why) => {
+            show::refused(why.refusal(), streams);
             panel
         }
     }
@@ -211,12 +203,10 @@ fn hear_frame(
     storage: &mut [u8],
     streams: &mut Streams,
 ) -> Panel {
-    let checked = rvc::identifiers::check(id, &bytes);
-    let verdict = checked.verdict;
-    match verdict {
-        Verdict::Sound(parts) => hear_sound(panel, parts, id, bytes, storage, streams),
-        Verdict::Bad(_) => {
-            show::refused(verdict.refusal(), streams);
+    match rvc::identifiers::check(id, &bytes).verdict {
+        Ok(parts) => hear_sound(panel, parts, id, bytes, storage, streams),
+        Err(why) => {
+            show::refused(why.refusal(), streams);
             panel
         }
     }

@@ -4,9 +4,10 @@ ghost use Rattle.std.specs.Prelude.{◌≡◌};
 ghost use Rattle.nodes.specs.Promises.{Hear, LookUp, Pause};
 
 use crate::show;
-use crate::streams::Streams;
+use rvc::Refusal;
 use rvc::identifiers::standard::NO_ADDRESS;
-use rvc::node_table::{Hearing, LookedUp, Node, Pausing, RECORDS};
+use rvc::node_table::{Effect, Hearing, LookedUp, Node, Pausing, RECORDS};
+use streams::Streams;
 
 // A table after a frame, and what was answered.
 #[derive(Clone, Copy)]
@@ -31,23 +32,20 @@ pub fn hear_claim(
     streams: &mut Streams,
 ) -> [Node; RECORDS] {
     let after = hear(table, id, &bytes);
-    let answer = after.answer;
     let heard = after.table;
-    match answer {
-        Hearing::Taken(address) => {
+    match after.answer {
+        Ok(Effect::Taken(address)) => {
             show_node(heard, address, streams);
             show_others(table, heard, address, streams);
         }
-        Hearing::Challenges(address) => {
+        Ok(Effect::Challenges(address)) => {
             show::show_challenger(address, rvc::identifiers::number_of(bytes), streams);
             show_others(table, heard, address, streams);
         }
-        Hearing::HeldByLower(address) => show_others(table, heard, address, streams),
-        Hearing::Silent => show_others(table, heard, NO_ADDRESS, streams),
-        Hearing::NothingToDo
-        | Hearing::TableTooShort
-        | Hearing::BrokenState
-        | Hearing::BadFrame(_) => show::refused(answer.refusal(), streams),
+        Ok(Effect::HeldByLower(address)) => show_others(table, heard, address, streams),
+        Ok(Effect::Silent) => show_others(table, heard, NO_ADDRESS, streams),
+        Ok(Effect::NothingToDo) => {}
+        Err(why) => show::refused(why.refusal(), streams),
     }
     heard
 }
@@ -55,30 +53,25 @@ pub fn hear_claim(
 // Time passes for the challengers, and those that it gives an address are shown.
 pub fn pause_nodes(table: [Node; RECORDS], gap: u16, streams: &mut Streams) -> [Node; RECORDS] {
     let after = pause(table, gap);
-    let answer = after.answer;
     let paused = after.table;
-    show::refused(answer.refusal(), streams);
-    if let Pausing::Replaced(count) = answer {
-        if 0 < count {
-            show_others(table, paused, NO_ADDRESS, streams);
-        }
+    match after.answer {
+        Ok(0) => {}
+        Ok(_) => show_others(table, paused, NO_ADDRESS, streams),
+        Err(why) => show::refused(why.refusal(), streams),
     }
     paused
 }
 
 // Everybody who has an address.
 pub fn show_nodes(table: [Node; RECORDS], streams: &mut Streams) {
-    let mut address: u8 = 0;
-    while address < 254 {
+    for address in 0..NO_ADDRESS {
         show_node(table, address, streams);
-        address += 1;
     }
 }
 
 // Everybody who has an address that another NAME had before, except at the address that is shown already.
 fn show_others(before: [Node; RECORDS], after: [Node; RECORDS], shown: u8, streams: &mut Streams) {
-    let mut address: u8 = 0;
-    while address < 254 {
+    for address in 0..NO_ADDRESS {
         if address != shown {
             show_change(
                 before[address as usize],
@@ -87,25 +80,22 @@ fn show_others(before: [Node; RECORDS], after: [Node; RECORDS], shown: u8, strea
                 streams,
             );
         }
-        address += 1;
     }
 }
 
 // Who has an address, if it is another NAME than before.
 fn show_change(before: Node, after: Node, address: u8, streams: &mut Streams) {
-    if after.name != before.name {
-        if after.present {
-            show::show_name(address, after.name, streams);
-        }
+    if after.name != before.name && after.present {
+        show::show_name(address, after.name, streams);
     }
 }
 
 // Who has an address, if anybody has.
 fn show_node(table: [Node; RECORDS], address: u8, streams: &mut Streams) {
-    let answer = look_up(table, address);
-    show::refused(answer.refusal(), streams);
-    if let LookedUp::Present(name) = answer {
-        show::show_name(address, name, streams);
+    match look_up(table, address) {
+        Ok(Some(name)) => show::show_name(address, name, streams),
+        Ok(None) => {}
+        Err(why) => show::refused(why.refusal(), streams),
     }
 }
 

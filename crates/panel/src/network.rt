@@ -1,10 +1,11 @@
 // The panel as a node of the network: its address, and the long messages that it joins.
 use crate::state::Panel;
-use crate::streams::Streams;
 use crate::{names, own_faults, replies, show, state};
-use rvc::claims::{Claim, Heard, Hearing, Standing, Starting};
-use rvc::messages::{Answer, Receiver};
+use rvc::Refusal;
+use rvc::claims::{Claim, Heard, Place, Reaction};
+use rvc::messages::{Event, Receiver};
 use rvc::node_table::{Node, RECORDS};
+use streams::Streams;
 
 // The panel's NAME (3.3): no other node of the coach has it.
 const NAME: u64 = 0x8000_1234_5678_9ABC;
@@ -15,15 +16,14 @@ const PRODUCT_IDENTIFICATION: u32 = 0xFEEB;
 // Claims the first of two addresses.
 pub fn start(streams: &mut Streams) -> Panel {
     let started = Claim::start(NAME, b"\x9C\x9D");
-    let answer = started.answer;
     let bytes = started.bytes;
     let claim = started.claim;
-    match answer {
-        Starting::SendClaim => {
+    match started.answer {
+        Ok(()) => {
             show::send(started.id, bytes, streams);
             show::show_standing(claim, streams);
         }
-        Starting::ListMalformed => show::refused(answer.refusal(), streams),
+        Err(why) => show::refused(why.refusal(), streams),
     }
     let nodes = names::hear_claim(rvc::node_table::empty(), started.id, bytes, streams);
     state::new(
@@ -69,14 +69,7 @@ fn pause_claim(claim: Claim, gap: u16, streams: &mut Streams) -> Claim {
 }
 
 fn is_held(claim: Claim) -> bool {
-    let standing = claim.stands();
-    match standing {
-        Standing::Held(_) => true,
-        Standing::Claiming(_)
-        | Standing::Silent
-        | Standing::BrokenState
-        | Standing::ListMalformed => false,
-    }
+    matches!(claim.stands(), Ok(Place::Held(_)))
 }
 
 // A message whose sender pauses for too long is dropped without a word.
@@ -90,21 +83,16 @@ fn pause_receiver(receiver: Receiver, gap: u16, streams: &mut Streams) -> Receiv
 // A rival's claim at our address: a lower NAME wins it, and we go on to the next (3.3).
 pub fn contest(claim: Claim, id: u32, bytes: [u8; 8], streams: &mut Streams) -> Heard {
     let heard = claim.hear(id, &bytes);
-    let answer = heard.answer;
     let to_send = heard.bytes;
-    let after = heard.claim;
-    match answer {
-        Hearing::NothingToDo => {}
-        Hearing::OwnName => show::say(b"own name heard\n", streams),
-        Hearing::SendClaimAgain => show::send(heard.id, to_send, streams),
-        Hearing::SendNextClaim | Hearing::SendCannotClaim => {
+    match heard.answer {
+        Ok(Reaction::NothingToDo) => {}
+        Ok(Reaction::OwnName) => show::say(b"own name heard\n", streams),
+        Ok(Reaction::SendClaimAgain) => show::send(heard.id, to_send, streams),
+        Ok(Reaction::SendNextClaim | Reaction::SendCannotClaim) => {
             show::send(heard.id, to_send, streams);
-            show::show_standing(after, streams);
+            show::show_standing(heard.claim, streams);
         }
-        Hearing::BrokenState | Hearing::BadFrame(_) | Hearing::ListMalformed => show::refused(
-            answer.refusal(),
-            streams,
-        ),
+        Err(why) => show::refused(why.refusal(), streams),
     }
     heard
 }
@@ -115,16 +103,11 @@ pub fn hear_own_claim(
     contested: Heard,
     streams: &mut Streams,
 ) -> [Node; RECORDS] {
-    let answer = contested.answer;
     let bytes = contested.bytes;
-    match answer {
-        Hearing::SendClaimAgain | Hearing::SendNextClaim | Hearing::SendCannotClaim =>
+    match contested.answer {
+        Ok(Reaction::SendClaimAgain | Reaction::SendNextClaim | Reaction::SendCannotClaim) =>
             names::hear_claim(nodes, contested.id, bytes, streams),
-        Hearing::NothingToDo
-        | Hearing::OwnName
-        | Hearing::BrokenState
-        | Hearing::BadFrame(_)
-        | Hearing::ListMalformed => nodes,
+        Ok(Reaction::NothingToDo | Reaction::OwnName) | Err(_) => nodes,
     }
 }
 
@@ -139,13 +122,7 @@ pub fn join(
     let heard = receiver.hear(storage, id, &bytes);
     let answer = heard.answer;
     show::refused(answer.refusal(), streams);
-    if let Answer::Finished {
-        place: _,
-        sender,
-        dgn,
-        length: _,
-    } = answer
-    {
+    if let Ok(Event::Finished { sender, dgn, .. }) = answer {
         finished(
             sender,
             dgn,

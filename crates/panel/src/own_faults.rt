@@ -1,10 +1,11 @@
 // The panel's own fault: one of the two tanks that are wired to it (replies.rt) gives no data. The panel broadcasts
 // this once a second as DM_RV (3.2.5), and answers it to a request.
 use crate::show;
-use crate::streams::Streams;
+use rvc::Refusal;
 use rvc::claims::Claim;
-use rvc::diagnostics::{DM_RV, Requested, Requesting, STEP, Sender, Stepping, names};
+use rvc::diagnostics::{DM_RV, NotStepped, Requested, Response, STEP, Sender, names};
 use rvc::fields::Value;
+use streams::Streams;
 
 // The panel's part for tanks is a water and waste tank system (Table 7.2): its default source address, in byte 1.
 const TANK_SYSTEM: u8 = 72;
@@ -83,10 +84,8 @@ pub fn pause(faults: Faults, claim: Claim, gap: u16, streams: &mut Streams) -> F
 // Step after step: a pause has 1,311 at most.
 fn take_steps(sender: Sender, claim: Claim, steps: u32, streams: &mut Streams) -> Sender {
     let mut sender = sender;
-    let mut turns = steps;
-    while turns > 0 {
+    for _ in 0..steps {
         sender = take_step(sender, claim, streams);
-        turns -= 1;
     }
     sender
 }
@@ -94,27 +93,21 @@ fn take_steps(sender: Sender, claim: Claim, steps: u32, streams: &mut Streams) -
 // A step: a fault that is due is sent. While we hold no address the step is refused, and nothing is said of it.
 fn take_step(sender: Sender, claim: Claim, streams: &mut Streams) -> Sender {
     let stepped = sender.step(claim);
-    let answer = stepped.answer;
     let to_send = stepped.bytes;
-    match answer {
-        Stepping::Send(_) => show::send(stepped.id, to_send, streams),
-        Stepping::NothingDue | Stepping::NoAddressHeld => {}
-        Stepping::BrokenState | Stepping::ListMalformed => show::refused(answer.refusal(), streams),
+    match stepped.answer {
+        Ok(Some(_)) => show::send(stepped.id, to_send, streams),
+        Ok(None) | Err(NotStepped::NoAddressHeld) => {}
+        Err(why) => show::refused(why.refusal(), streams),
     }
     stepped.sender
 }
 
 // What the sender says to a request for DM_RV: the fault, as it is broadcast.
 pub fn answer_request(requested: Requested, streams: &mut Streams) {
-    let answer = requested.answer;
     let to_send = requested.bytes;
-    match answer {
-        Requesting::NothingToDo => {}
-        Requesting::Send => show::send(requested.id, to_send, streams),
-        Requesting::BrokenState
-        | Requesting::BadFrame(_)
-        | Requesting::ListMalformed
-        | Requesting::DgnTooLarge
-        | Requesting::NoAddressHeld => show::refused(answer.refusal(), streams),
+    match requested.answer {
+        Ok(Response::NothingToDo) => {}
+        Ok(Response::Send) => show::send(requested.id, to_send, streams),
+        Err(why) => show::refused(why.refusal(), streams),
     }
 }

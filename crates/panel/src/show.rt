@@ -1,9 +1,9 @@
 // What the panel prints: a line for each thing that changes, for each refusal, and for each frame that it would send.
 use crate::state::{Charger, Missing, Panel, Shown, Slide, Tank};
-use crate::streams::Streams;
 use crate::{names, state};
-use rvc::claims::{Claim, Standing};
-use rvc::texts;
+use rvc::claims::{Claim, Place};
+use rvc::{Refusal, texts};
+use streams::Streams;
 
 // The whole panel.
 pub fn show_panel(panel: Panel, streams: &mut Streams) {
@@ -12,29 +12,24 @@ pub fn show_panel(panel: Panel, streams: &mut Streams) {
     show_standing(claim, streams);
     let nodes = panel.nodes;
     names::show_nodes(nodes, streams);
-    let tanks = panel.tanks;
-    show_tank(0, tanks[0], streams);
-    show_tank(1, tanks[1], streams);
-    show_tank(2, tanks[2], streams);
-    show_tank(3, tanks[3], streams);
-    let chargers = panel.chargers;
-    show_charger(1, chargers[0], streams);
-    show_charger(2, chargers[1], streams);
-    let slides = panel.slides;
-    show_slide(1, slides[0], streams);
-    show_slide(2, slides[1], streams);
-    show_slide(3, slides[2], streams);
-    show_slide(4, slides[3], streams);
+    for (position, tank) in panel.tanks.iter().enumerate() {
+        show_tank(position as u64, *tank, streams);
+    }
+    for (position, charger) in panel.chargers.iter().enumerate() {
+        show_charger(position as u64 + 1, *charger, streams);
+    }
+    for (position, slide) in panel.slides.iter().enumerate() {
+        show_slide(position as u64 + 1, *slide, streams);
+    }
 }
 
 // Where the panel stands, and how many addresses it has given up since its start.
 pub fn show_standing(claim: Claim, streams: &mut Streams) {
-    let standing = claim.stands();
-    match standing {
-        Standing::Held(address) => show_address(address, b" held", claim.losses, streams),
-        Standing::Claiming(address) => show_address(address, b" claimed", claim.losses, streams),
-        Standing::Silent => show_losses(b"no address", claim.losses, streams),
-        Standing::BrokenState | Standing::ListMalformed => refused(standing.refusal(), streams),
+    match claim.stands() {
+        Ok(Place::Held(address)) => show_address(address, b" held", claim.losses, streams),
+        Ok(Place::Claiming(address)) => show_address(address, b" claimed", claim.losses, streams),
+        Ok(Place::Silent) => show_losses(b"no address", claim.losses, streams),
+        Err(why) => refused(why.refusal(), streams),
     }
 }
 
@@ -73,51 +68,45 @@ fn end_name(name: u64, streams: &mut Streams) {
     say(b"\n", streams);
 }
 
-pub fn show_tank(instance: u64, tank: Tank, streams: &mut Streams) {
+pub fn show_tank(instance: u64, tank: Option<Tank>, streams: &mut Streams) {
     say(b"tank ", streams);
     decimal(instance, streams);
-    if !tank.heard {
+    let Some(tank) = tank else {
         say(b": not heard\n", streams);
         return;
-    }
-    let level = tank.level;
-    let resolution = tank.resolution;
+    };
     say(b": ", streams);
-    show_count(level, streams);
+    show_count(tank.level, streams);
     say(b" of ", streams);
-    show_count(resolution, streams);
+    show_count(tank.resolution, streams);
     end_value(tank.silence, streams);
 }
 
-pub fn show_charger(instance: u64, charger: Charger, streams: &mut Streams) {
+pub fn show_charger(instance: u64, charger: Option<Charger>, streams: &mut Streams) {
     say(b"charger ", streams);
     decimal(instance, streams);
-    if !charger.heard {
+    let Some(charger) = charger else {
         say(b": not heard\n", streams);
         return;
-    }
-    let voltage = charger.voltage;
-    let current = charger.current;
-    let state = charger.state;
+    };
     say(b": voltage ", streams);
-    show_twentieths(voltage, b" V", streams);
+    show_twentieths(charger.voltage, b" V", streams);
     say(b", current ", streams);
-    show_twentieths(current, b" A", streams);
+    show_twentieths(charger.current, b" A", streams);
     say(b", state ", streams);
-    show_count(state, streams);
+    show_count(charger.state, streams);
     end_value(charger.silence, streams);
 }
 
-pub fn show_slide(instance: u64, slide: Slide, streams: &mut Streams) {
+pub fn show_slide(instance: u64, slide: Option<Slide>, streams: &mut Streams) {
     say(b"slide ", streams);
     decimal(instance, streams);
-    if !slide.heard {
+    let Some(slide) = slide else {
         say(b": not heard\n", streams);
         return;
-    }
-    let lock = slide.lock;
+    };
     say(b": lock ", streams);
-    show_lock(lock, streams);
+    show_lock(slide.lock, streams);
     say(b"\n", streams);
 }
 
@@ -161,43 +150,37 @@ pub fn refused(number: u8, streams: &mut Streams) {
 // A whole number.
 fn show_count(shown: Shown, streams: &mut Streams) {
     match shown {
-        Shown::Is(number) => {
+        Ok(number) => {
             sign(number, streams);
-            decimal(magnitude(number), streams);
+            decimal(number.unsigned_abs(), streams);
         }
-        Shown::Not(missing) => show_missing(missing, streams),
+        Err(missing) => show_missing(missing, streams),
     }
 }
 
 // A number of twentieths, exactly: two decimals.
 fn show_twentieths(shown: Shown, unit: &[u8], streams: &mut Streams) {
     match shown {
-        Shown::Is(number) => {
+        Ok(number) => {
             sign(number, streams);
-            let twentieths = magnitude(number);
+            let twentieths = number.unsigned_abs();
             decimal(twentieths / 20, streams);
             say(b".", streams);
             two_digits(twentieths % 20 * 5, streams);
             say(unit, streams);
         }
-        Shown::Not(missing) => show_missing(missing, streams),
+        Err(missing) => show_missing(missing, streams),
     }
 }
 
 // A lock's status, in 000's words. A sensor in error is no position of the lock.
 fn show_lock(shown: Shown, streams: &mut Streams) {
     match shown {
-        Shown::Is(number) => match number {
-            0 => say(b"secured", streams),
-            1 => say(b"not secured", streams),
-            _ => show_count(shown, streams),
-        },
-        Shown::Not(missing) => match missing {
-            Missing::OutOfRange => say(b"error", streams),
-            Missing::NoData | Missing::Reserved | Missing::Refused(_) => show_missing(
-                missing, streams,
-            ),
-        },
+        Ok(0) => say(b"secured", streams),
+        Ok(1) => say(b"not secured", streams),
+        Ok(_) => show_count(shown, streams),
+        Err(Missing::OutOfRange) => say(b"error", streams),
+        Err(missing) => show_missing(missing, streams),
     }
 }
 
@@ -217,13 +200,6 @@ fn sign(number: i64, streams: &mut Streams) {
     if number < 0 {
         say(b"-", streams);
     }
-}
-
-fn magnitude(number: i64) -> u64 {
-    if number < 0 {
-        return (-1 - number) as u64 + 1;
-    }
-    number as u64
 }
 
 fn two_digits(number: u64, streams: &mut Streams) {

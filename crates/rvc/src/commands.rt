@@ -1,5 +1,6 @@
 // RULES 10: `Host::start`, `route` and `request`, the acknowledgment, and `refusal`, the number of a refusal.
 pub use command::{
-    Acknowledged, Acknowledging, Acknowledgment, ENTRIES, Edition, Entry, Host, Positions,
-    Requested, Requesting, Routed, Routing, Started, Starting, acknowledge,
+    Acknowledged, Acknowledging, Acknowledgment, Choice, ENTRIES, Edition, Entry, Host,
+    NotAcknowledged, NotAnswered, NotRouted, NotStarted, Positions, Requested, Requesting,
+    Response, Routed, Routing, Started, Starting, acknowledge,
 };

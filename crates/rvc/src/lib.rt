@@ -2,6 +2,9 @@
 // long messages. A method goes with its type.
 #![tactic(auto)]
 
+// RULES 2.1: `refusal`, the number of a refusal, and of every answer.
+pub use words::Refusal;
+
 // RULES 3: identifiers taken apart and formed, frames checked, bytes as one number.
 pub mod identifiers;
 

@@ -1,6 +1,6 @@
 -- The statements of specs/Laws.antt, proved.
 -- Assumes nothing.
-use Rattle.std.specs.Prelude.{if◌then◌else◌}
+use Rattle.std.specs.Prelude.{Ok, Err, if◌then◌else◌}
 use mathlib.Core.Path.{◌≡◌, refl, sym, ap, ◌∙◌, subst}
 use mathlib.Core.Bool.{true, not}
 use mathlib.Core.List.{List}
@@ -11,7 +11,7 @@ use lib.ListN.{length}
 use lib.Signed.{mag}
 use lib.Seq.{get_or-set_same, get_or-set_other}
 use Rattle.words.specs.Words.{given◌then◌, ◌=?◌, Told, refused, gives, Done, done}
-use Rattle.words.proofs.Words.{by_test, both_true, true_false, gives_same}
+use Rattle.words.proofs.Words.{by_test, both_true, true_false, gives_same, told_same}
 use Rattle.frame.specs.Bytes.{number_of}
 use Rattle.frame.specs.Identifier.{catalogue_form}
 use Rattle.frame.specs.Frame.{checked_of}
@@ -35,15 +35,15 @@ use Rattle.tiles.specs.Exact.{nearest, IsExactly}
 use Rattle.tiles.specs.Tile.{is_accepted, shown_number, shown, reading_in, blank_tile, fresh_tile, byte0, matches}
 use Rattle.tiles.specs.Panel.{tile_count, keeps_rules, tile_at, named_of, after_name, sound_of, mask_of, tiles_for}
 use Rattle.tiles.specs.Panel.{heard_of, heard_by_all, after_sound, after_hear, reading_of}
-use Rattle.tiles.specs.Promises.{told_naming, told_hearing, told_asking}
+use Rattle.tiles.specs.Promises.{Naming, told_naming, told_asking}
+use Rattle.tiles.specs.Promises.{number_of_not_heard, number_of_not_shown}
+use Rattle.tiles.specs.declared.NotNamed.{NotNamed}
+use Rattle.tiles.specs.declared.NotHeard.{NotHeard}
+use Rattle.tiles.specs.declared.NotShown.{NotShown}
 use Rattle.tiles.specs.Runs as Runs
 use Rattle.tiles.specs.Laws as Laws
-use Rattle.tiles.specs.declared.Reading.{Reading}
 use Rattle.tiles.specs.declared.Tile.{Tile}
 use Rattle.tiles.specs.declared.Panel.{Panel}
-use Rattle.tiles.specs.declared.Naming.{Naming}
-use Rattle.tiles.specs.declared.Hearing.{Hearing}
-use Rattle.tiles.specs.declared.Asking.{Asking}
 use Rattle.tiles.proofs.Exact.{nearest_exact}
 use Rattle.tiles.proofs.OneFrame.{meant_for, for_tile, other_instance, mask_below, mask_given}
 use Rattle.tiles.proofs.OneFrame.{sound_given, after_sound_lem, heard_at}
@@ -52,52 +52,56 @@ use Rattle.tiles.proofs.Running.{named_so, ran_sound, ran_tile, tile_shows, show
 -- an answer is read back from what it tells
 
 naming_back : Told Done → Naming
-naming_back (gives d) = Naming.Named
+naming_back (gives d) = Ok tt
 naming_back (refused n) =
-    if n =? 2 then Naming.BrokenState else
-    if n =? 11 then Naming.NoSuchRow else
-    if n =? 23 then Naming.NoSuchTile else
-    Naming.RowNotAccepted
+    Err (
+    if n =? 2 then NotNamed.BrokenState else
+    if n =? 11 then NotNamed.NoSuchRow else
+    if n =? 23 then NotNamed.NoSuchTile else
+    NotNamed.RowNotAccepted
+    )
 
 naming_back_lem : (r : Naming) → naming_back (told_naming r) ≡ r
 unfolding naming_back
-naming_back_lem Naming.Named = refl
-naming_back_lem Naming.BrokenState = refl
-naming_back_lem Naming.NoSuchRow = refl
-naming_back_lem Naming.NoSuchTile = refl
-naming_back_lem Naming.RowNotAccepted = refl
+naming_back_lem (Ok nothing) = refl
+naming_back_lem (Err NotNamed.BrokenState) = refl
+naming_back_lem (Err NotNamed.NoSuchRow) = refl
+naming_back_lem (Err NotNamed.NoSuchTile) = refl
+naming_back_lem (Err NotNamed.RowNotAccepted) = refl
 
 pub told_naming_same : Laws.ToldNamingSame
 told_naming_same r s e = sym (naming_back_lem r) ∙ ap naming_back e ∙ naming_back_lem s
 
-hearing_back : Told ℕ → Hearing
-hearing_back (gives mask) = Hearing.Heard mask
-hearing_back (refused n) = if n =? 2 then Hearing.BrokenState else Hearing.BadFrame (frame_laws.bad_back n)
+not_heard_back : ℕ → NotHeard
+not_heard_back n = if n =? 2 then NotHeard.BrokenState else NotHeard.BadFrame (frame_laws.bad_back n)
 
-hearing_back_lem : (r : Hearing) → hearing_back (told_hearing r) ≡ r
-unfolding hearing_back
-hearing_back_lem (Hearing.Heard mask) = refl
-hearing_back_lem Hearing.BrokenState = refl
-hearing_back_lem (Hearing.BadFrame IdentifierTooLarge) = ap Hearing.BadFrame (frame_laws.bad_back_lem IdentifierTooLarge)
-hearing_back_lem (Hearing.BadFrame NotEightBytes) = ap Hearing.BadFrame (frame_laws.bad_back_lem NotEightBytes)
-hearing_back_lem (Hearing.BadFrame ReservedBitSet) = ap Hearing.BadFrame (frame_laws.bad_back_lem ReservedBitSet)
-hearing_back_lem (Hearing.BadFrame SourceNotAllowed) = ap Hearing.BadFrame (frame_laws.bad_back_lem SourceNotAllowed)
+not_heard_back_lem : (w : NotHeard) → not_heard_back (number_of_not_heard w) ≡ w
+unfolding not_heard_back
+not_heard_back_lem NotHeard.BrokenState = refl
+not_heard_back_lem (NotHeard.BadFrame IdentifierTooLarge) = ap NotHeard.BadFrame (frame_laws.bad_back_lem IdentifierTooLarge)
+not_heard_back_lem (NotHeard.BadFrame NotEightBytes) = ap NotHeard.BadFrame (frame_laws.bad_back_lem NotEightBytes)
+not_heard_back_lem (NotHeard.BadFrame ReservedBitSet) = ap NotHeard.BadFrame (frame_laws.bad_back_lem ReservedBitSet)
+not_heard_back_lem (NotHeard.BadFrame SourceNotAllowed) = ap NotHeard.BadFrame (frame_laws.bad_back_lem SourceNotAllowed)
+
+not_heard_same : (v w : NotHeard) → number_of_not_heard v ≡ number_of_not_heard w → v ≡ w
+not_heard_same v w e = sym (not_heard_back_lem v) ∙ ap not_heard_back e ∙ not_heard_back_lem w
 
 pub told_hearing_same : Laws.ToldHearingSame
-told_hearing_same r s e = sym (hearing_back_lem r) ∙ ap hearing_back e ∙ hearing_back_lem s
+told_hearing_same = told_same number_of_not_heard not_heard_same
 
-asking_back : Told Reading → Asking
-asking_back (gives reading) = Asking.Is reading
-asking_back (refused n) = if n =? 2 then Asking.BrokenState else Asking.NoSuchTile
+not_shown_back : ℕ → NotShown
+not_shown_back n = if n =? 2 then NotShown.BrokenState else NotShown.NoSuchTile
 
-asking_back_lem : (r : Asking) → asking_back (told_asking r) ≡ r
-unfolding asking_back
-asking_back_lem (Asking.Is reading) = refl
-asking_back_lem Asking.BrokenState = refl
-asking_back_lem Asking.NoSuchTile = refl
+not_shown_back_lem : (w : NotShown) → not_shown_back (number_of_not_shown w) ≡ w
+unfolding not_shown_back
+not_shown_back_lem NotShown.BrokenState = refl
+not_shown_back_lem NotShown.NoSuchTile = refl
+
+not_shown_same : (v w : NotShown) → number_of_not_shown v ≡ number_of_not_shown w → v ≡ w
+not_shown_same v w e = sym (not_shown_back_lem v) ∙ ap not_shown_back e ∙ not_shown_back_lem w
 
 pub told_asking_same : Laws.ToldAskingSame
-told_asking_same r s e = sym (asking_back_lem r) ∙ ap asking_back e ∙ asking_back_lem s
+told_asking_same = told_same number_of_not_shown not_shown_same
 
 -- no second answer
 
@@ -118,6 +122,15 @@ hear_only id bytes p r s m n =
 
 pub read_tile_only : Laws.ReadTileOnly
 read_tile_only tile p r s m n = told_asking_same r s (m.answer ∙ sym n.answer)
+
+pub not_named_refusal_only : Laws.NotNamedRefusalOnly
+not_named_refusal_only why r s p q = p.number ∙ sym q.number
+
+pub not_heard_refusal_only : Laws.NotHeardRefusalOnly
+not_heard_refusal_only why r s p q = p.number ∙ sym q.number
+
+pub not_shown_refusal_only : Laws.NotShownRefusalOnly
+not_shown_refusal_only why r s p q = p.number ∙ sym q.number
 
 pub naming_refusal_only : Laws.NamingRefusalOnly
 naming_refusal_only answer r s p q = p.number ∙ sym q.number

@@ -29,8 +29,10 @@ use Rattle.tiles.specs.Runs.{is_of_row, is_frame_for, says_of, Shows, never_name
 use Rattle.tiles.specs.declared.Reading.{Reading}
 use Rattle.tiles.specs.declared.Tile.{Tile}
 use Rattle.tiles.specs.declared.Panel.{Panel}
-use Rattle.tiles.specs.declared.Naming.{Naming}
-use Rattle.tiles.specs.declared.Hearing.{Hearing}
+use Rattle.std.specs.Prelude.{Ok, Err}
+use Rattle.tiles.specs.Promises.{Naming, Hearing}
+use Rattle.tiles.specs.declared.NotNamed.{NotNamed}
+use Rattle.tiles.specs.declared.NotHeard.{NotHeard}
 use Rattle.tiles.proofs.OneFrame.{reading_shows, meant_for, and_false, heard_other, heard_matching, heard_blank}
 use Rattle.tiles.proofs.OneFrame.{fresh_keeps, blank_keeps, heard_keeps, after_sound_lem, after_refused, tile_heard}
 
@@ -467,31 +469,31 @@ module _ (row_refused : (n k : ℕ) → row_of n ≡ refused k → k ≡ 11)
   name_answer tile row p =
       by_test (keeps_rules p)
       (λ k. let o = go (row_of row) refl in (o.0, o.1 ∙ sym (rw k)))
-      (λ k. (Naming.BrokenState, sym (rw k)))
+      (λ k. (Err NotNamed.BrokenState, sym (rw k)))
     where
       go : (t : Told Row) → row_of row ≡ t
           → (answer : Naming)
           × (told_naming answer
           ≡ (given t then named tile))
-      go (refused n) e = (Naming.NoSuchRow, ap refused (sym (row_refused row n e)))
+      go (refused n) e = (Err NotNamed.NoSuchRow, ap refused (sym (row_refused row n e)))
       go (gives found) e =
           by_test (tile <? tile_count)
           (λ t. by_test (is_accepted found)
-          (λ a. (Naming.Named, sym (rw (t, a))))
-          (λ a. (Naming.RowNotAccepted, sym (rw (t, a)))))
-          (λ t. (Naming.NoSuchTile, sym (rw t)))
+          (λ a. (Ok tt, sym (rw (t, a))))
+          (λ a. (Err NotNamed.RowNotAccepted, sym (rw (t, a)))))
+          (λ t. (Err NotNamed.NoSuchTile, sym (rw t)))
 
   hear_answer : (id : ℕ) (bytes : List ℕ) (p : Panel) → (answer : Hearing) × (told_hearing answer ≡ heard_of id bytes p)
   unfolding heard_of sound_of
   hear_answer id bytes p =
       by_test (keeps_rules p)
       (λ k. let o = go (checked_of id (length bytes)) refl in (o.0, o.1 ∙ sym (rw k)))
-      (λ k. (Hearing.BrokenState, sym (rw k)))
+      (λ k. (Err NotHeard.BrokenState, sym (rw k)))
     where
       go : (t : Told Parts) → checked_of id (length bytes) ≡ t
           → (answer : Hearing) × (told_hearing answer ≡ (given t then λ parts. gives (tiles_for parts bytes p)))
-      go (refused n) e = let w = bad_frame id (length bytes) n e in (Hearing.BadFrame w.0, ap refused w.1)
-      go (gives parts) e = (Hearing.Heard (tiles_for parts bytes p), refl)
+      go (refused n) e = let w = bad_frame id (length bytes) n e in (Err (NotHeard.BadFrame w.0), ap refused w.1)
+      go (gives parts) e = (Ok (tiles_for parts bytes p), refl)
 
   leads : (call : Call) (p : Panel) → Leads p call (after call p)
   leads (names tile row instance) p =

@@ -1,6 +1,6 @@
 -- The steps by which the code comes to its answers.
 -- Assumes nothing.
-use Rattle.std.specs.Prelude.{if◌then◌else◌}
+use Rattle.std.specs.Prelude.{Ok, Err, if◌then◌else◌}
 use mathlib.Core.Path.{◌≡◌, refl, sym, ap, ◌∙◌, subst}
 use mathlib.Core.Bool.{Bool, true, false, not}
 use mathlib.Core.List.{List}
@@ -26,34 +26,30 @@ use Rattle.frame.specs.Promises.{refusal_of, told_verdict, bytes_if, Check}
 use Rattle.frame.specs.declared.Parts.{Parts}
 use Rattle.frame.specs.declared.Checked.{Checked}
 use Rattle.frame.specs.declared.BadFrame.{BadFrame}
-use Rattle.frame.specs.declared.Verdict.TheVariants.{Sound, Bad}
 use Rattle.catalogue.specs.Instances.{has_instance}
 use Rattle.catalogue.specs.Scale.{steps_in_one, value_of}
 use Rattle.catalogue.specs.Table.{row_of}
 use Rattle.catalogue.specs.Packed.{packed_rows, table_row}
 use Rattle.catalogue.specs.Catalogue.{field_in}
-use Rattle.catalogue.specs.Promises.{told_looked, told_scaled, RowIn, ReadRowScaled}
+use Rattle.catalogue.specs.Promises.{Looked, ScaledReading, told_looked, told_scaled, RowIn, ReadRowScaled}
 use Rattle.catalogue.specs.Laws.{is_scaled}
 use Rattle.catalogue.proofs.Laws.{row_in_packed, scaled_in_frame, value_small}
 use Rattle.catalogue.specs.declared.Row.{Row}
 use Rattle.catalogue.specs.declared.Value.{Value}
-use Rattle.catalogue.specs.declared.ScaledReading.{ScaledReading}
-use Rattle.catalogue.specs.declared.Looked.{Looked}
+use Rattle.catalogue.specs.declared.NotFound.{NotFound}
 use Rattle.tiles.proofs.OneFrame.{mask_below}
 use Rattle.tiles.specs.Tile.{is_accepted, is_of, is_blank, is_zero, is_named, tile_keeps_rules, of_dgn, matches, byte0}
 use Rattle.tiles.specs.Tile.{reading_in, heard_by, blank_tile, fresh_tile}
 use Rattle.tiles.specs.Panel.{keeps_rules, tile_at, replacing, named_of, after_name, sound_of, bit_of, mask_of, heard_of}
 use Rattle.tiles.specs.Panel.{heard_by_all, after_hear, reading_of}
-use Rattle.tiles.specs.Promises.{told_naming, Name, told_hearing, Hear, ReadTile}
+use Rattle.tiles.specs.declared.NotShown.{NotShown}
+use Rattle.tiles.specs.Promises.{Naming, Hearing, told_naming, Name, told_hearing, Hear, ReadTile}
 use Rattle.tiles.specs.Private.{IsSmall, IsSound, ReadsOf, named_beside, heard_beside, heard_as}
 use Rattle.tiles.specs.declared.Reading.{Reading}
 use Rattle.tiles.specs.declared.Tile.{Tile}
 use Rattle.tiles.specs.declared.Panel.{Panel}
-use Rattle.tiles.specs.declared.Naming.{Naming}
 use Rattle.tiles.specs.declared.Named.{Named}
-use Rattle.tiles.specs.declared.Hearing.{Hearing}
 use Rattle.tiles.specs.declared.Heard.{Heard}
-use Rattle.tiles.specs.declared.Asking.TheVariants as Asking
 
 -- ---- A row that is looked up in the table of packed rows.
 
@@ -76,10 +72,10 @@ some_steps row k b e n h = h ∙ sym (rw (ne_eqb (steps_in_one row.unit row.widt
 
 -- a row that was found, with a reading
 
-pub named_nothing : (looked : Looked) (reading : Reading) → looked ≡ Looked.NoSuchRow
+pub named_nothing : (looked : Looked) (reading : Reading) (why : NotFound) → looked ≡ Err why
     → false ≡ is_named (told_looked looked) reading
 unfolding is_named
-named_nothing looked reading e = sym (rw e)
+named_nothing looked reading why e = sym (rw e)
 
 pub named_not : (told : Told Row) (row : Row) (reading : Reading) → told ≡ gives row → is_accepted row ≡ false
     → false ≡ is_named told reading
@@ -147,10 +143,10 @@ module _ (row : Row) (id : ℕ) (bytes : List ℕ) (r : ScaledReading) (s : Read
   read_gives : told_scaled r ≡ gives (value_of row (field_in row (number_of bytes)))
   read_gives = p.answer ∙ s.read
 
-  pub read_value : (value : Value) → r ≡ ScaledReading.Is value → value ≡ value_of row (field_in row (number_of bytes))
+  pub read_value : (value : Value) → r ≡ Ok value → value ≡ value_of row (field_in row (number_of bytes))
   read_value value e = gives_same (sym (ap told_scaled e) ∙ read_gives)
 
-  pub read_small : (value : Value) → r ≡ ScaledReading.Is value → IsSmall value
+  pub read_small : (value : Value) → r ≡ Ok value → IsSmall value
   read_small value e = small_value row (number_of bytes) value s.scaled (read_value value e)
 
   -- a frame of the row's DGN is not refused
@@ -229,7 +225,7 @@ mask_end test ts i mask h e =
 
 pub all_heard : (dgn form instance mask : ℕ) (bytes : List ℕ) (p q : Panel) → form ≡ dgn → instance ≡ byte0 bytes
     → q ≡ heard_by_all form bytes p → mask ≡ mask_of (matches form instance) p.tiles
-    → record { panel = q; answer = Hearing.Heard mask } ≡ heard_as dgn bytes p
+    → record { panel = q; answer = Ok mask } ≡ heard_as dgn bytes p
 all_heard dgn form instance mask bytes p q f i e m = rw (e, m, i, f)
 
 -- ---- A tile named.
@@ -246,7 +242,7 @@ module _ (tile row instance : ℕ) (p : Panel) where
       })
 
   pub name_done : (r : Named) → named_of tile row p ≡ gives done
-      → r ≡ record { panel = replacing p tile (fresh_tile row instance); answer = Naming.Named }
+      → r ≡ record { panel = replacing p tile (fresh_tile row instance); answer = Ok tt }
       → Name tile row instance p r
   name_done r e s =
       rw s
@@ -303,13 +299,13 @@ module _ (id : ℕ) (bytes : List ℕ) (p : Panel) where
   sound_as t k e = rw k e
 
   module _ (r : Checked) (c : Check id bytes r) where
-    pub frame_sound : (parts : Parts) → r.verdict ≡ Sound parts → checked_of id (length bytes) ≡ gives parts
+    pub frame_sound : (parts : Parts) → r.verdict ≡ Ok parts → checked_of id (length bytes) ≡ gives parts
     frame_sound parts e = sym c.answer ∙ ap told_verdict e
 
-    pub frame_bad : (why : BadFrame) → r.verdict ≡ Bad why → checked_of id (length bytes) ≡ refused (refusal_of why)
+    pub frame_bad : (why : BadFrame) → r.verdict ≡ Err why → checked_of id (length bytes) ≡ refused (refusal_of why)
     frame_bad why e = sym c.answer ∙ ap told_verdict e
 
-    pub sound_frame : (parts : Parts) → r.verdict ≡ Sound parts
+    pub sound_frame : (parts : Parts) → r.verdict ≡ Ok parts
         → IsSound id bytes (catalogue_form parts.dgn) (get_or r.bytes 0 0)
     sound_frame parts e =
         record {
@@ -323,14 +319,14 @@ module _ (id : ℕ) (bytes : List ℕ) (p : Panel) where
 -- ---- What a tile shows.
 
 module _ (tile : ℕ) (p : Panel) where
-  pub read_broken : keeps_rules p ≡ false → ReadTile tile p Asking.BrokenState
+  pub read_broken : keeps_rules p ≡ false → ReadTile tile p (Err NotShown.BrokenState)
   unfolding reading_of
   read_broken k = record { answer = sym (rw k) }
 
-  pub read_no_tile : keeps_rules p ≡ true → 32 ≤ tile → ReadTile tile p Asking.NoSuchTile
+  pub read_no_tile : keeps_rules p ≡ true → 32 ≤ tile → ReadTile tile p (Err NotShown.NoSuchTile)
   unfolding reading_of
   read_no_tile k h = record { answer = sym (rw (k, le-ltb tile 32 h)) }
 
-  pub read_shown : keeps_rules p ≡ true → tile < 32 → ReadTile tile p (Asking.Is (tile_at tile p).reading)
+  pub read_shown : keeps_rules p ≡ true → tile < 32 → ReadTile tile p (Ok (tile_at tile p).reading)
   unfolding reading_of
   read_shown k h = record { answer = sym (rw (k, lt-ltb tile 32 h)) }

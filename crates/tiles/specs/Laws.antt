@@ -21,16 +21,17 @@ use Rattle.tiles.specs.Panel.{tile_count, keeps_rules, tile_at, named_of, heard_
 use Rattle.tiles.specs.Promises.{told_naming, told_hearing, told_asking, New, Name, Hear, ReadTile, NamingRefusal}
 use Rattle.tiles.specs.Promises.{HearingRefusal, AskingRefusal}
 use Rattle.tiles.specs.Runs.{Call, Ran, Shows}
+use Rattle.tiles.specs.Promises.{Naming, Hearing, Asking, NotNamedRefusal, NotHeardRefusal, NotShownRefusal}
+use Rattle.tiles.specs.declared.NotNamed.{NotNamed}
+use Rattle.tiles.specs.declared.NotHeard.{NotHeard}
+use Rattle.tiles.specs.declared.NotShown.{NotShown}
 use Rattle.tiles.specs.declared.Reading.{Reading}
 use Rattle.tiles.specs.declared.Reading.TheVariants.{NoData, OutOfRange, Reserved, Degrees, Percent, Hertz}
 use Rattle.tiles.specs.declared.Reading.TheVariants.{Volts, Amperes}
 use Rattle.tiles.specs.declared.Tile.{Tile}
 use Rattle.tiles.specs.declared.Panel.{Panel}
-use Rattle.tiles.specs.declared.Naming.{Naming}
 use Rattle.tiles.specs.declared.Named.{Named}
-use Rattle.tiles.specs.declared.Hearing.{Hearing}
 use Rattle.tiles.specs.declared.Heard.{Heard}
-use Rattle.tiles.specs.declared.Asking.{Asking}
 
 -- An answer read as number and values loses nothing (RULES 2.10).
 
@@ -57,6 +58,15 @@ HearOnly = (id : ℕ) (bytes : List ℕ) (p : Panel) (r s : Heard) → Hear id b
 
 abbrev pub ReadTileOnly : Type 0
 ReadTileOnly = (tile : ℕ) (p : Panel) (r s : Asking) → ReadTile tile p r → ReadTile tile p s → r ≡ s
+
+abbrev pub NotNamedRefusalOnly : Type 0
+NotNamedRefusalOnly = (why : NotNamed) (r s : ℕ) → NotNamedRefusal why r → NotNamedRefusal why s → r ≡ s
+
+abbrev pub NotHeardRefusalOnly : Type 0
+NotHeardRefusalOnly = (why : NotHeard) (r s : ℕ) → NotHeardRefusal why r → NotHeardRefusal why s → r ≡ s
+
+abbrev pub NotShownRefusalOnly : Type 0
+NotShownRefusalOnly = (why : NotShown) (r s : ℕ) → NotShownRefusal why r → NotShownRefusal why s → r ≡ s
 
 abbrev pub NamingRefusalOnly : Type 0
 NamingRefusalOnly = (answer : Naming) (r s : ℕ) → NamingRefusal answer r → NamingRefusal answer s → r ≡ s

@@ -1,5 +1,5 @@
 -- What the private functions of this crate promise, where it is no definition of the others (for RULES 18).
-use Rattle.std.specs.Prelude.{◌≡◌, true, List, ℕ, ◌^◌, ◌<◌, length}
+use Rattle.std.specs.Prelude.{Ok, ◌≡◌, true, List, ℕ, ◌^◌, ◌<◌, length}
 use Rattle.std.specs.Int.Signed.{mag}
 use Rattle.words.specs.Words.{gives}
 use Rattle.frame.specs.Bytes.{number_of}
@@ -14,9 +14,8 @@ use Rattle.catalogue.specs.declared.Value.{Value}
 use Rattle.tiles.specs.Tile.{byte0, matches}
 use Rattle.tiles.specs.Panel.{mask_of, heard_by_all}
 use Rattle.tiles.specs.declared.Panel.{Panel}
-use Rattle.tiles.specs.declared.Naming.{Naming}
+use Rattle.tiles.specs.Promises.{Naming, Hearing}
 use Rattle.tiles.specs.declared.Named.{Named}
-use Rattle.tiles.specs.declared.Hearing.{Hearing}
 use Rattle.tiles.specs.declared.Heard.{Heard}
 
 -- a number, if it is one, of few enough digits for the division
@@ -46,4 +45,4 @@ heard_beside p answer = record { panel = p; answer = answer }
 
 abbrev pub heard_as : ℕ → List ℕ → Panel → Heard
 heard_as dgn bytes p =
-    heard_beside (heard_by_all dgn bytes p) (Hearing.Heard (mask_of (matches dgn (byte0 bytes)) p.tiles))
+    heard_beside (heard_by_all dgn bytes p) (Ok (mask_of (matches dgn (byte0 bytes)) p.tiles))

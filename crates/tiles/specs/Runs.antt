@@ -14,8 +14,8 @@ use Rattle.tiles.specs.Promises.{New, Name, Hear}
 use Rattle.tiles.specs.declared.Reading.{Reading}
 use Rattle.tiles.specs.declared.Reading.TheVariants.{Blank, NoData}
 use Rattle.tiles.specs.declared.Panel.{Panel}
-use Rattle.tiles.specs.declared.Naming.{Naming}
-use Rattle.tiles.specs.declared.Hearing.{Hearing}
+use Rattle.tiles.specs.Promises.{Naming}
+use Rattle.tiles.specs.Promises.{Hearing}
 
 -- A call that changes a panel. (`reading` changes nothing, and can stand anywhere.)
 pub data Call : Type 0 where

@@ -8,16 +8,17 @@ ghost use Rattle.tiles.specs.Tile.{of_dgn, matches, reading_in, tile_keeps_rules
 ghost use Rattle.tiles.specs.Panel.{keeps_rules, bit_of, mask_of, heard_by_all};
 ghost use Rattle.tiles.specs.Private.{IsSound, ReadsOf, heard_as};
 
-use crate::{Heard, Hearing, Panel, Reading, TILES, Tile, readings, rules};
-use rvc::fields::{Looked, Row, ScaledReading};
+use crate::{Heard, Panel, Reading, TILES, Tile, readings, rules};
+use rvc::fields::{Looked, Row};
 
 // Whether a row was found, and its DGN is this one.
+#[tactic(auto, unfolding(crate::specs::Tile::of_dgn))]
 fn is_of_dgn(looked: Looked, dgn: u32) -> bool
     ensures { result ≡ of_dgn (told_looked looked) dgn }
 {
     match looked {
-        Looked::Is(row) => row.dgn == dgn,
-        Looked::NoSuchRow => false,
+        Ok(row) => row.dgn == dgn,
+        Err(_) => false,
     }
 }
 
@@ -33,10 +34,7 @@ fn matches(table: &[u64], dgn: u32, instance: u8, t: Tile) -> bool
     requires { table.now ≡ packed_rows }
     ensures { result ≡ matches dgn instance t }
 {
-    if rules::is_blank(t) {
-        return false;
-    }
-    if !is_of_instance(t, instance) {
+    if rules::is_blank(t) || !is_of_instance(t, instance) {
         return false;
     }
     is_of_dgn(rvc::fields::row_in(table, t.row), dgn)
@@ -47,14 +45,9 @@ fn reading_in(row: Row, id: u32, bytes: &[u8]) -> Reading
     requires { ReadsOf row id bytes.now }
     ensures { result ≡ reading_in row bytes.now }
 {
-    let read = rvc::fields::read_row_scaled(row, id, bytes);
-    match read {
-        ScaledReading::Is(value) => {
-            let unit = row.unit;
-            readings::shown(unit, value)
-        }
-        ScaledReading::BadFrame(_) => Reading::NoData,
-        ScaledReading::NoSuchRow => Reading::NoData,
+    match rvc::fields::read_row_scaled(row, id, bytes) {
+        Ok(value) => readings::shown(row.unit, value),
+        Err(_) => Reading::NoData,
     }
 }
 
@@ -68,16 +61,11 @@ fn heard_by(table: &[u64], dgn: u32, instance: u8, id: u32, bytes: &[u8], t: Til
     if !matches(table, dgn, instance, t) {
         return t;
     }
-    let looked = rvc::fields::row_in(table, t.row);
-    match looked {
-        Looked::NoSuchRow => t,
-        Looked::Is(row) => {
+    match rvc::fields::row_in(table, t.row) {
+        Err(_) => t,
+        Ok(row) => {
             let reading = reading_in(row, id, bytes);
-            Tile {
-                row: t.row,
-                instance: t.instance,
-                reading,
-            }
+            Tile { reading, ..t }
         }
     }
 }
@@ -90,11 +78,8 @@ fn heard_by_all(table: &[u64], dgn: u32, instance: u8, id: u32, bytes: &[u8], p:
     ensures { result ≡ heard_by_all dgn bytes.now p }
 {
     let mut tiles = p.tiles;
-    let mut i: usize = 0;
-    while i < TILES {
-        let t = tiles[i];
-        tiles[i] = heard_by(table, dgn, instance, id, bytes, t);
-        i += 1;
+    for t in &mut tiles {
+        *t = heard_by(table, dgn, instance, id, bytes, *t);
     }
     Panel { tiles }
 }
@@ -104,10 +89,8 @@ fn mask(table: &[u64], dgn: u32, instance: u8, p: Panel) -> u32
     requires { table.now ≡ packed_rows }
     ensures { result ≡ mask_of (matches dgn instance) p.tiles }
 {
-    let mut mask: u32 = 0;
-    let mut i: usize = TILES;
-    while 0 < i {
-        i -= 1;
+    let mut mask = 0;
+    for i in (0..TILES).rev() {
         let t = p.tiles[i];
         mask = with_bit(mask, matches(table, dgn, instance, t));
     }
@@ -119,10 +102,7 @@ fn with_bit(mask: u32, bit: bool) -> u32
     requires { mask < 2 ^ 31 }
     ensures { result ≡ bit_of bit + 2 * mask }
 {
-    if bit {
-        return 2 * mask + 1;
-    }
-    2 * mask
+    2 * mask + u32::from(bit)
 }
 
 // A frame that is not refused by itself: its DGN, its byte 0, and the frame.
@@ -136,6 +116,6 @@ pub fn hear(p: Panel, dgn: u32, instance: u8, id: u32, bytes: &[u8]) -> Heard
     let mask = mask(&table, form, instance, p);
     Heard {
         panel: heard_by_all(&table, form, instance, id, bytes, p),
-        answer: Hearing::Heard(mask),
+        answer: Ok(mask),
     }
 }

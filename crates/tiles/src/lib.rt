@@ -10,11 +10,11 @@ ghost use Rattle.std.specs.Prelude.{◌≡◌, ◌<◌};
 ghost use Rattle.tiles.specs.Tile.{blank_tile, fresh_tile};
 ghost use Rattle.tiles.specs.Panel.{replacing};
 ghost use Rattle.tiles.specs.Private.{named_beside, heard_beside};
-ghost use Rattle.tiles.specs.Promises.{New, Name, Hear, ReadTile, NamingRefusal, HearingRefusal};
-ghost use Rattle.tiles.specs.Promises.{AskingRefusal};
+ghost use Rattle.tiles.specs.Promises.{New, Name, Hear, ReadTile, number_of_not_named, number_of_not_heard};
+ghost use Rattle.tiles.specs.Promises.{number_of_not_shown};
 
-use rvc::fields::Looked;
-use rvc::identifiers::{BadFrame, Verdict};
+use rvc::Refusal;
+use rvc::identifiers::BadFrame;
 
 // A panel has 32 tiles, with numbers from 0.
 pub const TILES: usize = 32;
@@ -49,15 +49,17 @@ pub struct Panel {
     pub tiles: [Tile; TILES],
 }
 
-// The tile is named; or refusal 2, 11, 23, 24.
+// Why a tile is not named: refusals 2, 11, 23, 24.
 #[derive(Clone, Copy)]
-pub enum Naming {
-    Named,
+pub enum NotNamed {
     BrokenState,
     NoSuchRow,
     NoSuchTile,
     RowNotAccepted,
 }
+
+// The tile is named, or why not.
+pub type Naming = Result<(), NotNamed>;
 
 #[derive(Clone, Copy)]
 pub struct Named {
@@ -65,13 +67,15 @@ pub struct Named {
     pub answer: Naming,
 }
 
-// Which tiles took their reading from the frame: bit k stands for tile k. Or refusal 2, 3 to 6.
+// Why a frame is not heard: refusals 2, 3 to 6.
 #[derive(Clone, Copy)]
-pub enum Hearing {
-    Heard(u32),
+pub enum NotHeard {
     BrokenState,
     BadFrame(BadFrame),
 }
+
+// Which tiles took their reading from the frame: bit k stands for tile k. Or why it is not heard.
+pub type Hearing = Result<u32, NotHeard>;
 
 #[derive(Clone, Copy)]
 pub struct Heard {
@@ -79,54 +83,47 @@ pub struct Heard {
     pub answer: Hearing,
 }
 
-// What a tile shows; or refusal 2, 23.
+// Why a tile is not shown: refusals 2, 23.
 #[derive(Clone, Copy)]
-pub enum Asking {
-    Is(Reading),
+pub enum NotShown {
     BrokenState,
     NoSuchTile,
 }
 
-impl Naming {
-    // The number of the refusal; 0 where the tile is named.
-    pub fn refusal(self) -> u8
-        ensures { NamingRefusal self result }
-    {
-        let answer = self;
-        match answer {
-            Naming::Named => 0,
-            Naming::BrokenState => 2,
-            Naming::NoSuchRow => 11,
-            Naming::NoSuchTile => 23,
-            Naming::RowNotAccepted => 24,
+// What a tile shows, or why not.
+pub type Asking = Result<Reading, NotShown>;
+
+impl Refusal for NotNamed {
+    ghost number = { number_of_not_named };
+
+    fn refusal(self) -> u8 {
+        match self {
+            NotNamed::BrokenState => 2,
+            NotNamed::NoSuchRow => 11,
+            NotNamed::NoSuchTile => 23,
+            NotNamed::RowNotAccepted => 24,
         }
     }
 }
 
-impl Hearing {
-    // The number of the refusal; 0 where the frame is heard.
-    pub fn refusal(self) -> u8
-        ensures { HearingRefusal self result }
-    {
-        let answer = self;
-        match answer {
-            Hearing::Heard(_) => 0,
-            Hearing::BrokenState => 2,
-            Hearing::BadFrame(why) => why.refusal(),
+impl Refusal for NotHeard {
+    ghost number = { number_of_not_heard };
+
+    fn refusal(self) -> u8 {
+        match self {
+            NotHeard::BrokenState => 2,
+            NotHeard::BadFrame(why) => why.refusal(),
         }
     }
 }
 
-impl Asking {
-    // The number of the refusal; 0 where there is a tile.
-    pub fn refusal(self) -> u8
-        ensures { AskingRefusal self result }
-    {
-        let answer = self;
-        match answer {
-            Asking::Is(_) => 0,
-            Asking::BrokenState => 2,
-            Asking::NoSuchTile => 23,
+impl Refusal for NotShown {
+    ghost number = { number_of_not_shown };
+
+    fn refusal(self) -> u8 {
+        match self {
+            NotShown::BrokenState => 2,
+            NotShown::NoSuchTile => 23,
         }
     }
 }
@@ -149,21 +146,20 @@ impl Panel {
         ensures { Name tile row instance self result }
     {
         if !rules::keep_rules(self) {
-            return unnamed(self, Naming::BrokenState);
+            return unnamed(self, Err(NotNamed::BrokenState));
         }
-        let looked = rvc::fields::row_at(row);
-        let Looked::Is(found) = looked else {
-            return unnamed(self, Naming::NoSuchRow);
+        let Ok(found) = rvc::fields::row_at(row) else {
+            return unnamed(self, Err(NotNamed::NoSuchRow));
         };
         if TILES <= tile {
-            return unnamed(self, Naming::NoSuchTile);
+            return unnamed(self, Err(NotNamed::NoSuchTile));
         }
         if !rules::is_accepted(found) {
-            return unnamed(self, Naming::RowNotAccepted);
+            return unnamed(self, Err(NotNamed::RowNotAccepted));
         }
         Named {
             panel: replace(self, tile, fresh(row, instance)),
-            answer: Naming::Named,
+            answer: Ok(()),
         }
     }
 
@@ -174,14 +170,12 @@ impl Panel {
         ensures { Hear id bytes.now self result }
     {
         if !rules::keep_rules(self) {
-            return unheard(self, Hearing::BrokenState);
+            return unheard(self, Err(NotHeard::BrokenState));
         }
         let checked = rvc::identifiers::check(id, bytes);
-        let verdict = checked.verdict;
-        let eight = checked.bytes;
-        match verdict {
-            Verdict::Bad(why) => unheard(self, Hearing::BadFrame(why)),
-            Verdict::Sound(parts) => frames::hear(self, parts.dgn, eight[0], id, bytes),
+        match checked.verdict {
+            Err(why) => unheard(self, Err(NotHeard::BadFrame(why))),
+            Ok(parts) => frames::hear(self, parts.dgn, checked.bytes[0], id, bytes),
         }
     }
 
@@ -190,14 +184,12 @@ impl Panel {
         ensures { ReadTile tile self result }
     {
         if !rules::keep_rules(self) {
-            return Asking::BrokenState;
+            return Err(NotShown::BrokenState);
         }
         if TILES <= tile {
-            return Asking::NoSuchTile;
+            return Err(NotShown::NoSuchTile);
         }
-        let t = self.tiles[tile];
-        let reading = t.reading;
-        Asking::Is(reading)
+        Ok(self.tiles[tile].reading)
     }
 }
 
@@ -237,13 +229,11 @@ fn replace(p: Panel, at: usize, t: Tile) -> Panel
 fn unnamed(p: Panel, answer: Naming) -> Named
     ensures { result ≡ named_beside p answer }
 {
-    let panel = p;
-    Named { panel, answer }
+    Named { panel: p, answer }
 }
 
 fn unheard(p: Panel, answer: Hearing) -> Heard
     ensures { result ≡ heard_beside p answer }
 {
-    let panel = p;
-    Heard { panel, answer }
+    Heard { panel: p, answer }
 }

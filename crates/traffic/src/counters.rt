@@ -52,14 +52,7 @@ fn find(table: &[u64], count: usize, pair: u64) -> Option<usize>
     requires { count ≤ length table.now }
     ensures { result ≡ first (◌=?◌ pair) (take count table.now) }
 {
-    let mut i: usize = 0;
-    while i < count {
-        if pair == table[i] {
-            return Some(i);
-        }
-        i += 1;
-    }
-    None
+    table[..count].iter().position(|known| pair == *known)
 }
 
 // The counters of the pair with this number.
@@ -143,8 +136,7 @@ pub fn count(totals: Totals, seen: Seen, table: &mut [u64]) -> Totals
     ensures { Counted totals table.old (seen_by seen) result table.new }
 {
     let clock = totals.clock + seen.pause as u64;
-    let says = seen.says;
-    match says {
+    match seen.says {
         Says::Refused(_) => count_refused(totals, clock),
         Says::Frame(pair) => count_frame(totals, pair as u64, clock, table),
     }
@@ -169,8 +161,7 @@ fn count_frame(totals: Totals, pair: u64, clock: u64, table: &mut [u64]) -> Tota
     requires { OneMore totals table.old × InTime totals clock }
     ensures { CountedFrame totals table.old pair clock result table.new }
 {
-    let found = find(table, totals.pairs, pair);
-    match found {
+    match find(table, totals.pairs, pair) {
         Some(i) => {
             let row = row_at(table, i);
             put_row(table, i, next_frame(row, clock));

@@ -45,12 +45,8 @@ fn put_pairs(out: &mut [u8], at: usize, table: &[u64], count: usize) -> usize
     ensures { Wrote out.old at (rows_text table.now count) out.new result × (result ≤ at + 16000) }
 {
     let mut end = at;
-    let mut i: usize = 0;
-    while i < count {
-        let pair = table[i];
-        let row = counters::row_at(table, i);
-        end = put_pair(out, end, pair, row);
-        i += 1;
+    for i in 0..count {
+        end = put_pair(out, end, table[i], counters::row_at(table, i));
     }
     end
 }

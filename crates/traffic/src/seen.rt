@@ -5,8 +5,7 @@ ghost use Rattle.capture.specs.Line.{line_read};
 ghost use Rattle.traffic.specs.Figures.{seen_in};
 ghost use Rattle.traffic.specs.Counters.{seen_by, says_by, says_of};
 
-use capture::Reading;
-use frame::Verdict;
+use words::Refusal;
 
 // The number of a refusal, or the pair of sender and DGN of a frame: bits 24 to 0 of its identifier.
 #[derive(Clone, Copy)]
@@ -26,16 +25,12 @@ pub fn look_at(text: &[u8]) -> Seen
     ensures { seen_by result ≡ seen_in (line_read text.now) }
 {
     let line = capture::take_apart(text);
-    let answer = line.answer;
-    match answer {
-        Reading::Sound => {
-            let bytes = line.bytes;
-            Seen {
-                pause: line.gap,
-                says: judge(line.id, bytes),
-            }
-        }
-        Reading::Malformed => malformed(),
+    match line.answer {
+        Ok(()) => Seen {
+            pause: line.gap,
+            says: judge(line.id, line.bytes),
+        },
+        Err(_) => malformed(),
     }
 }
 
@@ -53,10 +48,8 @@ pub fn malformed() -> Seen
 fn judge(id: u32, bytes: [u8; 8]) -> Says
     ensures { says_by result ≡ says_of id 8 }
 {
-    let checked = frame::check(id, &bytes);
-    let verdict = checked.verdict;
-    match verdict {
-        Verdict::Sound(_) => Says::Frame(id % 0x2000000),
-        Verdict::Bad(why) => Says::Refused(why.refusal() as u32),
+    match frame::check(id, &bytes).verdict {
+        Ok(_) => Says::Frame(id % 0x2000000),
+        Err(why) => Says::Refused(u32::from(why.refusal())),
     }
 }

@@ -1,11 +1,12 @@
--- What the loop of `busread::read_all` keeps, and why it ends.
-use mathlib.Core.Path.{◌≡◌}
-use lib.ListN.{length}
+-- What the loop of `busread::read_all` keeps.
+use Rattle.std.proofs.Common.{◌≡◌, length}
 use Rattle.busread.specs.Reader.{Ready}
 use Rattle.busread.proofs.read_all.Given as goal
 
-abbrev pub invariant-loop-turns : goal.invariant-loop-turns
-invariant-loop-turns l = (length l.block ≡ length l.initial.block) × (length l.storage ≡ length l.initial.storage) × (length l.out ≡ length l.initial.out) × Ready l.reader
-
-abbrev pub decreases-loop-turns : goal.decreases-loop-turns
-decreases-loop-turns l = l.turns
+abbrev pub invariant-loop : goal.invariant-loop
+invariant-loop l = record {
+  block : length l.block ≡ length l.initial.block;
+  storage : length l.storage ≡ length l.initial.storage;
+  out : length l.out ≡ length l.initial.out;
+  ready : Ready l.reader;
+}

@@ -1,30 +1,20 @@
 -- `catalogue::read_row` meets its contract. Assumes nothing.
-use mathlib.Core.Path.{sym, ap, ◌∙◌}
-use lib.ListN.{length}
-use Rattle.catalogue.specs.Promises.{told_outcome}
-use Rattle.catalogue.specs.Catalogue.{field_in}
-use Rattle.frame.specs.Promises.{refusal_of}
+use mathlib.Core.Path.{ap, ◌∙◌}
 use Rattle.words.specs.Words.{gives}
-use Rattle.frame.specs.Bytes.{number_of}
-use Rattle.catalogue.proofs.Found.{read_none, read_row, found_bytes}
+use Rattle.catalogue.specs.Catalogue.{field_in}
+use Rattle.catalogue.specs.Promises.{number_of_not_read}
+use Rattle.catalogue.proofs.Found.{handed, opened_none, opened_row, read_none, read_row}
 use Rattle.catalogue.proofs.read_row.Goals as goal
 
-pub returns-in-Bad : goal.returns-in-Bad
-returns-in-Bad c =
-    let why = c.in-Bad.why in
-    let e = sym c.open_row-opened.ensures.outcome ∙ ap told_outcome c.in-Bad.is in
-    record { answer = read_none c.args.row c.args.id c.args.bytes.now (refusal_of why) e }
+pub returns-in_err-number : goal.returns-in_err-number
+returns-in_err-number c =
+    let a = c.args in
+    let why = c.in_err-number.field-0.0 in
+    let e = opened_none a.row a.id a.bytes.now (number_of_not_read why) c.in_err-number.ensures.answer in
+    record { answer = handed number_of_not_read c.from_residual.result why c.from_residual.ensures.1 ∙ read_none a.row a.id a.bytes.now _ e }
 
-pub returns-in-NoSuchRow : goal.returns-in-NoSuchRow
-returns-in-NoSuchRow c =
-    let e = sym c.open_row-opened.ensures.outcome ∙ ap told_outcome c.in-NoSuchRow.is in
-    record { answer = read_none c.args.row c.args.id c.args.bytes.now 11 e }
-
-pub returns-in-At : goal.returns-in-At
-returns-in-At c =
-    let bs = c.args.bytes.now in
-    let r = c.open_row-opened in
-    let row = c.in-At.row in
-    let e = sym r.ensures.outcome ∙ ap told_outcome c.in-At.is in
-    let f = r.ensures.number ∙ ap number_of (found_bytes c.args.row c.args.id (length bs) row e bs) in
-    record { answer = ap gives (c.classify.ensures.answer ∙ ap (field_in row) f) ∙ read_row c.args.row c.args.id bs row e }
+pub returns : goal.returns
+returns c =
+    let a = c.args in
+    let o = opened_row a.row a.id a.bytes.now c.in_ok-number.number c.in_ok-number.ensures.answer in
+    record { answer = ap gives (c.classify.ensures.answer ∙ ap (field_in a.row) o.1) ∙ read_row a.row a.id a.bytes.now a.row o.0 }

@@ -1,44 +1,23 @@
 -- `catalogue::read_row_scaled` meets its contract. Assumes nothing.
-use mathlib.Core.Path.{sym, ap, ◌∙◌}
-use native.Mathlib.Nat.{lt_of_lt_of_le}
-use lib.Pow.{pow_mono}
-use lib.ListN.{length}
-use Rattle.catalogue.specs.Promises.{told_outcome}
-use Rattle.catalogue.specs.Catalogue.{field_in}
-use Rattle.catalogue.specs.Scale.{value_of}
-use Rattle.frame.specs.Promises.{refusal_of}
+use mathlib.Core.Path.{ap, ◌∙◌}
 use Rattle.words.specs.Words.{gives}
-use Rattle.frame.specs.Bytes.{number_of}
-use Rattle.catalogue.proofs.Found.{scaled_none, scaled_row, found_bytes, found_frame}
-use Rattle.catalogue.proofs.Bits.{field_below}
+use Rattle.catalogue.specs.Scale.{value_of}
+use Rattle.catalogue.specs.Promises.{number_of_not_read}
+use Rattle.catalogue.proofs.Found.{handed, field_none, field_read, field_small, scaled_none, scaled_row}
 use Rattle.catalogue.proofs.read_row_scaled.Goals as goal
 
+pub returns-in_err-field : goal.returns-in_err-field
+returns-in_err-field c =
+    let a = c.args in
+    let why = c.in_err-field.field-0.0 in
+    let e = field_none a.row a.id a.bytes.now (number_of_not_read why) c.in_err-field.ensures.answer in
+    record { answer = handed number_of_not_read c.from_residual.result why c.from_residual.ensures.1 ∙ scaled_none a.row a.id a.bytes.now _ e }
+
 pub value_in-requires : goal.value_in-requires
-unfolding field_in
-value_in-requires c =
-    let bs = c.args.bytes.now in
-    let r = c.open_row-opened in
-    let row = c.in-At.row in
-    let e = sym r.ensures.outcome ∙ ap told_outcome c.in-At.is in
-    let i = found_frame c.args.row c.args.id (length bs) row e in
-    rw c.classify.ensures.answer (lt_of_lt_of_le (field_below row.first row.width r.result.number) (pow_mono {i = row.width} {j = 32} i.most))
+value_in-requires c = let a = c.args in field_small a.row a.id a.bytes.now c.in_ok-field.field c.in_ok-field.ensures.answer
 
-pub returns-in-Bad : goal.returns-in-Bad
-returns-in-Bad c =
-    let why = c.in-Bad.why in
-    let e = sym c.open_row-opened.ensures.outcome ∙ ap told_outcome c.in-Bad.is in
-    record { answer = scaled_none c.args.row c.args.id c.args.bytes.now (refusal_of why) e }
-
-pub returns-in-NoSuchRow : goal.returns-in-NoSuchRow
-returns-in-NoSuchRow c =
-    let e = sym c.open_row-opened.ensures.outcome ∙ ap told_outcome c.in-NoSuchRow.is in
-    record { answer = scaled_none c.args.row c.args.id c.args.bytes.now 11 e }
-
-pub returns-in-At : goal.returns-in-At
-returns-in-At c =
-    let bs = c.args.bytes.now in
-    let r = c.open_row-opened in
-    let row = c.in-At.row in
-    let e = sym r.ensures.outcome ∙ ap told_outcome c.in-At.is in
-    let f = r.ensures.number ∙ ap number_of (found_bytes c.args.row c.args.id (length bs) row e bs) in
-    record { answer = ap gives (c.value_in.ensures ∙ ap (value_of row) (c.classify.ensures.answer ∙ ap (field_in row) f)) ∙ scaled_row c.args.row c.args.id bs row e }
+pub returns : goal.returns
+returns c =
+    let a = c.args in
+    let f = field_read a.row a.id a.bytes.now c.in_ok-field.field c.in_ok-field.ensures.answer in
+    record { answer = ap gives (c.value_in.ensures ∙ ap (value_of a.row) f.1) ∙ scaled_row a.row a.id a.bytes.now a.row f.0 }

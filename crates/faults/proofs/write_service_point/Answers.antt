@@ -1,28 +1,17 @@
 -- `faults::write_service_point` meets its contract. Assumes nothing.
-use mathlib.Core.Path.{refl, sym, ap, ◌∙◌}
-use Rattle.frame.specs.Promises.{refusal_of}
-use Rattle.catalogue.specs.declared.Writing.TheVariants.{BadFrame, NoSuchRow}
-use Rattle.faults.specs.Promises.{told_service_point}
+use mathlib.Core.Path.{sym, ◌∙◌}
+use Rattle.catalogue.specs.Promises.{number_of_not_read}
+use Rattle.catalogue.specs.Private.{not_written}
+use Rattle.catalogue.proofs.Found.{handed_write, same_number}
 use Rattle.faults.proofs.Parts.{write_keeps}
 use Rattle.faults.proofs.write_service_point.Goals as goal
 
+pub returns-in_err-read_service_point : goal.returns-in_err-read_service_point
+returns-in_err-read_service_point c =
+    let a = c.args in
+    let why = c.in_err-read_service_point.field-0.0 in
+    let t = handed_write c.from_residual.result (not_written why) c.from_residual.ensures.1 ∙ same_number why in
+    write_keeps a.id a.bytes.now a.number _ (number_of_not_read why) t (sym c.in_err-read_service_point.ensures.answer)
+
 pub write-requires : goal.write-requires
-write-requires c =
-    let e = ap told_service_point c.in-Is.is in
-    record {
-      number = c.in-Is.field-0;
-      is = sym c.read_service_point-before.ensures.answer ∙ e;
-    }
-
-pub returns-in-BadFrame : goal.returns-in-BadFrame
-returns-in-BadFrame c =
-    let why = c.in-BadFrame.why in
-    let t = ap told_service_point c.in-BadFrame.is in
-    let e = sym c.read_service_point-before.ensures.answer ∙ t in
-    write_keeps c.args.id c.args.bytes.now c.args.number (BadFrame why) (refusal_of why) refl e
-
-pub returns-in-NoSuchRow : goal.returns-in-NoSuchRow
-returns-in-NoSuchRow c =
-    let t = ap told_service_point c.in-NoSuchRow.is in
-    let e = sym c.read_service_point-before.ensures.answer ∙ t in
-    write_keeps c.args.id c.args.bytes.now c.args.number NoSuchRow 11 refl e
+write-requires c = record { number = c.in_ok-read_service_point.field-0; is = sym c.in_ok-read_service_point.ensures.answer }

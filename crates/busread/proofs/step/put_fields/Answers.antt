@@ -13,13 +13,15 @@ use Rattle.busread.proofs.step.put_fields.Goals as goal
 
 pub loop-i-init : goal.loop-i-init
 unfolding fields_text
-loop-i-init c = (omega arith, span_fits c.requires.1 c.rows_in-span.ensures, omega arith, nothing c.args.out.now c.args.at (omega arith))
-
-pub shape_of-out-in_default : goal.shape_of-out-in_default
-shape_of-out-in_default c = c.loop-i.invariant.3.room
+loop-i-init c =
+    record {
+      span_fits = span_fits c.requires.1 c.rows_in-span.ensures;
+      within = omega arith;
+      wrote = nothing c.args.out.now c.args.at (omega arith);
+    }
 
 pub returns-in_default : goal.returns-in_default
-returns-in_default c = row_missing c.requires.1 c.row_in-looked.ensures c.in_default.is (omega arith)
+returns-in_default c = row_missing c.requires.1 c.row_in.ensures c.in_default.is (omega arith)
 
 pub slice_bounds-head-end : goal.slice_bounds-head-end
 slice_bounds-head-end c = c.put_head-size.ensures.0.fits
@@ -31,7 +33,7 @@ pub put_field-end-requires : goal.put_field-end-requires
 put_field-end-requires c = (
   let span = c.rows_in-span.result in
       let l = c.loop-i in
-      room_left c.args.at l.i span.start l.invariant.2 (omega arith) l.invariant.1 c.requires.0 l.invariant.3.room,
+      room_left c.args.at l.i span.start l.invariant.within (omega arith) l.invariant.span_fits c.requires.0 l.invariant.wrote.room,
   rw (length-take-le c.put_head-size.result c.put_head-size.new.out c.put_head-size.ensures.0.fits) c.put_head-size.ensures.1,
 )
 
@@ -40,11 +42,12 @@ loop-i-preserved c =
     let l = c.loop-i in
     let a = c.args in
     let span = c.rows_in-span.result in
-    let e = row_there c.requires.1 c.row_in-looked.ensures c.in-Is.is (omega arith) in
-    (omega arith, l.invariant.1, omega arith, rw (fields_turn (head_text a.number (a.id % 256) (a.id / 256 % 131072)) c.number_of-content.result span l.i (omega arith) l.invariant.1, ← e, ← c.classify-field.ensures.answer) (behind l.invariant.3 (rw c.put_head-size.ensures.0.written at c.put_field-end.ensures.0)))
-
-pub shape_of-out : goal.shape_of-out
-shape_of-out c = c.loop-i.invariant.3.room
+    let e = row_there c.requires.1 c.row_in.ensures c.in-Ok.is (omega arith) in
+    record {
+      span_fits = l.invariant.span_fits;
+      within = omega arith;
+      wrote = rw (fields_turn (head_text a.number (a.id % 256) (a.id / 256 % 131072)) c.number_of-content.result span l.i (omega arith) l.invariant.span_fits, ← e, ← c.classify-field.ensures.answer) (behind l.invariant.wrote (rw c.put_head-size.ensures.0.written at c.put_field-end.ensures.0));
+    }
 
 pub returns : goal.returns
 unfolding source_of dgn_of
@@ -52,4 +55,4 @@ returns c =
     let l = c.loop-i in
     let a = c.args in
     let e = whole_span c.rows_in-span.result (a.id / 256 % 131072) l.i (span_there c.requires.1 c.rows_in-span.ensures) (omega arith) in
-    (rw (div-one, ← c.number_of-content.ensures.answer, ← e) l.invariant.3, omega arith)
+    (rw (div-one, ← c.number_of-content.ensures.answer, ← e) l.invariant.wrote, omega arith)

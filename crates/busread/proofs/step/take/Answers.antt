@@ -2,8 +2,8 @@
 use Rattle.busread.proofs.Printing.{sound_line, malformed_line}
 use Rattle.busread.proofs.step.take.Goals as goal
 
-pub returns-in-Sound : goal.returns-in-Sound
-returns-in-Sound c = rw (sound_line c.take_apart-line.ensures c.in-Sound.is) c.hear.ensures
+pub returns-in-Ok : goal.returns-in-Ok
+returns-in-Ok c = rw (sound_line c.take_apart-line.ensures c.in-Ok.is) c.hear.ensures
 
-pub returns-in-Malformed : goal.returns-in-Malformed
-returns-in-Malformed c = rw (malformed_line c.take_apart-line.ensures c.in-Malformed.is) (c.malformed.ensures c.args.storage.now)
+pub returns-in-Err : goal.returns-in-Err
+returns-in-Err c = rw (malformed_line c.take_apart-line.ensures c.in-Err.is) (c.malformed.ensures c.args.storage.now)

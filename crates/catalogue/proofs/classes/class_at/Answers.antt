@@ -6,15 +6,17 @@ use borrow.Author.Rules.{rules}
 use Rattle.words.proofs.Tests.{tests}
 use Rattle.catalogue.proofs.Classed.{at_none, none_past, counted, three_below}
 use Rattle.catalogue.proofs.classes.class_at.Goals as goal
+use Rattle.catalogue.proofs.classes.class_at.Goals.{then-width-lt-LEAST_CLASSED-via-then-width-lt-LEAST_CLASSED, then-width-lt-LEAST_CLASSED-via-else-width-lt-LEAST_CLASSED+then-width-gt-FRAME_BITS}
 
 pub returns-then-width-lt-LEAST_CLASSED : goal.returns-then-width-lt-LEAST_CLASSED
-returns-then-width-lt-LEAST_CLASSED c = sym (at_none c.args.width c.args.code c.if-width-lt-LEAST_CLASSED.true)
-
-pub returns-then-width-gt-FRAME_BITS : goal.returns-then-width-gt-FRAME_BITS
-returns-then-width-gt-FRAME_BITS c =
+returns-then-width-lt-LEAST_CLASSED c =
     let a = c.args in
-    let h : 64 < a.width = omega (arith, c.if-width-gt-FRAME_BITS.true) in
-    sym (none_past a.width a.code h c.ranges.code.fits)
+    elim c.then-width-lt-LEAST_CLASSED.branch [
+      | then-width-lt-LEAST_CLASSED-via-then-width-lt-LEAST_CLASSED w ↦ sym (at_none a.width a.code w.if-width-lt-LEAST_CLASSED.true)
+      | then-width-lt-LEAST_CLASSED-via-else-width-lt-LEAST_CLASSED+then-width-gt-FRAME_BITS w ↦
+          let h : 64 < a.width = omega (arith, w.if-width-gt-FRAME_BITS.true) in
+          sym (none_past a.width a.code h c.ranges.code.fits)
+    ]
 
 pub returns-then-code-greatest : goal.returns-then-code-greatest
 returns-then-code-greatest c =
@@ -35,11 +37,6 @@ pub returns-then-code-greatest-2 : goal.returns-then-code-greatest-2
 returns-then-code-greatest-2 c =
     let a = c.args in
     rw (counted a.width a.code _ _ c.if-width-lt-LEAST_CLASSED.false c.greatest_code-greatest.ensures c.has_three.ensures) (search (tests, c.if-not-has_three.false-raw))
-
-pub overflow_sub-greatest-2 : goal.overflow_sub-greatest-2
-overflow_sub-greatest-2 c =
-    let h = three_below _ _ _ c.greatest_code-greatest.ensures c.has_three.ensures c.if-not-has_three.false-raw in
-    search (rules, h)
 
 pub returns-then-code-greatest-3 : goal.returns-then-code-greatest-3
 returns-then-code-greatest-3 c =

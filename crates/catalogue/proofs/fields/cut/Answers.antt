@@ -13,6 +13,6 @@ returns-then-width-ge-FRAME_BITS c = field_all c.args.first c.args.width c.args.
 pub nonzero_rem-result : goal.nonzero_rem-result
 nonzero_rem-result c = rw c.power.ensures (pow_pos c.args.width)
 
-pub returns : goal.returns
+pub returns-else-width-ge-FRAME_BITS : goal.returns-else-width-ge-FRAME_BITS
 unfolding field_of
-returns c = rw c.power.ensures
+returns-else-width-ge-FRAME_BITS c = rw c.power.ensures

@@ -1,15 +1,17 @@
 -- `catalogue::scale::code_where` meets its contract. Assumes nothing.
-use mathlib.Core.Path.{ap, ◌∙◌}
-use Rattle.catalogue.specs.Classes.{below_greatest}
+use mathlib.Core.Path.{◌∙◌, sym}
+use borrow.Author.Rules.{rules}
+use denote.Enum.Bare.{same_true, same_false}
+use Rattle.catalogue.specs.contracts.Class.{the_type}
 use Rattle.catalogue.proofs.Codes.{where_not, where_so}
 use Rattle.catalogue.proofs.scale.code_where.Goals as goal
 
-pub returns-then-below_greatest : goal.returns-then-below_greatest
-returns-then-below_greatest c =
+pub returns-then-eq : goal.returns-then-eq
+returns-then-eq c =
     let a = c.args in
-    where_not a.row a.class a.code _ _ (c.below_greatest.ensures ∙ ap below_greatest c.class_in.ensures) c.below_greatest-2.ensures c.if-below_greatest.true
+    where_so a.row a.class a.code (sym c.class_in.ensures ∙ same_true the_type (search rules) _ _ (sym c.if-eq.ensures))
 
-pub returns : goal.returns
-returns c =
+pub returns-else-eq : goal.returns-else-eq
+returns-else-eq c =
     let a = c.args in
-    where_so a.row a.class a.code _ _ (c.below_greatest.ensures ∙ ap below_greatest c.class_in.ensures) c.below_greatest-2.ensures c.if-below_greatest.false
+    where_not a.row a.class a.code (λ e. same_false the_type _ _ (sym c.if-eq.ensures) (c.class_in.ensures ∙ e))

@@ -15,15 +15,3 @@ returns-in-Number c =
     let e : c.scaled.result ≡ v = c.scaled.ensures in
     let f = scaled_fits a.row.unit a.row.width a.field.code c.requires in
     rw (e, c.in-Number.is) (ap Scaled (to_z-of_z w64 v f))
-
-pub returns-in-NoData : goal.returns-in-NoData
-unfolding value_of
-returns-in-NoData c = rw c.in-NoData.is
-
-pub returns-in-OutOfRange : goal.returns-in-OutOfRange
-unfolding value_of
-returns-in-OutOfRange c = rw c.in-OutOfRange.is
-
-pub returns-in-Reserved : goal.returns-in-Reserved
-unfolding value_of
-returns-in-Reserved c = rw c.in-Reserved.is

@@ -12,7 +12,7 @@ facts : (c : goal.After-lower-end)
 facts c =
     let a = c.args in
     let list = table_rows a.table.now in
-    let e : c.wide-key.result ≡ a.dgn = c.wide-key.ensures in
+    let e : c.from-key.result ≡ a.dgn = c.from-key.ensures in
     (c.lower-start.ensures ∙ ap (halved list) e, c.lower-end.ensures ∙ ap (λ (x : ℕ). halved list (x + 1)) e)
 
 pub overflow_sub-result : goal.overflow_sub-result

@@ -1,29 +1,29 @@
 -- `claim::Claim::our_claim` meets its contract. Assumes nothing.
-use mathlib.Core.Path.{sym, ◌∙◌}
+use mathlib.Core.Path.{sym, ap, ◌∙◌}
+use Rattle.words.specs.Words.{done}
 use Rattle.claim.specs.Claim.{claim_bytes}
-use Rattle.claim.proofs.Calls.{sound_broken, sound_ill, sound_well, in_array}
+use Rattle.claim.specs.Promises.{told_pausing}
+use Rattle.claim.proofs.Calls.{sound_given, sound_refused, in_array}
 use Rattle.claim.proofs.Claim.our_claim.Goals as goal
 
-pub returns-then-not-keeps_rules : goal.returns-then-not-keeps_rules
-returns-then-not-keeps_rules c =
-    let k = sym c.keeps_rules.ensures.answer ∙ c.if-not-keeps_rules.true in
-    let b = sound_broken _ k in
-    record { answer = sym b.0; sent_id = sym (rw b.1); sent_bytes = sym (rw b.1) }
-
-pub returns-then-not-holds_list : goal.returns-then-not-holds_list
-returns-then-not-holds_list c =
-    let k = sym c.keeps_rules.ensures.answer ∙ c.if-not-keeps_rules.false in
-    let h = sym c.holds_list.ensures.answer ∙ c.if-not-holds_list.true in
-    let b = sound_ill _ k h in
-    record { answer = sym b.0; sent_id = sym (rw b.1); sent_bytes = sym (rw b.1) }
-
 pub claim_id-requires : goal.claim_id-requires
-claim_id-requires c = in_array _ (sym c.keeps_rules.ensures.answer ∙ c.if-not-keeps_rules.false) (sym c.holds_list.ensures.answer ∙ c.if-not-holds_list.false)
+claim_id-requires c =
+    let s = sound_given _ done (sym c.sound.ensures ∙ ap told_pausing c.in-Ok.is) in
+    in_array _ s.0 s.1
 
-pub returns : goal.returns
+pub returns-in-Ok : goal.returns-in-Ok
 unfolding claim_bytes
-returns c =
-    let k = sym c.keeps_rules.ensures.answer ∙ c.if-not-keeps_rules.false in
-    let h = sym c.holds_list.ensures.answer ∙ c.if-not-holds_list.false in
-    let b = sound_well _ k h in
-    record { answer = sym b.0; sent_id = c.claim_id.ensures ∙ sym (rw b.1); sent_bytes = c.bytes_of.ensures.answer ∙ sym (rw b.1) }
+returns-in-Ok c =
+    let e = sym c.sound.ensures ∙ ap told_pausing c.in-Ok.is in
+    let s = (sound_given _ done e).2 in
+    record {
+      answer = sym e;
+      sent_id = c.claim_id.ensures ∙ sym (rw s);
+      sent_bytes = c.bytes_of.ensures.answer ∙ sym (rw s);
+    }
+
+pub returns-in-Err : goal.returns-in-Err
+returns-in-Err c =
+    let e = sym c.sound.ensures ∙ ap told_pausing c.in-Err.is in
+    let s = sound_refused _ _ e in
+    record { answer = sym e; sent_id = sym (rw s); sent_bytes = sym (rw s) }

@@ -1,21 +1,16 @@
 -- `claim::Claim::pause` meets its contract. Assumes nothing.
-use mathlib.Core.Path.{sym, ◌∙◌}
-use Rattle.claim.proofs.Calls.{sound_broken, sound_ill, sound_well}
+use mathlib.Core.Path.{sym, ap, ◌∙◌}
+use Rattle.words.specs.Words.{done}
+use Rattle.claim.specs.Promises.{told_pausing}
+use Rattle.claim.proofs.Calls.{sound_given, sound_refused}
 use Rattle.claim.proofs.Claim.pause.Goals as goal
 
-pub returns-then-not-keeps_rules : goal.returns-then-not-keeps_rules
-returns-then-not-keeps_rules c =
-    let k = sym c.keeps_rules.ensures.answer ∙ c.if-not-keeps_rules.true in
-    record { answer = sym (sound_broken _ k).0; state = sym (rw (sound_broken _ k).1) }
+pub returns-in-Ok : goal.returns-in-Ok
+returns-in-Ok c =
+    let s = (sound_given _ done (sym c.sound-answer.ensures ∙ ap told_pausing c.in-Ok.is)).2 in
+    record { answer = c.sound-answer.ensures; state = c.waited-claim.ensures ∙ sym (rw s) }
 
-pub returns-then-not-holds_list : goal.returns-then-not-holds_list
-returns-then-not-holds_list c =
-    let k = sym c.keeps_rules.ensures.answer ∙ c.if-not-keeps_rules.false in
-    let h = sym c.holds_list.ensures.answer ∙ c.if-not-holds_list.true in
-    record { answer = sym (sound_ill _ k h).0; state = sym (rw (sound_ill _ k h).1) }
-
-pub returns : goal.returns
-returns c =
-    let k = sym c.keeps_rules.ensures.answer ∙ c.if-not-keeps_rules.false in
-    let h = sym c.holds_list.ensures.answer ∙ c.if-not-holds_list.false in
-    record { answer = sym (sound_well _ k h).0; state = c.waited.ensures ∙ sym (rw (sound_well _ k h).1) }
+pub returns-in-Err : goal.returns-in-Err
+returns-in-Err c =
+    let s = sound_refused _ _ (sym c.sound-answer.ensures ∙ ap told_pausing c.in-Err.is) in
+    record { answer = c.sound-answer.ensures; state = sym (rw s) }

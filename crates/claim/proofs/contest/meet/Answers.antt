@@ -14,12 +14,12 @@ returns-then-not-holds_list c = sym (met_ill _ _ _ (sym c.holds_list.ensures.ans
 pub returns-then-parts-ne-CLAIM : goal.returns-then-parts-ne-CLAIM
 returns-then-parts-ne-CLAIM c = sym (met_other _ _ _ (sym c.holds_list.ensures.answer ∙ c.if-not-holds_list.false) c.if-parts-ne-CLAIM.true)
 
-pub outcome-requires : goal.outcome-requires
-outcome-requires c =
+pub reaction-requires : goal.reaction-requires
+reaction-requires c =
     let h = holds_of _ (sym c.holds_list.ensures.answer ∙ c.if-not-holds_list.false) in
     omega arith
 
 pub returns : goal.returns
 returns c =
     let h = sym c.holds_list.ensures.answer ∙ c.if-not-holds_list.false in
-    c.outcome.ensures ∙ ap (λ (n : ℕ). gives (outcome_of c.args.parts.source n c.args.claim)) c.number_of.ensures.answer ∙ sym (met_claim _ _ _ h c.if-parts-ne-CLAIM.false)
+    ap gives (c.reaction.ensures ∙ ap (λ (n : ℕ). outcome_of c.args.parts.source n c.args.claim) c.number_of.ensures.answer) ∙ sym (met_claim _ _ _ h c.if-parts-ne-CLAIM.false)

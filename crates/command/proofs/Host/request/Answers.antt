@@ -1,43 +1,31 @@
 -- `command::Host::request` meets its contract. Assumes nothing.
-use mathlib.Core.Path.{refl}
-use Rattle.command.specs.declared.handed.Handing.TheVariants as Handing
-use Rattle.command.specs.declared.Requesting.TheVariants as Requesting
-use Rattle.frame.specs.Promises.{refusal_of}
+use Rattle.std.specs.Prelude.{Err}
+use mathlib.Core.Path.{refl, sym}
 use Rattle.words.specs.Words.{refused}
-use Rattle.command.proofs.Answers.{bare_requested_lem, requested_refused, requested_given}
-use Rattle.command.proofs.Handing.{well_few, handed_fine, handing_refused, handing_given}
+use Rattle.claim.specs.Promises.{number_of_not_heard}
+use Rattle.command.specs.Promises.{number_of_not_answered, not_answered_for}
+use Rattle.command.proofs.Handing.{handing_refused, handing_given, handed_fine, well_few}
+use Rattle.command.proofs.Answers.{bare_requested_lem, requested_refused, requested_given, not_answered_number}
 use Rattle.command.proofs.Host.request.Goals as goal
 
 pub answer-requires : goal.answer-requires
 answer-requires c =
     let a = c.args in
-    let parts = c.in-Sound.parts in
-    let g = handing_given a.id a.bytes.now a.self a.claim _ c.hand_in-handed.ensures (Handing.Sound parts) parts c.in-Sound.is refl in
-    let f = handed_fine a.id a.bytes.now a.self a.claim parts g.0 in
+    let g = handing_given a.id a.bytes.now a.self a.claim c.in-Ok.handed c.in-Ok.ensures in
+    let f = handed_fine a.id a.bytes.now a.self a.claim c.in-Ok.handed.parts g.0 in
     (f.claim, well_few a.self f.list)
 
-pub returns-in-BrokenState : goal.returns-in-BrokenState
-returns-in-BrokenState c =
+pub returns-in-Ok : goal.returns-in-Ok
+returns-in-Ok c =
     let a = c.args in
-    let n = handing_refused a.id a.bytes.now a.self a.claim _ c.hand_in-handed.ensures Handing.BrokenState 2 c.in-BrokenState.is refl in
-    rw (requested_refused a.id a.bytes.now a.self a.claim 2 n) (bare_requested_lem (refused 2) Requesting.BrokenState _ refl refl refl c.bare.ensures)
+    let g = handing_given a.id a.bytes.now a.self a.claim c.in-Ok.handed c.in-Ok.ensures in
+    rw (requested_given a.id a.bytes.now a.self a.claim c.in-Ok.handed.parts _ g.0 g.1) c.answer.ensures
 
-pub returns-in-BadFrame : goal.returns-in-BadFrame
-returns-in-BadFrame c =
+pub returns-in-Err : goal.returns-in-Err
+returns-in-Err c =
     let a = c.args in
-    let why = c.in-BadFrame.why in
-    let n = handing_refused a.id a.bytes.now a.self a.claim _ c.hand_in-handed.ensures (Handing.BadFrame why) (refusal_of why) c.in-BadFrame.is refl in
-    rw (requested_refused a.id a.bytes.now a.self a.claim (refusal_of why) n) (bare_requested_lem (refused (refusal_of why)) (Requesting.BadFrame why) _ refl refl refl c.bare-in-BadFrame.ensures)
-
-pub returns-in-ListMalformed : goal.returns-in-ListMalformed
-returns-in-ListMalformed c =
-    let a = c.args in
-    let n = handing_refused a.id a.bytes.now a.self a.claim _ c.hand_in-handed.ensures Handing.ListMalformed 16 c.in-ListMalformed.is refl in
-    rw (requested_refused a.id a.bytes.now a.self a.claim 16 n) (bare_requested_lem (refused 16) Requesting.ListMalformed _ refl refl refl c.bare-in-ListMalformed.ensures)
-
-pub returns-in-Sound : goal.returns-in-Sound
-returns-in-Sound c =
-    let a = c.args in
-    let parts = c.in-Sound.parts in
-    let g = handing_given a.id a.bytes.now a.self a.claim _ c.hand_in-handed.ensures (Handing.Sound parts) parts c.in-Sound.is refl in
-    rw (requested_given a.id a.bytes.now a.self a.claim parts _ g.0 g.1) c.answer.ensures
+    let n = number_of_not_heard c.in-Err.why in
+    let r = handing_refused a.id a.bytes.now a.self a.claim n c.in-Err.ensures in
+    rw (requested_refused a.id a.bytes.now a.self a.claim n r, sym (not_answered_number c.in-Err.why))
+    (bare_requested_lem (refused (number_of_not_answered (not_answered_for c.in-Err.why))) (Err (not_answered_for c.in-Err.why)) _ refl refl refl
+    (rw c.from.ensures at c.bare.ensures))

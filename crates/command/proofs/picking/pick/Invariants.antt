@@ -1,14 +1,14 @@
--- What the loop of `command::picking::pick` keeps, and why it ends.
-use mathlib.Core.Path.{◌≡◌}
-use Prim.Native.Nat.{◌≤◌, ◌-◌}
-use lib.ListN.{length, take}
-use Rattle.command.specs.Private.{is_wanted}
-use Rattle.command.specs.Positions.{positions_where, filled}
+-- What the loop of `command::picking::pick` keeps: the positions so far are those of the entries that pass.
+use Rattle.std.proofs.Common.{◌≡◌, ◌≤◌, Bool, take}
 use Rattle.command.specs.Hosted.{hosted}
+use Rattle.command.specs.Positions.{positions_where, filled}
+use Rattle.command.specs.Private.{Computes}
+use Rattle.command.specs.declared.Entry.{Entry}
 use Rattle.command.proofs.picking.pick.Given as goal
 
 abbrev pub invariant-loop-i : goal.invariant-loop-i
-invariant-loop-i l = (l.i ≤ l.host.count) × (l.host.count ≤ 16) × (length l.host.entries ≡ 16) × (l.p ≡ filled (positions_where (is_wanted l.wanted) (take l.i (hosted l.host))))
-
-abbrev pub decreases-loop-i : goal.decreases-loop-i
-decreases-loop-i l = l.host.count - l.i
+invariant-loop-i g l = record {
+  few : l.picked.count ≤ l.i;
+  picked : (passes : Entry → Bool) → Computes (goal.F-post g l.passes) passes (hosted l.fn.host)
+      → l.picked ≡ filled (positions_where passes (take l.i (hosted l.fn.host)));
+}

@@ -1,37 +1,24 @@
 -- `faults::Sender::reply` meets its contract. Assumes nothing.
+use mathlib.Core.Path.{◌≡◌, ap, ◌∙◌}
+use Rattle.std.specs.Prelude.{Ok}
+use Rattle.faults.specs.declared.Response.TheVariants.{NothingToDo, Send}
 use Rattle.faults.proofs.Steps.{reply_to_host, reply_alone}
 use Rattle.faults.proofs.Sender.reply.Goals as goal
 
-pub returns-in-NothingToDo : goal.returns-in-NothingToDo
-returns-in-NothingToDo c =
-    reply_to_host _ c.request-faults.ensures c.in-NothingToDo.is c.request-asked.ensures
+pub returns-in-Ok-NothingToDo : goal.returns-in-Ok-NothingToDo
+returns-in-Ok-NothingToDo c =
+    let m = c.in-Ok-NothingToDo in
+    let q : m.field-0 ≡ NothingToDo = rw m.is at m.field-0-is in
+    let is : c.request-faults.result.answer ≡ Ok NothingToDo = m.is ∙ ap Ok q in
+    reply_to_host _ c.request-faults.ensures is c.request.ensures
 
-pub returns-in-Send : goal.returns-in-Send
-returns-in-Send c =
-    reply_alone c.request-faults.result _ c.request-faults.ensures (λ hosted. rw c.in-Send.is)
-    c.without_host.ensures
+pub returns-in-Ok-Send : goal.returns-in-Ok-Send
+returns-in-Ok-Send c =
+    let m = c.in-Ok-Send in
+    let q : m.field-0 ≡ Send = rw m.is at m.field-0-is in
+    let is : c.request-faults.result.answer ≡ Ok Send = m.is ∙ ap Ok q in
+    reply_alone c.request-faults.result _ c.request-faults.ensures (λ hosted. rw is) c.without_host.ensures
 
-pub returns-in-BrokenState : goal.returns-in-BrokenState
-returns-in-BrokenState c =
-    reply_alone c.request-faults.result _ c.request-faults.ensures (λ hosted. rw c.in-BrokenState.is)
-    c.without_host-in-BrokenState.ensures
-
-pub returns-in-BadFrame : goal.returns-in-BadFrame
-returns-in-BadFrame c =
-    reply_alone c.request-faults.result _ c.request-faults.ensures (λ hosted. rw c.in-BadFrame.is)
-    c.without_host-in-BadFrame.ensures
-
-pub returns-in-ListMalformed : goal.returns-in-ListMalformed
-returns-in-ListMalformed c =
-    reply_alone c.request-faults.result _ c.request-faults.ensures (λ hosted. rw c.in-ListMalformed.is)
-    c.without_host-in-ListMalformed.ensures
-
-pub returns-in-DgnTooLarge : goal.returns-in-DgnTooLarge
-returns-in-DgnTooLarge c =
-    reply_alone c.request-faults.result _ c.request-faults.ensures (λ hosted. rw c.in-DgnTooLarge.is)
-    c.without_host-in-DgnTooLarge.ensures
-
-pub returns-in-NoAddressHeld : goal.returns-in-NoAddressHeld
-returns-in-NoAddressHeld c =
-    reply_alone c.request-faults.result _ c.request-faults.ensures (λ hosted. rw c.in-NoAddressHeld.is)
-    c.without_host-in-NoAddressHeld.ensures
+pub returns-in-Err : goal.returns-in-Err
+returns-in-Err c =
+    reply_alone c.request-faults.result _ c.request-faults.ensures (λ hosted. rw c.in-Err.is) c.without_host-in-Err.ensures

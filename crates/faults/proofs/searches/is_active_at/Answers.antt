@@ -11,13 +11,13 @@ use Rattle.faults.specs.Sender.{is_active_at}
 use Rattle.faults.proofs.Steps.{outside, same_at}
 use Rattle.faults.proofs.searches.is_active_at.Goals as goal
 
-pub returns-then-at-ge-PLACES : goal.returns-then-at-ge-PLACES
+pub returns-else-at-lt-PLACES : goal.returns-else-at-lt-PLACES
 unfolding is_active_at
-returns-then-at-ge-PLACES c = search tests
+returns-else-at-lt-PLACES c = search tests
 
-pub returns : goal.returns
+pub returns-then-at-lt-PLACES : goal.returns-then-at-lt-PLACES
 unfolding is_active_at
-returns c =
+returns-then-at-lt-PLACES c =
     let a = c.args in
     let n : length a.s.faults ≡ 32 = search length_field in
     let h : a.at < 32 = omega arith in

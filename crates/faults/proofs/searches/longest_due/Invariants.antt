@@ -1,14 +1,10 @@
--- What the loop of `faults::searches::longest_due` keeps, and why it ends.
-use mathlib.Core.Path.{◌≡◌}
-use Prim.Native.Nat.{◌≤◌, ◌-◌, max}
-use lib.ListN.{length, drop}
+-- What the loop of `faults::searches::longest_due` keeps: the greatest age so far, or of the places that are left, is the
+-- greatest of all.
+use Rattle.std.proofs.Common.{◌≡◌, max, drop}
 use Rattle.faults.specs.Sender.{longest_due}
 use Rattle.faults.proofs.searches.longest_due.Given as goal
 
-abbrev pub invariant-loop-i : goal.invariant-loop-i
-invariant-loop-i l =
-    (l.i ≤ 32) × (length l.s.faults ≡ 32)
-    × (longest_due l.s.faults ≡ max l.longest (longest_due (drop l.i l.s.faults)))
-
-abbrev pub decreases-loop-i : goal.decreases-loop-i
-decreases-loop-i l = 32 - l.i
+abbrev pub invariant-loop-f : goal.invariant-loop-f
+invariant-loop-f l = record {
+  left : longest_due l.f-items ≡ max l.longest (longest_due (drop l.f-index l.f-items));
+}

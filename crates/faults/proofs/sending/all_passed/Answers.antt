@@ -1,28 +1,28 @@
 -- `faults::sending::all_passed` meets its contract. Assumes nothing.
-use mathlib.Core.Path.{refl}
+use mathlib.Core.Path.{◌≡◌, refl}
 use Prim.Native.Nat.{◌≤◌, ◌<◌}
 use native.Mathlib.Omega.{arith}
-use borrow.Author.Rules.{rules}
 use lib.ListN.{length}
 use Rattle.words.proofs.Lists.{length_field, image_turn, image_end}
 use Rattle.faults.specs.Fault.{passed}
 use Rattle.faults.proofs.Steps.{outside}
 use Rattle.faults.proofs.sending.all_passed.Goals as goal
 
-pub loop-i-init : goal.loop-i-init
-loop-i-init c = (search rules, search length_field, refl)
+pub loop-f-init : goal.loop-f-init
+loop-f-init c = record { so_far = refl }
 
-pub loop-i-preserved : goal.loop-i-preserved
-loop-i-preserved c =
-    let l = c.loop-i in
+pub loop-f-preserved : goal.loop-f-preserved
+loop-f-preserved c =
+    let l = c.loop-f in
     let fs = c.args.s.faults in
-    let h : l.i < length fs = omega arith in
-    let t = image_turn passed fs l.faults l.i outside c.passed.result h l.invariant.2 c.passed.ensures in
-    (search rules, l.invariant.1, t)
+    let n : length fs ≡ 32 = search length_field in
+    let h : l.f-index < length fs = omega arith in
+    record { so_far = image_turn passed fs l.f-items l.f-index outside c.passed.result h l.invariant.so_far c.passed.ensures }
 
 pub returns : goal.returns
 returns c =
-    let l = c.loop-i in
-    let s = c.args.s in
-    let h : length s.faults ≤ l.i = omega arith in
-    rw (image_end passed s.faults l.faults l.i h l.invariant.2)
+    let l = c.loop-f in
+    let fs = c.args.s.faults in
+    let n : length fs ≡ 32 = search length_field in
+    let h : length fs ≤ l.f-index = omega arith in
+    rw (image_end passed fs l.f-items l.f-index h l.invariant.so_far)

@@ -6,7 +6,7 @@ use Rattle.faults.specs.Fault.{passed}
 use Rattle.faults.specs.Sender.{chosen}
 use Rattle.faults.specs.Private.{sent_at, bare_stepped}
 use Rattle.faults.specs.declared.Sender.{Sender}
-use Rattle.faults.specs.declared.Stepping.TheVariants.{NothingDue}
+use Rattle.std.specs.Prelude.{None, Ok}
 use Rattle.faults.proofs.Steps.{chosen_below, step_sends, step_quiet}
 use Rattle.faults.proofs.sending.step.Goals as goal
 
@@ -32,4 +32,4 @@ returns-in-None c =
     let p = c.all_passed-later.ensures in
     let g = c.in-None.is in
     let e = sym (ap (λ (x : Sender). chosen x.faults) p) ∙ sym c.chosen.ensures ∙ g in
-    step_quiet a.address a.s _ e (c.bare.ensures ∙ ap (λ (x : Sender). bare_stepped x NothingDue) p)
+    step_quiet a.address a.s _ e (c.bare.ensures ∙ ap (λ (x : Sender). bare_stepped x (Ok None)) p)

@@ -1,69 +1,59 @@
 -- `mend::fields::find` meets its contract. Assumes nothing.
 use Rattle.std.specs.Prelude.{Some}
-use mathlib.Core.Bool.{true, false}
 use Rattle.capture.specs.Line.{gap_key, id_key, data_key}
 use Rattle.mend.specs.Places.{FieldFound}
-use Rattle.mend.proofs.Finding.{no_gap, gap_room, no_id, id_room, no_data, data_room, no_end, all_there}
+use Rattle.mend.proofs.Finding.{no_gap, no_id, no_data, no_end, all_there, gap_room, id_room, data_room}
 use Rattle.mend.proofs.fields.find.Goals as goal
 
-pub returns-in_default : goal.returns-in_default
-returns-in_default c =
-    no_gap c.args.line.now (rw c.in_default.is at c.field.ensures)
+pub returns-in_err-gap_to : goal.returns-in_err-gap_to
+returns-in_err-gap_to c = rw c.from_residual.ensures (no_gap c.args.line.now (rw c.in_err-gap_to.was at c.field.ensures))
 
 pub field-requires-2 : goal.field-requires-2
 field-requires-2 c =
     let line = c.args.line.now in
-    let gap : FieldFound line 0 gap_key 10 (Some c.in-Some.gap_to) = rw c.in-Some.is at c.field.ensures in
+    let gap : FieldFound line 0 gap_key 10 (Some c.in_ok-gap_to.gap_to) = rw c.in_ok-gap_to.was at c.field.ensures in
     gap_room line _ gap
 
-pub returns-in_default-field : goal.returns-in_default-field
-returns-in_default-field c =
+pub returns-in_err-id_to : goal.returns-in_err-id_to
+returns-in_err-id_to c =
     let line = c.args.line.now in
-    let gap : FieldFound line 0 gap_key 10 (Some c.in-Some.gap_to) = rw c.in-Some.is at c.field.ensures in
-    no_id line _ gap (rw c.in_default-field.is at c.field-2.ensures)
+    let gap : FieldFound line 0 gap_key 10 (Some c.in_ok-gap_to.gap_to) = rw c.in_ok-gap_to.was at c.field.ensures in
+    rw c.from_residual-in_err-id_to.ensures (no_id line _ gap (rw c.in_err-id_to.was at c.field-2.ensures))
 
 pub field-requires-3 : goal.field-requires-3
 field-requires-3 c =
     let line = c.args.line.now in
-    let gap : FieldFound line 0 gap_key 10 (Some c.in-Some.gap_to) = rw c.in-Some.is at c.field.ensures in
-    let id : FieldFound line c.in-Some.gap_to id_key 16 (Some c.in-Some-field.id_to) = rw c.in-Some-field.is at c.field-2.ensures in
+    let gap : FieldFound line 0 gap_key 10 (Some c.in_ok-gap_to.gap_to) = rw c.in_ok-gap_to.was at c.field.ensures in
+    let id : FieldFound line c.in_ok-gap_to.gap_to id_key 16 (Some c.in_ok-id_to.id_to) = rw c.in_ok-id_to.was at c.field-2.ensures in
     id_room line _ gap _ id
 
-pub returns-in_default-field-2 : goal.returns-in_default-field-2
-returns-in_default-field-2 c =
+pub returns-in_err-data_to : goal.returns-in_err-data_to
+returns-in_err-data_to c =
     let line = c.args.line.now in
-    let gap : FieldFound line 0 gap_key 10 (Some c.in-Some.gap_to) = rw c.in-Some.is at c.field.ensures in
-    let id : FieldFound line c.in-Some.gap_to id_key 16 (Some c.in-Some-field.id_to) = rw c.in-Some-field.is at c.field-2.ensures in
-    no_data line _ gap _ id (rw c.in_default-field-2.is at c.field-3.ensures)
+    let gap : FieldFound line 0 gap_key 10 (Some c.in_ok-gap_to.gap_to) = rw c.in_ok-gap_to.was at c.field.ensures in
+    let id : FieldFound line c.in_ok-gap_to.gap_to id_key 16 (Some c.in_ok-id_to.id_to) = rw c.in_ok-id_to.was at c.field-2.ensures in
+    rw c.from_residual-in_err-data_to.ensures (no_data line _ gap _ id (rw c.in_err-data_to.was at c.field-3.ensures))
 
-pub rest-tail-requires : goal.rest-tail-requires
-rest-tail-requires c =
+pub return_in-requires : goal.return_in-requires
+return_in-requires c =
     let line = c.args.line.now in
-    let gap : FieldFound line 0 gap_key 10 (Some c.in-Some.gap_to) = rw c.in-Some.is at c.field.ensures in
-    let id : FieldFound line c.in-Some.gap_to id_key 16 (Some c.in-Some-field.id_to) = rw c.in-Some-field.is at c.field-2.ensures in
-    let bytes : FieldFound line c.in-Some-field.id_to data_key 16 (Some c.in-Some-field-2.data_to) = rw c.in-Some-field-2.is at c.field-3.ensures in
+    let gap : FieldFound line 0 gap_key 10 (Some c.in_ok-gap_to.gap_to) = rw c.in_ok-gap_to.was at c.field.ensures in
+    let id : FieldFound line c.in_ok-gap_to.gap_to id_key 16 (Some c.in_ok-id_to.id_to) = rw c.in_ok-id_to.was at c.field-2.ensures in
+    let bytes : FieldFound line c.in_ok-id_to.id_to data_key 16 (Some c.in_ok-data_to.data_to) = rw c.in_ok-data_to.was at c.field-3.ensures in
     data_room line _ gap _ id _ bytes
 
-pub returns-in-Nothing : goal.returns-in-Nothing
-returns-in-Nothing c =
+pub returns-in_err-returns : goal.returns-in_err-returns
+returns-in_err-returns c =
     let line = c.args.line.now in
-    let gap : FieldFound line 0 gap_key 10 (Some c.in-Some.gap_to) = rw c.in-Some.is at c.field.ensures in
-    let id : FieldFound line c.in-Some.gap_to id_key 16 (Some c.in-Some-field.id_to) = rw c.in-Some-field.is at c.field-2.ensures in
-    let bytes : FieldFound line c.in-Some-field.id_to data_key 16 (Some c.in-Some-field-2.data_to) = rw c.in-Some-field-2.is at c.field-3.ensures in
-    all_there line _ gap _ id _ bytes false (rw c.in-Nothing.is at c.rest-tail.ensures)
+    let gap : FieldFound line 0 gap_key 10 (Some c.in_ok-gap_to.gap_to) = rw c.in_ok-gap_to.was at c.field.ensures in
+    let id : FieldFound line c.in_ok-gap_to.gap_to id_key 16 (Some c.in_ok-id_to.id_to) = rw c.in_ok-id_to.was at c.field-2.ensures in
+    let bytes : FieldFound line c.in_ok-id_to.id_to data_key 16 (Some c.in_ok-data_to.data_to) = rw c.in_ok-data_to.was at c.field-3.ensures in
+    rw c.from_residual-in_err-returns.ensures (no_end line _ gap _ id _ bytes (rw c.in_err-returns.was at c.return_in.ensures))
 
-pub returns-in-Return : goal.returns-in-Return
-returns-in-Return c =
+pub returns : goal.returns
+returns c =
     let line = c.args.line.now in
-    let gap : FieldFound line 0 gap_key 10 (Some c.in-Some.gap_to) = rw c.in-Some.is at c.field.ensures in
-    let id : FieldFound line c.in-Some.gap_to id_key 16 (Some c.in-Some-field.id_to) = rw c.in-Some-field.is at c.field-2.ensures in
-    let bytes : FieldFound line c.in-Some-field.id_to data_key 16 (Some c.in-Some-field-2.data_to) = rw c.in-Some-field-2.is at c.field-3.ensures in
-    all_there line _ gap _ id _ bytes true (rw c.in-Return.is at c.rest-tail.ensures)
-
-pub returns-in-Other : goal.returns-in-Other
-returns-in-Other c =
-    let line = c.args.line.now in
-    let gap : FieldFound line 0 gap_key 10 (Some c.in-Some.gap_to) = rw c.in-Some.is at c.field.ensures in
-    let id : FieldFound line c.in-Some.gap_to id_key 16 (Some c.in-Some-field.id_to) = rw c.in-Some-field.is at c.field-2.ensures in
-    let bytes : FieldFound line c.in-Some-field.id_to data_key 16 (Some c.in-Some-field-2.data_to) = rw c.in-Some-field-2.is at c.field-3.ensures in
-    no_end line _ gap _ id _ bytes (rw c.in-Other.is at c.rest-tail.ensures)
+    let gap : FieldFound line 0 gap_key 10 (Some c.in_ok-gap_to.gap_to) = rw c.in_ok-gap_to.was at c.field.ensures in
+    let id : FieldFound line c.in_ok-gap_to.gap_to id_key 16 (Some c.in_ok-id_to.id_to) = rw c.in_ok-id_to.was at c.field-2.ensures in
+    let bytes : FieldFound line c.in_ok-id_to.id_to data_key 16 (Some c.in_ok-data_to.data_to) = rw c.in_ok-data_to.was at c.field-3.ensures in
+    all_there line _ gap _ id _ bytes c.in_ok-returns.returns (rw c.in_ok-returns.was at c.return_in.ensures)

@@ -1,12 +1,8 @@
--- What the loop of `mend::line::leading_zeros` keeps, and why it ends.
+-- What the loop of `mend::line::leading_zeros` keeps.
 use mathlib.Core.Path.{◌≡◌}
-use Prim.Native.Nat.{◌≤◌, ◌-◌}
-use lib.ListN.{length, drop}
+use lib.ListN.{drop}
 use Rattle.mend.specs.Mending.{without_zeros}
 use Rattle.mend.proofs.line.leading_zeros.Given as goal
 
 abbrev pub invariant-loop-i : goal.invariant-loop-i
-invariant-loop-i l = (l.i ≤ length l.part) × (without_zeros l.part ≡ without_zeros (drop l.i l.part))
-
-abbrev pub decreases-loop-i : goal.decreases-loop-i
-decreases-loop-i l = length l.part - l.i
+invariant-loop-i l = without_zeros l.part ≡ without_zeros (drop l.i l.part)

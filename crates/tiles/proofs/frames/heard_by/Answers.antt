@@ -13,23 +13,23 @@ returns-then-not-matches c =
 pub reading_in-reading-requires : goal.reading_in-reading-requires
 reading_in-reading-requires c =
     let a = c.args in
-    let l = looked_row a.table.now a.t.row _ c.requires.rows_held c.row_in-looked.ensures in
+    let l = looked_row a.table.now a.t.row _ c.requires.rows_held c.row_in.ensures in
     let m = sym c.matches.ensures ∙ c.if-not-matches.false in
     row_is_read a.dgn a.instance a.id a.bytes.now a.t c.requires.frame_sound _ c.requires.tile_sound m
-    (sym l ∙ ap told_looked c.in-Is.is)
+    (sym l ∙ ap told_looked c.in-Ok.is)
 
-pub returns-in-NoSuchRow : goal.returns-in-NoSuchRow
-returns-in-NoSuchRow c =
+pub returns-in-Err : goal.returns-in-Err
+returns-in-Err c =
     let a = c.args in
-    let l = looked_row a.table.now a.t.row _ c.requires.rows_held c.row_in-looked.ensures in
+    let l = looked_row a.table.now a.t.row _ c.requires.rows_held c.row_in.ensures in
     let m = sym c.matches.ensures ∙ c.if-not-matches.false in
     heard_none a.dgn a.instance a.id a.bytes.now a.t c.requires.frame_sound _ m
-    (sym l ∙ ap told_looked c.in-NoSuchRow.is)
+    (sym l ∙ ap told_looked c.in-Err.is)
 
-pub returns-in-Is : goal.returns-in-Is
-returns-in-Is c =
+pub returns-in-Ok : goal.returns-in-Ok
+returns-in-Ok c =
     let a = c.args in
-    let l = looked_row a.table.now a.t.row _ c.requires.rows_held c.row_in-looked.ensures in
+    let l = looked_row a.table.now a.t.row _ c.requires.rows_held c.row_in.ensures in
     let m = sym c.matches.ensures ∙ c.if-not-matches.false in
     heard_as_lem a.dgn a.instance a.id a.bytes.now a.t c.requires.frame_sound _ _ m
-    (sym l ∙ ap told_looked c.in-Is.is) c.reading_in-reading.ensures
+    (sym l ∙ ap told_looked c.in-Ok.is) c.reading_in-reading.ensures

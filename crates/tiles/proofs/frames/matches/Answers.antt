@@ -2,16 +2,16 @@
 use mathlib.Core.Path.{sym, ◌∙◌}
 use Rattle.tiles.proofs.Steps.{looked_row, matches_blank, matches_other, matches_by}
 use Rattle.tiles.proofs.frames.matches.Goals as goal
+use Rattle.tiles.proofs.frames.matches.Goals.{then-is_blank-via-then-is_blank, then-is_blank-via-else-is_blank+then-not-is_of_instance}
 
 pub returns-then-is_blank : goal.returns-then-is_blank
 returns-then-is_blank c =
     let a = c.args in
-    matches_blank a.dgn a.instance a.t (sym c.is_blank.ensures ∙ c.if-is_blank.true)
-
-pub returns-then-not-is_of_instance : goal.returns-then-not-is_of_instance
-returns-then-not-is_of_instance c =
-    let a = c.args in
-    matches_other a.dgn a.instance a.t (sym c.is_of_instance.ensures ∙ c.if-not-is_of_instance.true)
+    elim c.then-is_blank.branch [
+      | then-is_blank-via-then-is_blank w ↦ matches_blank a.dgn a.instance a.t (sym c.is_blank.ensures ∙ w.if-is_blank.true)
+      | then-is_blank-via-else-is_blank+then-not-is_of_instance w ↦
+          matches_other a.dgn a.instance a.t (sym w.is_of_instance.ensures ∙ w.if-not-is_of_instance.true)
+    ]
 
 pub returns : goal.returns
 returns c =

@@ -9,25 +9,16 @@ use Rattle.tiles.proofs.frames.reading_in.Goals as goal
 pub shown-requires : goal.shown-requires
 shown-requires c =
     let a = c.args in
-    read_small a.row a.id a.bytes.now _ c.requires c.read_row_scaled-read.ensures _
-    c.in-Is.is
+    read_small a.row a.id a.bytes.now _ c.requires c.read_row_scaled.ensures _ c.in-Ok.is
 
-pub returns-in-Is : goal.returns-in-Is
+pub returns-in-Ok : goal.returns-in-Ok
 unfolding reading_in
-returns-in-Is c =
+returns-in-Ok c =
     let a = c.args in
-    let v = read_value a.row a.id a.bytes.now _ c.requires c.read_row_scaled-read.ensures _
-    c.in-Is.is in
+    let v = read_value a.row a.id a.bytes.now _ c.requires c.read_row_scaled.ensures _ c.in-Ok.is in
     c.shown.ensures ∙ ap (λ (x : Value). shown a.row.unit x) v
 
-pub returns-in-BadFrame : goal.returns-in-BadFrame
-returns-in-BadFrame c =
+pub returns-in-Err : goal.returns-in-Err
+returns-in-Err c =
     let a = c.args in
-    read_some a.row a.id a.bytes.now _ c.requires c.read_row_scaled-read.ensures _
-    (ap told_scaled c.in-BadFrame.is)
-
-pub returns-in-NoSuchRow : goal.returns-in-NoSuchRow
-returns-in-NoSuchRow c =
-    let a = c.args in
-    read_some a.row a.id a.bytes.now _ c.requires c.read_row_scaled-read.ensures _
-    (ap told_scaled c.in-NoSuchRow.is)
+    read_some a.row a.id a.bytes.now _ c.requires c.read_row_scaled.ensures _ (ap told_scaled c.in-Err.is)

@@ -3,8 +3,8 @@ use Rattle.traffic.proofs.Looking.{sound_says, bad_says}
 use borrow.Author.Rules.{rules}
 use Rattle.traffic.proofs.seen.judge.Goals as goal
 
-pub returns-in-Sound : goal.returns-in-Sound
-returns-in-Sound c = sound_says c.check-checked.ensures c.in-Sound.is (search rules)
+pub returns-in-Ok : goal.returns-in-Ok
+returns-in-Ok c = sound_says c.check.ensures c.in-Ok.is (search rules)
 
-pub returns-in-Bad : goal.returns-in-Bad
-returns-in-Bad c = bad_says c.check-checked.ensures c.in-Bad.is c.refusal.ensures.number (search rules)
+pub returns-in-Err : goal.returns-in-Err
+returns-in-Err c = rw c.from.ensures (bad_says c.check.ensures c.in-Err.is c.refusal.ensures (search rules))
