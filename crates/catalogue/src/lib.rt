@@ -40,6 +40,7 @@ pub enum Unit {
 
 // A field of a DGN (RULES 6.1): its bits are counted over the bytes, 8 to each. A plain row is always a number; in a
 // two-state row, which has two bits, 10b is out-of-range (RULES 7.13). The default row is all zeros, and lies in no frame.
+// (The two marks are no enum, since the laws of classes speak of each.)
 #[derive(Clone, Copy, Default)]
 pub struct Row {
     pub dgn: u32,

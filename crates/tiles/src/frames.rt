@@ -11,6 +11,17 @@ ghost use Rattle.tiles.specs.Private.{IsSound, ReadsOf, heard_as};
 use crate::{Heard, Panel, Reading, TILES, Tile, readings, rules};
 use rvc::fields::{Looked, Row};
 
+// A frame that is not refused by itself, as the tiles hear it: beside it the catalogue's rows, its DGN in their form, and
+// its byte 0.
+#[derive(Clone, Copy)]
+struct Frame<'a> {
+    rows: &'a [u64],
+    dgn: u32,
+    instance: u8,
+    id: u32,
+    bytes: &'a [u8],
+}
+
 // Whether a row was found, and its DGN is this one.
 #[tactic(auto, unfolding(crate::specs::Tile::of_dgn))]
 fn is_of_dgn(looked: Looked, dgn: u32) -> bool
@@ -30,14 +41,14 @@ fn is_of_instance(t: Tile, instance: u8) -> bool
 }
 
 // Whether a frame is for a tile: it has the tile's instance in byte 0, and the DGN of the tile's row.
-fn matches(table: &[u64], dgn: u32, instance: u8, t: Tile) -> bool
-    requires { table.now ≡ packed_rows }
-    ensures { result ≡ matches dgn instance t }
+fn matches(frame: Frame, t: Tile) -> bool
+    requires { frame.rows.now ≡ packed_rows }
+    ensures { result ≡ matches frame.entry.dgn frame.entry.instance t }
 {
-    if rules::is_blank(t) || !is_of_instance(t, instance) {
+    if rules::is_blank(t) || !is_of_instance(t, frame.instance) {
         return false;
     }
-    is_of_dgn(rvc::fields::row_in(table, t.row), dgn)
+    is_of_dgn(rvc::fields::row_in(frame.rows, t.row), frame.dgn)
 }
 
 // What a frame says of a row.
@@ -52,47 +63,47 @@ fn reading_in(row: Row, id: u32, bytes: &[u8]) -> Reading
 }
 
 // What a frame makes of a tile.
-fn heard_by(table: &[u64], dgn: u32, instance: u8, id: u32, bytes: &[u8], t: Tile) -> Tile
-    requires rows_held { table.now ≡ packed_rows }
-    requires frame_sound { IsSound id bytes.now dgn instance }
+fn heard_by(frame: Frame, t: Tile) -> Tile
+    requires rows_held { frame.rows.now ≡ packed_rows }
+    requires frame_sound { IsSound frame.id frame.bytes.now frame.dgn frame.instance }
     requires tile_sound { tile_keeps_rules t ≡ true }
-    ensures { result ≡ heard_by dgn bytes.now t }
+    ensures { result ≡ heard_by frame.entry.dgn frame.entry.bytes.now t }
 {
-    if !matches(table, dgn, instance, t) {
+    if !matches(frame, t) {
         return t;
     }
-    match rvc::fields::row_in(table, t.row) {
+    match rvc::fields::row_in(frame.rows, t.row) {
         Err(_) => t,
         Ok(row) => {
-            let reading = reading_in(row, id, bytes);
+            let reading = reading_in(row, frame.id, frame.bytes);
             Tile { reading, ..t }
         }
     }
 }
 
 // What a frame makes of every tile.
-fn heard_by_all(table: &[u64], dgn: u32, instance: u8, id: u32, bytes: &[u8], p: Panel) -> Panel
-    requires rows_held { table.now ≡ packed_rows }
-    requires frame_sound { IsSound id bytes.now dgn instance }
+fn heard_by_all(frame: Frame, p: Panel) -> Panel
+    requires rows_held { frame.rows.now ≡ packed_rows }
+    requires frame_sound { IsSound frame.id frame.bytes.now frame.dgn frame.instance }
     requires panel_sound { keeps_rules p ≡ true }
-    ensures { result ≡ heard_by_all dgn bytes.now p }
+    ensures { result ≡ heard_by_all frame.entry.dgn frame.entry.bytes.now p }
 {
     let mut tiles = p.tiles;
     for t in &mut tiles {
-        *t = heard_by(table, dgn, instance, id, bytes, *t);
+        *t = heard_by(frame, *t);
     }
     Panel { tiles }
 }
 
 // Which tiles a frame is for, bit k for tile k: from the last tile down.
-fn mask(table: &[u64], dgn: u32, instance: u8, p: Panel) -> u32
-    requires { table.now ≡ packed_rows }
-    ensures { result ≡ mask_of (matches dgn instance) p.tiles }
+fn mask(frame: Frame, p: Panel) -> u32
+    requires { frame.rows.now ≡ packed_rows }
+    ensures { result ≡ mask_of (matches frame.entry.dgn frame.entry.instance) p.tiles }
 {
     let mut mask = 0;
     for i in (0..TILES).rev() {
         let t = p.tiles[i];
-        mask = with_bit(mask, matches(table, dgn, instance, t));
+        mask = with_bit(mask, matches(frame, t));
     }
     mask
 }
@@ -112,10 +123,16 @@ pub fn hear(p: Panel, dgn: u32, instance: u8, id: u32, bytes: &[u8]) -> Heard
     ensures { result ≡ heard_as (catalogue_form dgn) bytes.now p }
 {
     let table = rvc::fields::packed_rows();
-    let form = rvc::identifiers::catalogue_form(dgn);
-    let mask = mask(&table, form, instance, p);
+    let frame = Frame {
+        rows: &table,
+        dgn: rvc::identifiers::catalogue_form(dgn),
+        instance,
+        id,
+        bytes,
+    };
+    let mask = mask(frame, p);
     Heard {
-        panel: heard_by_all(&table, form, instance, id, bytes, p),
+        panel: heard_by_all(frame, p),
         answer: Ok(mask),
     }
 }

@@ -12,7 +12,7 @@ pub heard_by_all-requires : goal.heard_by_all-requires
 heard_by_all-requires c =
     let a = c.args in record {
       rows_held = c.packed_rows-table.ensures.answer;
-      frame_sound = subst (λ (d : ℕ). IsSound a.id a.bytes.now d a.instance) (sym c.catalogue_form-form.ensures.answer) c.requires.frame_sound;
+      frame_sound = subst (λ (d : ℕ). IsSound a.id a.bytes.now d a.instance) (sym c.catalogue_form.ensures.answer) c.requires.frame_sound;
       panel_sound = c.requires.panel_sound;
     }
 
@@ -20,5 +20,5 @@ pub returns : goal.returns
 returns c =
     let a = c.args in
     all_heard _ _ a.instance _ a.bytes.now a.p _
-    c.catalogue_form-form.ensures.answer c.requires.frame_sound.of_instance
+    c.catalogue_form.ensures.answer c.requires.frame_sound.of_instance
     c.heard_by_all.ensures c.mask-mask.ensures

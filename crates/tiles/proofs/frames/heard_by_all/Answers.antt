@@ -22,7 +22,7 @@ heard_by-requires-clause-tile_sound c =
     let ts = a.p.tiles in
     let n : length ts ≡ 32 = search length_field in
     let h : l.t-index < length ts = omega arith in
-    let e = ap (λ (x : List Tile). get_or x l.t-index blank_tile) l.invariant.so_far ∙ map_at (heard_by a.dgn a.bytes.now) ts l.t-index blank_tile h in
+    let e = ap (λ (x : List Tile). get_or x l.t-index blank_tile) l.invariant.so_far ∙ map_at (heard_by a.frame.dgn a.frame.bytes.now) ts l.t-index blank_tile h in
     subst (λ (x : Tile). tile_keeps_rules x ≡ true) (sym e) (every_at tile_keeps_rules ts l.t-index blank_tile h c.requires.panel_sound)
 
 pub loop-t-preserved : goal.loop-t-preserved
@@ -32,7 +32,7 @@ loop-t-preserved c =
     let ts = a.p.tiles in
     let n : length ts ≡ 32 = search length_field in
     let h : l.t-index < length ts = omega arith in
-    record { so_far = image_turn (heard_by a.dgn a.bytes.now) ts l.t-items l.t-index blank_tile c.heard_by.result h l.invariant.so_far c.heard_by.ensures }
+    record { so_far = image_turn (heard_by a.frame.dgn a.frame.bytes.now) ts l.t-items l.t-index blank_tile c.heard_by.result h l.invariant.so_far c.heard_by.ensures }
 
 pub returns : goal.returns
 returns c =
@@ -40,4 +40,4 @@ returns c =
     let a = c.args in
     let n : length a.p.tiles ≡ 32 = search length_field in
     let h : length a.p.tiles ≤ l.t-index = omega arith in
-    rw (image_end (heard_by a.dgn a.bytes.now) a.p.tiles l.t-items l.t-index h l.invariant.so_far)
+    rw (image_end (heard_by a.frame.dgn a.frame.bytes.now) a.p.tiles l.t-items l.t-index h l.invariant.so_far)

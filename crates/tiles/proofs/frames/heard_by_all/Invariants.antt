@@ -6,5 +6,5 @@ use Rattle.tiles.proofs.frames.heard_by_all.Given as goal
 
 abbrev pub invariant-loop-t : goal.invariant-loop-t
 invariant-loop-t l = record {
-  so_far : l.t-items ≡ map (heard_by l.dgn l.bytes) (take l.t-index l.initial.t-items) ++ drop l.t-index l.initial.t-items;
+  so_far : l.t-items ≡ map (heard_by l.frame.dgn l.frame.bytes.now) (take l.t-index l.initial.t-items) ++ drop l.t-index l.initial.t-items;
 }

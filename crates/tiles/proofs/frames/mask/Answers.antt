@@ -11,13 +11,13 @@ pub loop-i-init : goal.loop-i-init
 loop-i-init c =
     let a = c.args in
     let n : length a.p.tiles ≡ 32 = search length_field in
-    record { size = n; so_far = mask_start (matches a.dgn a.instance) a.p.tiles n }
+    record { size = n; so_far = mask_start (matches a.frame.dgn a.frame.instance) a.p.tiles n }
 
 pub with_bit-mask-requires : goal.with_bit-mask-requires
 with_bit-mask-requires c =
     let a = c.args in
     let l = c.loop-i in
-    mask_room (matches a.dgn a.instance) a.p.tiles l.i l.mask l.invariant.size (omega arith) (omega arith) l.invariant.so_far
+    mask_room (matches a.frame.dgn a.frame.instance) a.p.tiles l.i l.mask l.invariant.size (omega arith) (omega arith) l.invariant.so_far
 
 pub loop-i-preserved : goal.loop-i-preserved
 loop-i-preserved c =
@@ -25,7 +25,7 @@ loop-i-preserved c =
     let l = c.loop-i in
     record {
       size = l.invariant.size;
-      so_far = mask_turn (matches a.dgn a.instance) a.p.tiles l.i l.mask _ _ l.invariant.size (omega arith) (omega arith) l.invariant.so_far
+      so_far = mask_turn (matches a.frame.dgn a.frame.instance) a.p.tiles l.i l.mask _ _ l.invariant.size (omega arith) (omega arith) l.invariant.so_far
           c.matches.ensures c.with_bit-mask.ensures;
     }
 
@@ -33,4 +33,4 @@ pub returns : goal.returns
 returns c =
     let a = c.args in
     let l = c.loop-i in
-    mask_end (matches a.dgn a.instance) a.p.tiles l.i l.mask (omega arith) l.invariant.so_far
+    mask_end (matches a.frame.dgn a.frame.instance) a.p.tiles l.i l.mask (omega arith) l.invariant.so_far

@@ -7,5 +7,5 @@ use Rattle.tiles.proofs.frames.mask.Given as goal
 abbrev pub invariant-loop-i : goal.invariant-loop-i
 invariant-loop-i l = record {
   size : length l.p.tiles ≡ 32;
-  so_far : l.mask ≡ mask_of (matches l.dgn l.instance) (drop l.i l.p.tiles);
+  so_far : l.mask ≡ mask_of (matches l.frame.dgn l.frame.instance) (drop l.i l.p.tiles);
 }
