@@ -1,7 +1,7 @@
 -- The calls of the receiver, its places seen with their stretches of the storage, do what the places of long messages do, and a state that keeps its
 -- rules leads to one that keeps them.
 -- Assumes nothing.
-use Rattle.std.specs.Prelude.{Option, Some, None}
+use Rattle.std.specs.Prelude.{Option, Some, None, Ok, Err}
 use mathlib.Core.Path.{◌≡◌, refl, sym, ap, ap₂, ◌∙◌, subst⁻¹}
 use mathlib.Core.Bool.{true, false, not}
 use mathlib.Core.List.{List, map}
@@ -39,13 +39,12 @@ use Rattle.message.specs.Receiver.{is_zero, place_keeps_rules, keeps_rules, Afte
 use Rattle.message.specs.Receiver.{hears_announcement, kept_at, expecting, advanced, packet_at, carries, by_meaning, heard}
 use Rattle.message.specs.Receiver.{idled}
 use Rattle.message.specs.Receiver as Eight
-use Rattle.message.specs.Promises.{told_answer, message_in}
+use Rattle.message.specs.Promises.{Answer, told_answer, message_in}
 use Rattle.message.specs.Calls.{Held, Starts, Keeps, Hears, Pauses, open_in, receiver_calls}
 use Rattle.message.specs.declared.Place.{Place}
-use Rattle.message.specs.declared.Answer.{Answer}
-use Rattle.message.specs.declared.Answer.TheVariants.{BadFrame, MalformedAnnouncement, NoPlaceFree, NoOpenMessage}
-use Rattle.message.specs.declared.Answer.TheVariants.{UnexpectedPacket, NothingToDo, Opened, Stored, Finished}
-use Rattle.message.specs.declared.Pausing.TheVariants as Pausing
+use Rattle.message.specs.declared.Event.TheVariants.{NothingToDo, Opened, Stored, Finished}
+use Rattle.message.specs.declared.NotHeard.TheVariants.{BadFrame, MalformedAnnouncement, NoPlaceFree, NoOpenMessage}
+use Rattle.message.specs.declared.NotHeard.TheVariants.{UnexpectedPacket}
 use Rattle.message.proofs.Steps.{found_below, OpenRules, rules_at}
 use Rattle.message.proofs.Steps.{advanced_last, advanced_next, packet_expected, packet_other, carries_at}
 use Rattle.message.proofs.Steps.{carries_nowhere, heard_kept}
@@ -119,12 +118,12 @@ Answers t = (x : Answer) × (told_answer x ≡ t)
 -- each of the refusals 3 to 7 has an answer
 refusal_named : (n : ℕ) → 2 < n → n < 8 → Answers (refused n)
 refusal_named n low high =
-    by_test (n =? 3) (λ t. (BadFrame IdentifierTooLarge, ap refused (sym (eqb-true n 3 t)))) (λ t₃.
-    by_test (n =? 4) (λ t. (BadFrame NotEightBytes, ap refused (sym (eqb-true n 4 t)))) (λ t₄.
-    by_test (n =? 5) (λ t. (BadFrame ReservedBitSet, ap refused (sym (eqb-true n 5 t)))) (λ t₅.
-    by_test (n =? 6) (λ t. (BadFrame SourceNotAllowed, ap refused (sym (eqb-true n 6 t)))) (λ t₆.
+    by_test (n =? 3) (λ t. (Err (BadFrame IdentifierTooLarge), ap refused (sym (eqb-true n 3 t)))) (λ t₃.
+    by_test (n =? 4) (λ t. (Err (BadFrame NotEightBytes), ap refused (sym (eqb-true n 4 t)))) (λ t₄.
+    by_test (n =? 5) (λ t. (Err (BadFrame ReservedBitSet), ap refused (sym (eqb-true n 5 t)))) (λ t₅.
+    by_test (n =? 6) (λ t. (Err (BadFrame SourceNotAllowed), ap refused (sym (eqb-true n 6 t)))) (λ t₆.
     let e : 7 ≡ n = omega (arith, eqb-false n 3 t₃, eqb-false n 4 t₄, eqb-false n 5 t₅, eqb-false n 6 t₆) in
-    (MalformedAnnouncement, ap refused e)))))
+    (Err MalformedAnnouncement, ap refused e)))))
 
 -- one frame at a state that keeps its rules
 
@@ -175,10 +174,10 @@ module _ (f : Frame) (ps : List Place) (s : List ℕ) (eight : length ps ≡ pla
               shows = shows_opens_free long_messages layout f ps s (announced_by sender size dgn) (gives opened) j new s asks (found None n) e new_open refl (λ i x. refl);
               rules = new_set j;
               long = refl;
-              answers = (Opened, refl);
+              answers = (Ok Opened, refl);
             })
         free None n e =
-            rw (n, e) (record { shows = shows_full long_messages layout f ps s (rw asks) (found None n) e; rules = each_rules; long = refl; answers = (NoPlaceFree, refl) })
+            rw (n, e) (record { shows = shows_full long_messages layout f ps s (rw asks) (found None n) e; rules = each_rules; long = refl; answers = (Err NoPlaceFree, refl) })
 
         held : (g : Option ℕ) → first (is_open_by sender) ps ≡ g → Agrees (hears_announcement sender size dgn ps s)
         held (Some j) e =
@@ -187,7 +186,7 @@ module _ (f : Frame) (ps : List Place) (s : List ℕ) (eight : length ps ≡ pla
               shows = shows_opens_held long_messages layout f ps s (announced_by sender size dgn) (gives opened) j new s asks (found (Some j) e) new_open refl (λ i x. refl);
               rules = new_set j;
               long = refl;
-              answers = (Opened, refl);
+              answers = (Ok Opened, refl);
             })
         held None e = free (first is_free ps) e refl
 
@@ -248,7 +247,7 @@ module _ (f : Frame) (ps : List Place) (s : List ℕ) (eight : length ps ≡ pla
                 j free_place free_place (kept_at j p f.bytes s) asks (sought (Some j) e) (last n u) refl (others s f.bytes j p enough below rules_here size));
             rules = freed;
             long = length_written s f.bytes j p enough below rules_here size;
-            answers = (Finished j p.sender p.dgn p.length, refl);
+            answers = (Ok (Finished j p.sender p.dgn p.length), refl);
           })
 
       expected_next : p.expected ≢ packets_of p.length → number ≡ p.expected → Agrees (advanced j p ps (kept_at j p f.bytes s))
@@ -264,7 +263,7 @@ module _ (f : Frame) (ps : List Place) (s : List ℕ) (eight : length ps ≡ pla
                 every_set place_keeps_rules ps j (expecting (p.expected + 1) p) each_rules
                 (rules_open (expecting (p.expected + 1) p) (not_free p rules_here.long) (next_rules s f.bytes j p enough below rules_here size u));
             long = length_written s f.bytes j p enough below rules_here size;
-            answers = (Stored, refl);
+            answers = (Ok Stored, refl);
           })
 
       at_place : Agrees (packet_at j p number f.bytes ps s)
@@ -284,7 +283,7 @@ module _ (f : Frame) (ps : List Place) (s : List ℕ) (eight : length ps ≡ pla
                 shows_feeds_ends long_messages layout f ps s part (refused 9) (refused 10) j free_place free_place s asks (sought (Some j) e) (wrong n) refl (λ i x. refl);
             rules = freed;
             long = refl;
-            answers = (UnexpectedPacket, refl);
+            answers = (Err UnexpectedPacket, refl);
           }))
 
     carried : Agrees (carries sender number f.bytes ps s)
@@ -298,7 +297,7 @@ module _ (f : Frame) (ps : List Place) (s : List ℕ) (eight : length ps ≡ pla
               shows = shows_feeds_nowhere long_messages layout f ps s part (refused 9) asks (sought None e);
               rules = each_rules;
               long = refl;
-              answers = (NoOpenMessage, refl);
+              answers = (Err NoOpenMessage, refl);
             })
 
   -- a frame
@@ -313,7 +312,7 @@ module _ (f : Frame) (ps : List Place) (s : List ℕ) (eight : length ps ≡ pla
       go (refused n) e k =
           let h : (2 < n) × (n < 8) = rw e at k in
           rw e (kept (refused n) (refused n) (asked (refused n) e) (rw (ne_eqb n 8 (λ x. omega (arith, h.1)))) (refusal_named n h.0 h.1))
-      go (gives other) e k = rw e (kept (gives nothing_to_do) (gives nothing_to_do) (asked (gives other) e) refl (NothingToDo, refl))
+      go (gives other) e k = rw e (kept (gives nothing_to_do) (gives nothing_to_do) (asked (gives other) e) refl (Ok NothingToDo, refl))
       go (gives (announcement m)) e k =
           let h = rw e at k in
           let asks = asked (gives (announcement m)) e in
@@ -399,7 +398,7 @@ module _ (s : Held) (k : Keeps s) where
       gives (count (Eight.closes ms) ps),
       rested_by,
       record {
-        answer = Pausing.Closed (count (Eight.closes ms) ps);
+        answer = Ok (count (Eight.closes ms) ps);
         pause = record { places = sym (paused_places_lem ms ps k.rules); answer = sym (paused_count ms ps k.rules) };
         storage_kept = refl;
         told_so = refl;

@@ -60,11 +60,11 @@ use Rattle.tiles.specs.declared.NotHeard.TheVariants as TilesNotHeard
 use Rattle.tiles.specs.declared.NotShown as TilesNotShownType
 use Rattle.tiles.specs.declared.NotShown.TheVariants as TilesNotShown
 use Rattle.std.specs.Prelude.{Result, Ok, Err}
-use mathlib.Core.Path.{◌≡◌, refl}
+use mathlib.Core.Path.{◌≡◌, refl, sym, ◌∙◌}
 use mathlib.Core.Bool.{true}
 use Prim.Native.Nat.{ℕ}
 use mathlib.Core.List.{[]}
-use Rattle.words.specs.Words.{number_in}
+use Rattle.words.specs.Words.{number_in, told}
 use Rattle.frame.specs.Standard.{no_frame}
 use Rattle.capture.specs.Promises as CapturePromises
 use Rattle.catalogue.specs.Promises as CataloguePromises
@@ -76,6 +76,14 @@ use Rattle.frame.specs.Promises as FramePromises
 use Rattle.message.specs.Promises as MessagePromises
 use Rattle.nodes.specs.Promises as NodesPromises
 use Rattle.tiles.specs.Promises as TilesPromises
+use Rattle.catalogue.proofs.Laws as CatalogueLaws
+use Rattle.claim.proofs.Laws as ClaimLaws
+use Rattle.command.proofs.Laws as CommandLaws
+use Rattle.fast.proofs.Laws as FastLaws
+use Rattle.faults.proofs.Laws as FaultsLaws
+use Rattle.message.proofs.Laws as MessageLaws
+use Rattle.nodes.proofs.Laws as NodesLaws
+use Rattle.tiles.proofs.Laws as TilesLaws
 use Rattle.frame.specs.Promises.{refusal_of}
 use Rattle.frame.specs.declared.BadFrame.{BadFrame}
 use Rattle.message.specs.Promises.{refusal_why}
@@ -86,6 +94,10 @@ use Rattle.demands.specs.Numbers.{in_table, EveryNumber}
 
 listed : {n r : ℕ} → r ≡ n → in_table n ≡ true → in_table r ≡ true
 listed e t = rw e t
+
+-- a number that an answer's law says to be another one, which is listed
+by_law : {n r m : ℕ} → r ≡ n → m ≡ n → in_table m ≡ true → in_table r ≡ true
+by_law e k t = listed (e ∙ sym k) t
 
 bad : (why : BadFrame) → in_table (refusal_of why) ≡ true
 bad = elim [
@@ -317,7 +329,7 @@ every_number =
       message_not_split = λ why r p. listed p.number (message_not_split_listed why);
       message_bad_state = λ why r p. listed p.number (message_bad_state_listed why);
       message_not_heard = λ why r p. listed p.number (message_not_heard_listed why);
-      message_answer = λ answer r p. listed p.number (answered MessagePromises.number_of_not_heard message_not_heard_listed answer);
+      message_answer = λ answer r p. by_law p.number (MessageLaws.answer_refusal_told answer).number (answered MessagePromises.number_of_not_heard message_not_heard_listed answer);
       message_pausing = λ answer r p. listed p.number (answered MessagePromises.number_of_bad_state message_bad_state_listed answer);
       message_announcing = λ answer r p. listed p.number (answered MessagePromises.refusal_why message_unsplittable_listed answer);
       message_splitting = λ answer r p. listed p.number (answered MessagePromises.number_of_not_split message_not_split_listed answer);
@@ -327,7 +339,7 @@ every_number =
       fast_not_heard = λ why r p. listed p.number (fast_not_heard_listed why);
       fast_bad_list = λ why r p. listed p.number (fast_bad_list_listed why);
       fast_starting = λ answer r p. listed p.number (answered FastPromises.number_of_bad_list fast_bad_list_listed answer);
-      fast_answer = λ answer r p. listed p.number (answered FastPromises.number_of_not_heard fast_not_heard_listed answer);
+      fast_answer = λ answer r p. by_law p.number (FastLaws.answer_refusal_told answer).number (answered FastPromises.number_of_not_heard fast_not_heard_listed answer);
       fast_pausing = λ answer r p. listed p.number (answered FastPromises.number_of_bad_state fast_bad_state_listed answer);
       fast_splitting = λ answer r p. listed p.number (answered FastPromises.number_of_not_split fast_not_split_listed answer);
       catalogue_not_written = λ why r p. listed p.number (catalogue_not_written_listed why);
@@ -336,46 +348,46 @@ every_number =
       catalogue_looked = λ answer r p. listed p.number (answered CataloguePromises.number_of_not_found catalogue_not_found_listed answer);
       catalogue_reading = λ answer r p. listed p.number (answered CataloguePromises.number_of_not_read catalogue_not_read_listed answer);
       catalogue_scaled_reading = λ answer r p. listed p.number (answered CataloguePromises.number_of_not_read catalogue_not_read_listed answer);
-      catalogue_writing = λ answer r p. listed p.number (answered CataloguePromises.number_of_not_written catalogue_not_written_listed answer);
+      catalogue_writing = λ answer r p. by_law p.number (CatalogueLaws.writing_refusal_told answer).number (answered CataloguePromises.number_of_not_written catalogue_not_written_listed answer);
       claim_bad_state = λ why r p. listed p.number (claim_bad_state_listed why);
       claim_not_heard = λ why r p. listed p.number (claim_not_heard_listed why);
       claim_not_started = λ why r p. listed p.number (claim_not_started_listed why);
-      claim_starting = λ answer r p. listed p.number (answered ClaimPromises.number_of_not_started claim_not_started_listed answer);
-      claim_hearing = λ answer r p. listed p.number (answered ClaimPromises.number_of_not_heard claim_not_heard_listed answer);
-      claim_pausing = λ answer r p. listed p.number (answered ClaimPromises.number_of_bad_state claim_bad_state_listed answer);
-      claim_standing = λ answer r p. listed p.number (answered ClaimPromises.number_of_bad_state claim_bad_state_listed answer);
-      claim_sending = λ answer r p. listed p.number (answered ClaimPromises.number_of_bad_state claim_bad_state_listed answer);
+      claim_starting = λ answer r p. by_law p.number (ClaimLaws.starting_refusal_told answer).number (answered ClaimPromises.number_of_not_started claim_not_started_listed answer);
+      claim_hearing = λ answer r p. by_law p.number (ClaimLaws.hearing_refusal_told answer).number (answered ClaimPromises.number_of_not_heard claim_not_heard_listed answer);
+      claim_pausing = λ answer r p. by_law p.number (ClaimLaws.pausing_refusal_told answer).number (answered ClaimPromises.number_of_bad_state claim_bad_state_listed answer);
+      claim_standing = λ answer r p. by_law p.number (ClaimLaws.standing_refusal_told answer).number (answered ClaimPromises.number_of_bad_state claim_bad_state_listed answer);
+      claim_sending = λ answer r p. by_law p.number (ClaimLaws.sending_refusal_told answer).number (answered ClaimPromises.number_of_bad_state claim_bad_state_listed answer);
       nodes_not_heard = λ why r p. listed p.number (nodes_not_heard_listed why);
       nodes_bad_table = λ why r p. listed p.number (nodes_bad_table_listed why);
-      nodes_hearing = λ answer r p. listed p.number (answered NodesPromises.number_of_not_heard nodes_not_heard_listed answer);
+      nodes_hearing = λ answer r p. by_law p.number (NodesLaws.hearing_refusal_told answer).number (answered NodesPromises.number_of_not_heard nodes_not_heard_listed answer);
       nodes_pausing = λ answer r p. listed p.number (answered NodesPromises.number_of_bad_table nodes_bad_table_listed answer);
-      nodes_looked_up = λ answer r p. listed p.number (answered NodesPromises.number_of_bad_table nodes_bad_table_listed answer);
+      nodes_looked_up = λ answer r p. by_law p.number (NodesLaws.looked_up_refusal_told answer).number (answered NodesPromises.number_of_bad_table nodes_bad_table_listed answer);
       nodes_found_address = λ answer r p. listed p.number (answered NodesPromises.number_of_bad_table nodes_bad_table_listed answer);
-      nodes_found_challenger = λ answer r p. listed p.number (answered NodesPromises.number_of_bad_table nodes_bad_table_listed answer);
+      nodes_found_challenger = λ answer r p. by_law p.number (NodesLaws.found_challenger_refusal_told answer).number (answered NodesPromises.number_of_bad_table nodes_bad_table_listed answer);
       command_not_acknowledged = λ why r p. listed p.number (command_not_acknowledged_listed why);
       command_not_answered = λ why r p. listed p.number (command_not_answered_listed why);
       command_not_routed = λ why r p. listed p.number (command_not_routed_listed why);
       command_not_started = λ why r p. listed p.number (command_not_started_listed why);
-      command_starting = λ answer r p. listed p.number (answered CommandPromises.number_of_not_started command_not_started_listed answer);
-      command_routing = λ answer r p. listed p.number (answered CommandPromises.number_of_not_routed command_not_routed_listed answer);
-      command_requesting = λ answer r p. listed p.number (answered CommandPromises.number_of_not_answered command_not_answered_listed answer);
-      command_acknowledging = λ answer r p. listed p.number (answered CommandPromises.number_of_not_acknowledged command_not_acknowledged_listed answer);
+      command_starting = λ answer r p. by_law p.number (CommandLaws.starting_refusal_told answer).number (answered CommandPromises.number_of_not_started command_not_started_listed answer);
+      command_routing = λ answer r p. by_law p.number (CommandLaws.routing_refusal_told answer).number (answered CommandPromises.number_of_not_routed command_not_routed_listed answer);
+      command_requesting = λ answer r p. by_law p.number (CommandLaws.requesting_refusal_told answer).number (answered CommandPromises.number_of_not_answered command_not_answered_listed answer);
+      command_acknowledging = λ answer r p. by_law p.number (CommandLaws.acknowledging_refusal_told answer).number (answered CommandPromises.number_of_not_acknowledged command_not_acknowledged_listed answer);
       faults_not_heard = λ why r p. listed p.number (faults_not_heard_listed why);
       faults_not_stepped = λ why r p. listed p.number (faults_not_stepped_listed why);
       faults_not_cleared = λ why r p. listed p.number (faults_not_cleared_listed why);
       faults_not_added = λ why r p. listed p.number (faults_not_added_listed why);
       faults_service_point = λ answer r p. listed p.number (answered CataloguePromises.number_of_not_read catalogue_not_read_listed answer);
       faults_adding = λ answer r p. listed p.number (answered FaultsPromises.number_of_not_added faults_not_added_listed answer);
-      faults_clearing = λ answer r p. listed p.number (answered FaultsPromises.number_of_not_cleared faults_not_cleared_listed answer);
-      faults_stepping = λ answer r p. listed p.number (answered FaultsPromises.number_of_not_stepped faults_not_stepped_listed answer);
-      faults_requesting = λ answer r p. listed p.number (answered FaultsPromises.number_of_not_heard faults_not_heard_listed answer);
+      faults_clearing = λ answer r p. by_law p.number (FaultsLaws.clearing_refusal_told answer).number (answered FaultsPromises.number_of_not_cleared faults_not_cleared_listed answer);
+      faults_stepping = λ answer r p. by_law p.number (FaultsLaws.stepping_refusal_told answer).number (answered FaultsPromises.number_of_not_stepped faults_not_stepped_listed answer);
+      faults_requesting = λ answer r p. by_law p.number (FaultsLaws.requesting_refusal_told answer).number (answered FaultsPromises.number_of_not_heard faults_not_heard_listed answer);
       capture_not_read = λ why r p. listed p.number (capture_not_read_listed why);
       capture_reading = λ answer r p. listed p.number
           (elim answer as (λ k. in_table (number_in (CapturePromises.told_reading k CapturePromises.no_frame)) ≡ true) [ Ok done ↦ refl | Err why ↦ capture_not_read_listed why ]);
       tiles_not_shown = λ why r p. listed p.number (tiles_not_shown_listed why);
       tiles_not_heard = λ why r p. listed p.number (tiles_not_heard_listed why);
       tiles_not_named = λ why r p. listed p.number (tiles_not_named_listed why);
-      tiles_naming = λ answer r p. listed p.number (answered TilesPromises.number_of_not_named tiles_not_named_listed answer);
+      tiles_naming = λ answer r p. by_law p.number (TilesLaws.naming_refusal_told answer).number (answered TilesPromises.number_of_not_named tiles_not_named_listed answer);
       tiles_hearing = λ answer r p. listed p.number (answered TilesPromises.number_of_not_heard tiles_not_heard_listed answer);
       tiles_asking = λ answer r p. listed p.number (answered TilesPromises.number_of_not_shown tiles_not_shown_listed answer);
     }

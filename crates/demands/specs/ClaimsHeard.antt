@@ -9,9 +9,8 @@ use Rattle.claim.specs.Promises.{is_sound}
 use Rattle.claim.specs.declared.Claim.{Claim}
 use Rattle.nodes.specs.Table.{addresses, keeps_rules, claimed_of}
 use Rattle.nodes.specs.Call.{claim_outcome}
-use Rattle.nodes.specs.Promises.{Hear, told_hearing}
+use Rattle.nodes.specs.Promises.{Hearing, Hear, told_hearing}
 use Rattle.nodes.specs.declared.Node.{Node}
-use Rattle.nodes.specs.declared.Hearing.{Hearing}
 
 -- Whatever frame `claim` says is to be sent (it is the frame of our claim in the state that the call leaves), a table
 -- that hears it is told what a claim of our NAME from our address, or from 254, comes to, and is left as that claim
