@@ -29,6 +29,7 @@ use Rattle.capture.proofs.Digits.{spelled_read, read_spelled, read_below}
 use Rattle.capture.proofs.Lines.{no_shape}
 use Rattle.capture.proofs.Writing.{gap_width, line_length_of}
 use Rattle.capture.proofs.OneSpelling.{written_read, read_written}
+use Rattle.capture.specs.Laws.{ReadingRefusalTold}
 
 -- An answer is read back from what it tells.
 
@@ -82,6 +83,10 @@ not_read_refusal_only why r s p q = p.number ∙ sym q.number
 
 pub reading_refusal_only : ReadingRefusalOnly
 reading_refusal_only answer r s p q = p.number ∙ sym q.number
+
+pub reading_refusal_told : ReadingRefusalTold
+reading_refusal_told (Ok value) = record { number = refl }
+reading_refusal_told (Err why) = record { number = refl }
 
 -- what a refusal leaves
 pub malformed_keeps : MalformedKeeps

@@ -20,6 +20,8 @@ use Rattle.capture.specs.declared.Cutter.{Cutter}
 use Rattle.capture.specs.declared.Cut.{Cut}
 use Rattle.capture.specs.declared.Cutting.TheVariants as Cutting
 use Rattle.capture.specs.declared.Ending.{Ending}
+use Rattle.capture.specs.Promises.{number_of_not_read}
+use Rattle.words.specs.Words.{number_of_answer}
 
 -- An answer read as number and values loses nothing (RULES 2.10).
 abbrev pub ToldReadingSame : Type 0
@@ -47,6 +49,9 @@ NotReadRefusalOnly = (why : NotRead) (r s : ℕ) → NotReadRefusal why r → No
 
 abbrev pub ReadingRefusalOnly : Type 0
 ReadingRefusalOnly = (answer : Reading) (r s : ℕ) → ReadingRefusal answer r → ReadingRefusal answer s → r ≡ s
+
+abbrev pub ReadingRefusalTold : Type 0
+ReadingRefusalTold = (answer : Reading) → ReadingRefusal answer (number_of_answer number_of_not_read answer)
 
 -- A refusal gives nothing (RULES 2.4 and 2.6): zeros stand beside it.
 abbrev pub MalformedKeeps : Type 0

@@ -50,6 +50,7 @@ use Rattle.catalogue.proofs.Instances as Instances
 use Rattle.catalogue.proofs.Codes.{scaled_of_lem, code_given}
 use Rattle.catalogue.proofs.Found.{given_then, found, found_frame, for_bad, for_sound, read_none, read_row}
 use Rattle.catalogue.proofs.Found.{scaled_none, scaled_row, write_none, write_uncoded}
+use Rattle.catalogue.specs.Laws.{LookedRefusalTold, ReadingRefusalTold, ScaledReadingRefusalTold, WritingRefusalTold}
 
 -- an answer is read back from what it tells: no two refusals of a call have one number
 
@@ -172,14 +173,30 @@ not_written_refusal_only why r s p q = p.number ∙ sym q.number
 pub looked_refusal_only : Laws.LookedRefusalOnly
 looked_refusal_only answer r s p q = p.number ∙ sym q.number
 
+pub looked_refusal_told : LookedRefusalTold
+looked_refusal_told (Ok value) = record { number = refl }
+looked_refusal_told (Err why) = record { number = refl }
+
 pub reading_refusal_only : Laws.ReadingRefusalOnly
 reading_refusal_only answer r s p q = p.number ∙ sym q.number
+
+pub reading_refusal_told : ReadingRefusalTold
+reading_refusal_told (Ok value) = record { number = refl }
+reading_refusal_told (Err why) = record { number = refl }
 
 pub scaled_reading_refusal_only : Laws.ScaledReadingRefusalOnly
 scaled_reading_refusal_only answer r s p q = p.number ∙ sym q.number
 
+pub scaled_reading_refusal_told : ScaledReadingRefusalTold
+scaled_reading_refusal_told (Ok value) = record { number = refl }
+scaled_reading_refusal_told (Err why) = record { number = refl }
+
 pub writing_refusal_only : Laws.WritingRefusalOnly
 writing_refusal_only answer r s p q = p.number ∙ sym q.number
+
+pub writing_refusal_told : WritingRefusalTold
+writing_refusal_told (Ok value) = record { number = refl }
+writing_refusal_told (Err why) = record { number = refl }
 
 kept : (t : Told (List ℕ)) (bytes : List ℕ) (k : ℕ) → done_if t ≡ refused k → bytes_after t bytes ≡ bytes
 kept (gives new) bytes k e = refused_gives (sym e)

@@ -37,6 +37,10 @@ use Rattle.catalogue.specs.declared.Field.{Field}
 use Rattle.catalogue.specs.declared.Class.{Class}
 use Rattle.catalogue.specs.declared.Class.TheVariants.{Number, NoData, OutOfRange, Reserved}
 use Rattle.catalogue.specs.declared.Value.{Value}
+use Rattle.catalogue.specs.Promises.{number_of_not_found}
+use Rattle.words.specs.Words.{number_of_answer}
+use Rattle.catalogue.specs.Promises.{number_of_not_read}
+use Rattle.catalogue.specs.Promises.{number_of_not_written}
 
 -- An answer read as number and values loses nothing (RULES 2.10).
 
@@ -127,15 +131,27 @@ NotWrittenRefusalOnly = (why : NotWritten) (r s : ℕ) → NotWrittenRefusal why
 abbrev pub LookedRefusalOnly : Type 0
 LookedRefusalOnly = (answer : Looked) (r s : ℕ) → LookedRefusal answer r → LookedRefusal answer s → r ≡ s
 
+abbrev pub LookedRefusalTold : Type 0
+LookedRefusalTold = (answer : Looked) → LookedRefusal answer (number_of_answer number_of_not_found answer)
+
 abbrev pub ReadingRefusalOnly : Type 0
 ReadingRefusalOnly = (answer : Reading) (r s : ℕ) → ReadingRefusal answer r → ReadingRefusal answer s → r ≡ s
+
+abbrev pub ReadingRefusalTold : Type 0
+ReadingRefusalTold = (answer : Reading) → ReadingRefusal answer (number_of_answer number_of_not_read answer)
 
 abbrev pub ScaledReadingRefusalOnly : Type 0
 ScaledReadingRefusalOnly =
     (answer : ScaledReading) (r s : ℕ) → ScaledReadingRefusal answer r → ScaledReadingRefusal answer s → r ≡ s
 
+abbrev pub ScaledReadingRefusalTold : Type 0
+ScaledReadingRefusalTold = (answer : ScaledReading) → ScaledReadingRefusal answer (number_of_answer number_of_not_read answer)
+
 abbrev pub WritingRefusalOnly : Type 0
 WritingRefusalOnly = (answer : Writing) (r s : ℕ) → WritingRefusal answer r → WritingRefusal answer s → r ≡ s
+
+abbrev pub WritingRefusalTold : Type 0
+WritingRefusalTold = (answer : Writing) → WritingRefusal answer (number_of_answer number_of_not_written answer)
 
 -- A refused write leaves the frame's bytes.
 abbrev pub RefusedKeeps : Type 0

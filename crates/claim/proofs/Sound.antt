@@ -1,9 +1,9 @@
--- What a state that keeps its rules and holds its list is, in plain facts; and what the code's tests show of it.
+-- What a state that keeps its rules and holds its list is, in plain facts.
 -- Assumes nothing.
 use Rattle.std.specs.Prelude.{if◌then◌else◌}
-use mathlib.Core.Path.{◌≡◌, sym, ◌∙◌}
-use mathlib.Core.Bool.{Bool, true, false}
-use Prim.Native.Nat.{ℕ, ◌+◌, ◌-◌, ◌≤◌, ◌<◌, min}
+use mathlib.Core.Path.{◌≡◌, ◌∙◌}
+use mathlib.Core.Bool.{true, false}
+use Prim.Native.Nat.{ℕ, ◌+◌, ◌≤◌, ◌<◌, min}
 use native.Mathlib.Omega.{arith}
 use borrow.Author.Tests.{eq-eqb, lt-ltb, le-leb, ltb-true, leb-true, eqb-true}
 use lib.ListN.{take}
@@ -46,21 +46,6 @@ of_rules c k =
     (λ s. let f = k.still s in rw (s, eq-eqb c.position 0 f.0, eq-eqb c.wait 0 f.1))
     (λ s. rw s))
 
--- a state of which some rule does not hold
-pub broken_by : (c : Claim) → (Rules c → ⊥) → false ≡ keeps_rules c
-broken_by c broken = by_test (keeps_rules c) (λ k. absurd (broken (rules_of c k))) sym
-
--- the two tests of the count, which are the code's last
-module _ (c : Claim) (b : Bool) (inside : c.position < c.candidates) (short : c.wait ≤ held_after) where
-  pub awake_rules : c.silent ≡ false → b ≡ (c.losses =? c.position) → b ≡ keeps_rules c
-  unfolding keeps_rules
-  awake_rules s e = e ∙ sym (rw (lt-ltb _ _ inside, le-leb _ _ short, s))
-
-  pub silent_rules : c.silent ≡ true → c.position ≡ 0 → c.wait ≡ 0 → b ≡ (c.losses =? c.candidates)
-      → b ≡ keeps_rules c
-  unfolding keeps_rules
-  silent_rules s p w e = e ∙ sym (rw (lt-ltb _ _ inside, le-leb _ _ short, s, eq-eqb _ _ p, eq-eqb _ _ w))
-
 -- the count of a state that keeps its rules
 
 pub count_awake : (c : Claim) → Rules c → c.silent ≡ false → c.losses ≡ c.position
@@ -85,18 +70,13 @@ holds_of c e =
     let a = both_true (c.candidates ≤? longest_list) _ e in
     record { few = leb-true _ _ a.0; formed = a.1 }
 
--- the code's test of a held list
-pub holds_list_lem : (c : Claim) (b : Bool) → c.candidates ≤ longest_list → b ≡ is_well_formed (take (c.candidates - 0) c.list) → b ≡ holds_list c
-unfolding holds_list
-holds_list_lem c b h e = let z : c.candidates - 0 ≡ c.candidates = omega arith in rw (le-leb _ _ h) (rw z at e)
-
 -- the address that a sound state stands at is one of its list, so neither 254 nor 255
 pub address_low : (c : Claim) → Rules c → Holds c → address c ≤ greatest_address
 address_low c k h =
     let w = well_formed (take c.candidates c.list) h.formed in
     rw (← get_or-take c.candidates c.list c.position 0 k.inside) (address_at (take c.candidates c.list) c.position w.low)
 
--- a pause in its three cases
+-- a pause in its two cases
 
 pub pause_silent : (ms : ℕ) (c : Claim) → c.silent ≡ true → pause ms c ≡ c
 unfolding pause
@@ -105,9 +85,3 @@ pause_silent ms c s = rw s
 pub pause_awake : (ms : ℕ) (c : Claim) → c.silent ≡ false → pause ms c ≡ waited (min held_after (c.wait + ms)) c
 unfolding pause
 pause_awake ms c s = rw s
-
-pub pause_over : (ms : ℕ) (c : Claim) → c.silent ≡ false → held_after < c.wait + ms → pause ms c ≡ waited held_after c
-pause_over ms c s h = let e : min held_after (c.wait + ms) ≡ held_after = omega arith in pause_awake ms c s ∙ rw e
-
-pub pause_under : (ms : ℕ) (c : Claim) → c.silent ≡ false → c.wait + ms ≤ held_after → pause ms c ≡ waited (c.wait + ms) c
-pause_under ms c s h = let e : min held_after (c.wait + ms) ≡ c.wait + ms = omega arith in pause_awake ms c s ∙ rw e

@@ -193,7 +193,7 @@ impl Claim {
         };
         Started {
             claim,
-            answer: Ok(()),
+            answer: Ok(()), // started
             id: state::claim_id(claim),
             bytes: frame::bytes_of(name),
         }

@@ -1,4 +1,6 @@
 // A claim's state: the steps that change it, the frame of its claim, where it stands.
+// That the position is one of the array is asked for, and stands in no type: the state is public and goes by value, and
+// one that breaks its rules is handed back as it came (`HearRefusedKeeps`).
 ghost use Rattle.std.specs.Prelude.{◌≡◌, true, ◌≤◌, ◌<◌, if◌then◌else◌};
 ghost use Rattle.words.specs.Words.{◌=?◌, ◌and◌};
 ghost use Rattle.claim.specs.Claim.{losses_at, claim_source, claim_id, stand_of, at_next, fallen, pause};

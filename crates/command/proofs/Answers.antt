@@ -1,6 +1,7 @@
 -- The steps by which each call comes to its answer, and answers with nothing beside them.
 -- Assumes nothing.
-use Rattle.std.specs.Prelude.{Ok, if◌then◌else◌}
+use Rattle.std.specs.Result.{IsOk}
+use Rattle.std.specs.Prelude.{Ok, Err, if◌then◌else◌}
 use mathlib.Core.Path.{◌≡◌, refl, sym, ap, ◌∙◌}
 use mathlib.Core.Bool.{true, false}
 use mathlib.Core.List.{List, [], ◌∷◌}
@@ -22,7 +23,7 @@ use Rattle.claim.specs.Promises.{number_of_not_heard, Standing, is_sound, sound_
 use Rattle.claim.specs.declared.Claim.{Claim}
 use Rattle.claim.specs.declared.NotHeard.{NotHeard}
 use Rattle.claim.proofs.Calls.{sound_well}
-use Rattle.words.proofs.Words.{both_true}
+use Rattle.words.proofs.Words.{both_true, refused_gives}
 use Rattle.command.specs.Hosted.{hosted}
 use Rattle.command.specs.Positions.{positions_where, filled, listed}
 use Rattle.command.specs.Handed.{handed_in, address_held}
@@ -95,6 +96,11 @@ pub sound_stands : (c : Claim) (r : Standing) → is_sound c ≡ true → told_s
 sound_stands c r s e =
     let b = both_true (keeps_rules c) (holds_list c) s in
     e ∙ rw (sound_well c b.0 b.1).0
+
+-- an answer that gives is Ok
+pub stands_ok : (r : Standing) (s : Stand) → told_standing r ≡ gives s → IsOk r
+stands_ok (Ok place) s e = refl
+stands_ok (Err why) s e = refused_gives e
 
 -- an acknowledgment, step by step
 

@@ -40,7 +40,7 @@ pub enum Edition {
 }
 
 // A host: the hosted list, `count` entries and then entries of zeros, and the edition chosen at its start.
-// The list stands with its count beside it, for the fields are public, and `PastCountIgnored` speaks of what stands past
+// The list stands with its count beside it, for the fields are public, and `PastCountIgnored` speaks of what is behind
 // the count.
 #[derive(Clone, Copy)]
 pub struct Host {
@@ -263,7 +263,7 @@ impl Host {
         }
         Started {
             host: hosted::begun(host),
-            answer: Ok(()),
+            answer: Ok(()), // hosted
         }
     }
 

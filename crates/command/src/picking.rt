@@ -1,4 +1,6 @@
 // The positions of the entries that a frame asks for, in one loop for commands and requests.
+// That a host has at most 16 entries is asked for, and stands in no type: hosts are public, and one with more is
+// refused (`LowestWins`).
 ghost use Rattle.std.specs.Prelude.{◌≡◌, [], ◌<◌, ◌≤◌};
 ghost use Rattle.command.specs.Positions.{filled};
 ghost use Rattle.command.specs.Private.{added, Picks};

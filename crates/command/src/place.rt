@@ -9,8 +9,5 @@ pub fn of(claim: Claim) -> Place
     requires { is_sound claim ≡ true }
     ensures { stands_at result ≡ stand_of claim }
 {
-    match claim.stands() {
-        Ok(place) => place,
-        Err(_) => Place::Silent,
-    }
+    claim.stands().unwrap()
 }

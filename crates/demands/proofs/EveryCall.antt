@@ -1,8 +1,9 @@
 -- The first demand: each call's own proof, its promise, and the law that the promise leaves one answer.
 -- Assumes nothing.
-use mathlib.Core.Path.{◌≡◌, refl, ap}
+use mathlib.Core.Path.{◌≡◌, refl, sym, ap, ◌∙◌}
 use seplogic.Ra.Ura.{Ura}
 use contract.Notation.{connectives}
+use Rattle.words.proofs.ResultRefusal.refusal.Met as words_result_refusal
 use Rattle.frame.specs.Promises as frame_promises
 use Rattle.frame.proofs.Laws as Frame
 use Rattle.frame.proofs.take_apart.Met as frame_take_apart
@@ -12,10 +13,9 @@ use Rattle.frame.proofs.destination_of.Met as frame_destination_of
 use Rattle.frame.proofs.catalogue_form.Met as frame_catalogue_form
 use Rattle.frame.proofs.number_of.Met as frame_number_of
 use Rattle.frame.proofs.bytes_of.Met as frame_bytes_of
-use Rattle.frame.proofs.Apart.refusal.Met as frame_apart_refusal
-use Rattle.frame.proofs.Formed.refusal.Met as frame_formed_refusal
-use Rattle.frame.proofs.Verdict.refusal.Met as frame_verdict_refusal
-use Rattle.frame.proofs.BadFrame.refusal.Met as frame_bad_frame_refusal
+use Rattle.frame.proofs.BadIdentifierRefusal.refusal.Met as frame_bad_identifier_refusal
+use Rattle.frame.proofs.NotFormedRefusal.refusal.Met as frame_not_formed_refusal
+use Rattle.frame.proofs.BadFrameRefusal.refusal.Met as frame_bad_frame_refusal
 use Rattle.frame.proofs.dgn_bytes.Met as frame_dgn_bytes
 use Rattle.frame.proofs.dgn_of.Met as frame_dgn_of
 use Rattle.message.specs.Promises as message_promises
@@ -26,22 +26,21 @@ use Rattle.message.proofs.Receiver.pause.Met as message_pause
 use Rattle.message.proofs.message.Met as message_message
 use Rattle.message.proofs.announcement.Met as message_announcement
 use Rattle.message.proofs.packet.Met as message_packet
-use Rattle.message.proofs.Answer.refusal.Met as message_answer_refusal
-use Rattle.message.proofs.Pausing.refusal.Met as message_pausing_refusal
-use Rattle.message.proofs.Announcing.refusal.Met as message_announcing_refusal
-use Rattle.message.proofs.Splitting.refusal.Met as message_splitting_refusal
-use Rattle.message.proofs.Unsplittable.refusal.Met as message_unsplittable_refusal
+use Rattle.message.proofs.NotHeardRefusal.refusal.Met as message_not_heard_refusal
+use Rattle.message.proofs.BadStateRefusal.refusal.Met as message_bad_state_refusal
+use Rattle.message.proofs.UnsplittableRefusal.refusal.Met as message_unsplittable_refusal
+use Rattle.message.proofs.NotSplitRefusal.refusal.Met as message_not_split_refusal
 use Rattle.fast.specs.Promises as fast_promises
 use Rattle.fast.proofs.Laws as Fast
 use Rattle.fast.proofs.Receiver.start.Met as fast_start
-use Rattle.fast.proofs.Starting.refusal.Met as fast_starting_refusal
+use Rattle.fast.proofs.BadListRefusal.refusal.Met as fast_bad_list_refusal
+use Rattle.fast.proofs.NotHeardRefusal.refusal.Met as fast_not_heard_refusal
+use Rattle.fast.proofs.BadStateRefusal.refusal.Met as fast_bad_state_refusal
+use Rattle.fast.proofs.NotSplitRefusal.refusal.Met as fast_not_split_refusal
 use Rattle.fast.proofs.Receiver.hear.Met as fast_hear
-use Rattle.fast.proofs.Answer.refusal.Met as fast_answer_refusal
 use Rattle.fast.proofs.Receiver.pause.Met as fast_pause
-use Rattle.fast.proofs.Pausing.refusal.Met as fast_pausing_refusal
 use Rattle.fast.proofs.message.Met as fast_message
 use Rattle.fast.proofs.frame_of.Met as fast_frame_of
-use Rattle.fast.proofs.Splitting.refusal.Met as fast_splitting_refusal
 use Rattle.catalogue.specs.Promises as catalogue_promises
 use Rattle.catalogue.proofs.Laws as Catalogue
 use Rattle.catalogue.proofs.rows.Met as catalogue_rows
@@ -53,10 +52,9 @@ use Rattle.catalogue.proofs.classify.Met as catalogue_classify
 use Rattle.catalogue.proofs.read.Met as catalogue_read
 use Rattle.catalogue.proofs.read_scaled.Met as catalogue_read_scaled
 use Rattle.catalogue.proofs.write.Met as catalogue_write
-use Rattle.catalogue.proofs.Looked.refusal.Met as catalogue_looked_refusal
-use Rattle.catalogue.proofs.Reading.refusal.Met as catalogue_reading_refusal
-use Rattle.catalogue.proofs.ScaledReading.refusal.Met as catalogue_scaled_reading_refusal
-use Rattle.catalogue.proofs.Writing.refusal.Met as catalogue_writing_refusal
+use Rattle.catalogue.proofs.NotFoundRefusal.refusal.Met as catalogue_not_found_refusal
+use Rattle.catalogue.proofs.NotReadRefusal.refusal.Met as catalogue_not_read_refusal
+use Rattle.catalogue.proofs.NotWrittenRefusal.refusal.Met as catalogue_not_written_refusal
 use Rattle.catalogue.proofs.row_of.Met as catalogue_row_of
 use Rattle.catalogue.proofs.packed_rows.Met as catalogue_packed_rows
 use Rattle.catalogue.proofs.row_in.Met as catalogue_row_in
@@ -74,11 +72,9 @@ use Rattle.claim.proofs.Claim.stands.Met as claim_stands
 use Rattle.claim.proofs.Claim.our_claim.Met as claim_our_claim
 use Rattle.claim.proofs.Claim.keeps_rules.Met as claim_keeps_rules
 use Rattle.claim.proofs.Claim.holds_list.Met as claim_holds_list
-use Rattle.claim.proofs.Starting.refusal.Met as claim_starting_refusal
-use Rattle.claim.proofs.Hearing.refusal.Met as claim_hearing_refusal
-use Rattle.claim.proofs.Pausing.refusal.Met as claim_pausing_refusal
-use Rattle.claim.proofs.Standing.refusal.Met as claim_standing_refusal
-use Rattle.claim.proofs.Sending.refusal.Met as claim_sending_refusal
+use Rattle.claim.proofs.NotStartedRefusal.refusal.Met as claim_not_started_refusal
+use Rattle.claim.proofs.NotHeardRefusal.refusal.Met as claim_not_heard_refusal
+use Rattle.claim.proofs.BadStateRefusal.refusal.Met as claim_bad_state_refusal
 use Rattle.nodes.specs.Promises as nodes_promises
 use Rattle.nodes.proofs.Laws as Nodes
 use Rattle.nodes.proofs.empty.Met as nodes_empty
@@ -87,21 +83,18 @@ use Rattle.nodes.proofs.pause.Met as nodes_pause
 use Rattle.nodes.proofs.look_up.Met as nodes_look_up
 use Rattle.nodes.proofs.find_address.Met as nodes_find_address
 use Rattle.nodes.proofs.find_challenger.Met as nodes_find_challenger
-use Rattle.nodes.proofs.Hearing.refusal.Met as nodes_hearing_refusal
-use Rattle.nodes.proofs.Pausing.refusal.Met as nodes_pausing_refusal
-use Rattle.nodes.proofs.LookedUp.refusal.Met as nodes_looked_up_refusal
-use Rattle.nodes.proofs.FoundAddress.refusal.Met as nodes_found_address_refusal
-use Rattle.nodes.proofs.FoundChallenger.refusal.Met as nodes_found_challenger_refusal
+use Rattle.nodes.proofs.BadTableRefusal.refusal.Met as nodes_bad_table_refusal
+use Rattle.nodes.proofs.NotHeardRefusal.refusal.Met as nodes_not_heard_refusal
 use Rattle.command.specs.Promises as command_promises
 use Rattle.command.proofs.Laws as Command
 use Rattle.command.proofs.Host.start.Met as command_start
 use Rattle.command.proofs.Host.route.Met as command_route
 use Rattle.command.proofs.Host.request.Met as command_request
 use Rattle.command.proofs.acknowledge.Met as command_acknowledge
-use Rattle.command.proofs.Starting.refusal.Met as command_starting_refusal
-use Rattle.command.proofs.Routing.refusal.Met as command_routing_refusal
-use Rattle.command.proofs.Requesting.refusal.Met as command_requesting_refusal
-use Rattle.command.proofs.Acknowledging.refusal.Met as command_acknowledging_refusal
+use Rattle.command.proofs.NotStartedRefusal.refusal.Met as command_not_started_refusal
+use Rattle.command.proofs.NotRoutedRefusal.refusal.Met as command_not_routed_refusal
+use Rattle.command.proofs.NotAnsweredRefusal.refusal.Met as command_not_answered_refusal
+use Rattle.command.proofs.NotAcknowledgedRefusal.refusal.Met as command_not_acknowledged_refusal
 use Rattle.faults.specs.Promises as faults_promises
 use Rattle.faults.proofs.FieldLaws as FaultsFields
 use Rattle.faults.proofs.Laws as Faults
@@ -111,17 +104,16 @@ use Rattle.faults.proofs.read.Met as faults_read
 use Rattle.faults.proofs.write.Met as faults_write
 use Rattle.faults.proofs.read_service_point.Met as faults_read_service_point
 use Rattle.faults.proofs.write_service_point.Met as faults_write_service_point
-use Rattle.faults.proofs.ServicePoint.refusal.Met as faults_service_point_refusal
+use Rattle.faults.proofs.NotAddedRefusal.refusal.Met as faults_not_added_refusal
+use Rattle.faults.proofs.NotClearedRefusal.refusal.Met as faults_not_cleared_refusal
+use Rattle.faults.proofs.NotSteppedRefusal.refusal.Met as faults_not_stepped_refusal
+use Rattle.faults.proofs.NotHeardRefusal.refusal.Met as faults_not_heard_refusal
 use Rattle.faults.proofs.Sender.start.Met as faults_start
 use Rattle.faults.proofs.Sender.add.Met as faults_add
 use Rattle.faults.proofs.Sender.clear.Met as faults_clear
 use Rattle.faults.proofs.Sender.step.Met as faults_step
 use Rattle.faults.proofs.Sender.request.Met as faults_request
 use Rattle.faults.proofs.Sender.reply.Met as faults_reply
-use Rattle.faults.proofs.Adding.refusal.Met as faults_adding_refusal
-use Rattle.faults.proofs.Clearing.refusal.Met as faults_clearing_refusal
-use Rattle.faults.proofs.Stepping.refusal.Met as faults_stepping_refusal
-use Rattle.faults.proofs.Requesting.refusal.Met as faults_requesting_refusal
 use Rattle.capture.specs.Promises as capture_promises
 use Rattle.capture.proofs.Laws as Capture
 use Rattle.capture.proofs.take_apart.Met as capture_take_apart
@@ -129,7 +121,7 @@ use Rattle.capture.proofs.write.Met as capture_write
 use Rattle.capture.proofs.Cutter.new.Met as capture_new
 use Rattle.capture.proofs.Cutter.next.Met as capture_next
 use Rattle.capture.proofs.Cutter.last.Met as capture_last
-use Rattle.capture.proofs.Reading.refusal.Met as capture_reading_refusal
+use Rattle.capture.proofs.NotReadRefusal.refusal.Met as capture_not_read_refusal
 use Rattle.text.specs.Promises as text_promises
 use Rattle.text.proofs.Laws as Text
 use Rattle.text.proofs.put.Met as text_put
@@ -143,9 +135,9 @@ use Rattle.tiles.proofs.Panel.new.Met as tiles_new
 use Rattle.tiles.proofs.Panel.name.Met as tiles_name
 use Rattle.tiles.proofs.Panel.hear.Met as tiles_hear
 use Rattle.tiles.proofs.Panel.reading.Met as tiles_reading
-use Rattle.tiles.proofs.Naming.refusal.Met as tiles_naming_refusal
-use Rattle.tiles.proofs.Hearing.refusal.Met as tiles_hearing_refusal
-use Rattle.tiles.proofs.Asking.refusal.Met as tiles_asking_refusal
+use Rattle.tiles.proofs.NotNamedRefusal.refusal.Met as tiles_not_named_refusal
+use Rattle.tiles.proofs.NotHeardRefusal.refusal.Met as tiles_not_heard_refusal
+use Rattle.tiles.proofs.NotShownRefusal.refusal.Met as tiles_not_shown_refusal
 use Rattle.demands.specs.EveryCall.{AsksNothing, EveryCall}
 
 -- What Rattle makes of a contract with no `requires`.
@@ -161,6 +153,13 @@ lent all both = (both.0, ap all both.1)
 pub every_call : EveryCall
 every_call M =
     record {
+      words_result_refusal = record {
+        meets = words_result_refusal.met;
+        each = λ T E tc td refusals rd ec ed. record {
+          asks_nothing = λ 𝓤 𝓛 mem run κs args ghost. refl;
+          promises = λ 𝓤 𝓛 mem run κs args ghost r. refl;
+        };
+      };
       frame_take_apart = record {
         meets = frame_take_apart.met;
         asks_nothing = free;
@@ -169,13 +168,29 @@ every_call M =
         one_answer = λ κs a r s w v h k. (Frame.take_apart_only a.0 r s h k, refl);
         only = Frame.take_apart_only;
       };
-      frame_apart_refusal = record {
-        meets = frame_apart_refusal.met;
+      frame_bad_identifier_refusal = record {
+        meets = frame_bad_identifier_refusal.met;
         asks_nothing = free;
-        Promise = λ κs a r e. frame_promises.ApartRefusal a.0 r;
+        Promise = λ κs a r e. r ≡ frame_promises.number_of_bad_identifier a.0;
         promises = λ 𝓤 𝓛 mem run κs a ghost r. refl;
-        one_answer = λ κs a r s w v h k. (Frame.apart_refusal_only a.0 r s h k, refl);
-        only = Frame.apart_refusal_only;
+        one_answer = λ κs a r s w v h k. (h ∙ sym k, refl);
+        only = Frame.bad_identifier_refusal_only;
+      };
+      frame_not_formed_refusal = record {
+        meets = frame_not_formed_refusal.met;
+        asks_nothing = free;
+        Promise = λ κs a r e. r ≡ frame_promises.number_of_not_formed a.0;
+        promises = λ 𝓤 𝓛 mem run κs a ghost r. refl;
+        one_answer = λ κs a r s w v h k. (h ∙ sym k, refl);
+        only = Frame.not_formed_refusal_only;
+      };
+      frame_bad_frame_refusal = record {
+        meets = frame_bad_frame_refusal.met;
+        asks_nothing = free;
+        Promise = λ κs a r e. r ≡ frame_promises.refusal_of a.0;
+        promises = λ 𝓤 𝓛 mem run κs a ghost r. refl;
+        one_answer = λ κs a r s w v h k. (h ∙ sym k, refl);
+        only = Frame.bad_frame_refusal_only;
       };
       frame_form = record {
         meets = frame_form.met;
@@ -185,14 +200,6 @@ every_call M =
         one_answer = λ κs a r s w v h k. (Frame.form_only a.0 a.1.0 a.1.1.0 r s h k, refl);
         only = Frame.form_only;
       };
-      frame_formed_refusal = record {
-        meets = frame_formed_refusal.met;
-        asks_nothing = free;
-        Promise = λ κs a r e. frame_promises.FormedRefusal a.0 r;
-        promises = λ 𝓤 𝓛 mem run κs a ghost r. refl;
-        one_answer = λ κs a r s w v h k. (Frame.formed_refusal_only a.0 r s h k, refl);
-        only = Frame.formed_refusal_only;
-      };
       frame_check = record {
         meets = frame_check.met;
         asks_nothing = free;
@@ -200,22 +207,6 @@ every_call M =
         promises = λ 𝓤 𝓛 mem run κs a ghost r. refl;
         one_answer = λ κs a r s w v h k. (Frame.check_only a.0 a.1.0.now r s h k, refl);
         only = Frame.check_only;
-      };
-      frame_verdict_refusal = record {
-        meets = frame_verdict_refusal.met;
-        asks_nothing = free;
-        Promise = λ κs a r e. frame_promises.VerdictRefusal a.0 r;
-        promises = λ 𝓤 𝓛 mem run κs a ghost r. refl;
-        one_answer = λ κs a r s w v h k. (Frame.verdict_refusal_only a.0 r s h k, refl);
-        only = Frame.verdict_refusal_only;
-      };
-      frame_bad_frame_refusal = record {
-        meets = frame_bad_frame_refusal.met;
-        asks_nothing = free;
-        Promise = λ κs a r e. frame_promises.BadFrameRefusal a.0 r;
-        promises = λ 𝓤 𝓛 mem run κs a ghost r. refl;
-        one_answer = λ κs a r s w v h k. (Frame.bad_frame_refusal_only a.0 r s h k, refl);
-        only = Frame.bad_frame_refusal_only;
       };
       frame_destination_of = record {
         meets = frame_destination_of.met;
@@ -285,13 +276,37 @@ every_call M =
             a.1.1.0 a.1.1.1.0.now a.0.places a.1.0.now r s w.1.0 v.1.0 h k);
         only = Message.hear_only;
       };
-      message_answer_refusal = record {
-        meets = message_answer_refusal.met;
+      message_not_heard_refusal = record {
+        meets = message_not_heard_refusal.met;
         asks_nothing = free;
-        Promise = λ κs a r e. message_promises.AnswerRefusal a.0 r;
+        Promise = λ κs a r e. r ≡ message_promises.number_of_not_heard a.0;
         promises = λ 𝓤 𝓛 mem run κs a ghost r. refl;
-        one_answer = λ κs a r s w v h k. (Message.answer_refusal_only a.0 r s h k, refl);
-        only = Message.answer_refusal_only;
+        one_answer = λ κs a r s w v h k. (h ∙ sym k, refl);
+        only = Message.not_heard_refusal_only;
+      };
+      message_bad_state_refusal = record {
+        meets = message_bad_state_refusal.met;
+        asks_nothing = free;
+        Promise = λ κs a r e. r ≡ message_promises.number_of_bad_state a.0;
+        promises = λ 𝓤 𝓛 mem run κs a ghost r. refl;
+        one_answer = λ κs a r s w v h k. (h ∙ sym k, refl);
+        only = Message.bad_state_refusal_only;
+      };
+      message_unsplittable_refusal = record {
+        meets = message_unsplittable_refusal.met;
+        asks_nothing = free;
+        Promise = λ κs a r e. r ≡ message_promises.refusal_why a.0;
+        promises = λ 𝓤 𝓛 mem run κs a ghost r. refl;
+        one_answer = λ κs a r s w v h k. (h ∙ sym k, refl);
+        only = Message.unsplittable_refusal_only;
+      };
+      message_not_split_refusal = record {
+        meets = message_not_split_refusal.met;
+        asks_nothing = free;
+        Promise = λ κs a r e. r ≡ message_promises.number_of_not_split a.0;
+        promises = λ 𝓤 𝓛 mem run κs a ghost r. refl;
+        one_answer = λ κs a r s w v h k. (h ∙ sym k, refl);
+        only = Message.not_split_refusal_only;
       };
       message_pause = record {
         meets = message_pause.met;
@@ -300,14 +315,6 @@ every_call M =
         promises = λ 𝓤 𝓛 mem run κs a ghost r. refl;
         one_answer = λ κs a r s w v h k. (Message.pause_only a.1.0 a.0.places r s h k, refl);
         only = Message.pause_only;
-      };
-      message_pausing_refusal = record {
-        meets = message_pausing_refusal.met;
-        asks_nothing = free;
-        Promise = λ κs a r e. message_promises.PausingRefusal a.0 r;
-        promises = λ 𝓤 𝓛 mem run κs a ghost r. refl;
-        one_answer = λ κs a r s w v h k. (Message.pausing_refusal_only a.0 r s h k, refl);
-        only = Message.pausing_refusal_only;
       };
       message_message = record {
         meets = message_message.met;
@@ -325,14 +332,6 @@ every_call M =
         one_answer = λ κs a r s w v h k. (Message.announcement_only a.0.now a.1.0 r s h k, refl);
         only = Message.announcement_only;
       };
-      message_announcing_refusal = record {
-        meets = message_announcing_refusal.met;
-        asks_nothing = free;
-        Promise = λ κs a r e. message_promises.AnnouncingRefusal a.0 r;
-        promises = λ 𝓤 𝓛 mem run κs a ghost r. refl;
-        one_answer = λ κs a r s w v h k. (Message.announcing_refusal_only a.0 r s h k, refl);
-        only = Message.announcing_refusal_only;
-      };
       message_packet = record {
         meets = message_packet.met;
         asks_nothing = free;
@@ -340,22 +339,6 @@ every_call M =
         promises = λ 𝓤 𝓛 mem run κs a ghost r. refl;
         one_answer = λ κs a r s w v h k. (Message.packet_only a.0.now a.1.0 a.1.1.0 r s h k, refl);
         only = Message.packet_only;
-      };
-      message_splitting_refusal = record {
-        meets = message_splitting_refusal.met;
-        asks_nothing = free;
-        Promise = λ κs a r e. message_promises.SplittingRefusal a.0 r;
-        promises = λ 𝓤 𝓛 mem run κs a ghost r. refl;
-        one_answer = λ κs a r s w v h k. (Message.splitting_refusal_only a.0 r s h k, refl);
-        only = Message.splitting_refusal_only;
-      };
-      message_unsplittable_refusal = record {
-        meets = message_unsplittable_refusal.met;
-        asks_nothing = free;
-        Promise = λ κs a r e. message_promises.UnsplittableRefusal a.0 r;
-        promises = λ 𝓤 𝓛 mem run κs a ghost r. refl;
-        one_answer = λ κs a r s w v h k. (Message.unsplittable_refusal_only a.0 r s h k, refl);
-        only = Message.unsplittable_refusal_only;
       };
       fast_start = record {
         meets = fast_start.met;
@@ -365,13 +348,37 @@ every_call M =
         one_answer = λ κs a r s w v h k. (Fast.start_only a.0.now r s h k, refl);
         only = Fast.start_only;
       };
-      fast_starting_refusal = record {
-        meets = fast_starting_refusal.met;
+      fast_bad_list_refusal = record {
+        meets = fast_bad_list_refusal.met;
         asks_nothing = free;
-        Promise = λ κs a r e. fast_promises.StartingRefusal a.0 r;
+        Promise = λ κs a r e. r ≡ fast_promises.number_of_bad_list a.0;
         promises = λ 𝓤 𝓛 mem run κs a ghost r. refl;
-        one_answer = λ κs a r s w v h k. (Fast.starting_refusal_only a.0 r s h k, refl);
-        only = Fast.starting_refusal_only;
+        one_answer = λ κs a r s w v h k. (h ∙ sym k, refl);
+        only = Fast.bad_list_refusal_only;
+      };
+      fast_not_heard_refusal = record {
+        meets = fast_not_heard_refusal.met;
+        asks_nothing = free;
+        Promise = λ κs a r e. r ≡ fast_promises.number_of_not_heard a.0;
+        promises = λ 𝓤 𝓛 mem run κs a ghost r. refl;
+        one_answer = λ κs a r s w v h k. (h ∙ sym k, refl);
+        only = Fast.not_heard_refusal_only;
+      };
+      fast_bad_state_refusal = record {
+        meets = fast_bad_state_refusal.met;
+        asks_nothing = free;
+        Promise = λ κs a r e. r ≡ fast_promises.number_of_bad_state a.0;
+        promises = λ 𝓤 𝓛 mem run κs a ghost r. refl;
+        one_answer = λ κs a r s w v h k. (h ∙ sym k, refl);
+        only = Fast.bad_state_refusal_only;
+      };
+      fast_not_split_refusal = record {
+        meets = fast_not_split_refusal.met;
+        asks_nothing = free;
+        Promise = λ κs a r e. r ≡ fast_promises.number_of_not_split a.0;
+        promises = λ 𝓤 𝓛 mem run κs a ghost r. refl;
+        one_answer = λ κs a r s w v h k. (h ∙ sym k, refl);
+        only = Fast.not_split_refusal_only;
       };
       fast_hear = record {
         meets = fast_hear.met;
@@ -384,14 +391,6 @@ every_call M =
             (Fast.hear_only a.1.1.0 a.1.1.1.0.now a.0 a.1.0.now r s w.1.0 v.1.0 h k);
         only = Fast.hear_only;
       };
-      fast_answer_refusal = record {
-        meets = fast_answer_refusal.met;
-        asks_nothing = free;
-        Promise = λ κs a r e. fast_promises.AnswerRefusal a.0 r;
-        promises = λ 𝓤 𝓛 mem run κs a ghost r. refl;
-        one_answer = λ κs a r s w v h k. (Fast.answer_refusal_only a.0 r s h k, refl);
-        only = Fast.answer_refusal_only;
-      };
       fast_pause = record {
         meets = fast_pause.met;
         asks_nothing = free;
@@ -399,14 +398,6 @@ every_call M =
         promises = λ 𝓤 𝓛 mem run κs a ghost r. refl;
         one_answer = λ κs a r s w v h k. (Fast.pause_only a.1.0 a.0 r s h k, refl);
         only = Fast.pause_only;
-      };
-      fast_pausing_refusal = record {
-        meets = fast_pausing_refusal.met;
-        asks_nothing = free;
-        Promise = λ κs a r e. fast_promises.PausingRefusal a.0 r;
-        promises = λ 𝓤 𝓛 mem run κs a ghost r. refl;
-        one_answer = λ κs a r s w v h k. (Fast.pausing_refusal_only a.0 r s h k, refl);
-        only = Fast.pausing_refusal_only;
       };
       fast_message = record {
         meets = fast_message.met;
@@ -423,14 +414,6 @@ every_call M =
         promises = λ 𝓤 𝓛 mem run κs a ghost r. refl;
         one_answer = λ κs a r s w v h k. (Fast.frame_of_only a.0.now a.1.0 a.1.1.0 r s h k, refl);
         only = Fast.frame_of_only;
-      };
-      fast_splitting_refusal = record {
-        meets = fast_splitting_refusal.met;
-        asks_nothing = free;
-        Promise = λ κs a r e. fast_promises.SplittingRefusal a.0 r;
-        promises = λ 𝓤 𝓛 mem run κs a ghost r. refl;
-        one_answer = λ κs a r s w v h k. (Fast.splitting_refusal_only a.0 r s h k, refl);
-        only = Fast.splitting_refusal_only;
       };
       catalogue_rows = record {
         meets = catalogue_rows.met;
@@ -508,37 +491,29 @@ every_call M =
             a.0 a.1.0 a.1.1.0.now a.1.1.1.0 r s w.1.1.0 v.1.1.0 h k);
         only = Catalogue.write_only;
       };
-      catalogue_looked_refusal = record {
-        meets = catalogue_looked_refusal.met;
+      catalogue_not_found_refusal = record {
+        meets = catalogue_not_found_refusal.met;
         asks_nothing = free;
-        Promise = λ κs a r e. catalogue_promises.LookedRefusal a.0 r;
+        Promise = λ κs a r e. r ≡ catalogue_promises.number_of_not_found a.0;
         promises = λ 𝓤 𝓛 mem run κs a ghost r. refl;
-        one_answer = λ κs a r s w v h k. (Catalogue.looked_refusal_only a.0 r s h k, refl);
-        only = Catalogue.looked_refusal_only;
+        one_answer = λ κs a r s w v h k. (h ∙ sym k, refl);
+        only = Catalogue.not_found_refusal_only;
       };
-      catalogue_reading_refusal = record {
-        meets = catalogue_reading_refusal.met;
+      catalogue_not_read_refusal = record {
+        meets = catalogue_not_read_refusal.met;
         asks_nothing = free;
-        Promise = λ κs a r e. catalogue_promises.ReadingRefusal a.0 r;
+        Promise = λ κs a r e. r ≡ catalogue_promises.number_of_not_read a.0;
         promises = λ 𝓤 𝓛 mem run κs a ghost r. refl;
-        one_answer = λ κs a r s w v h k. (Catalogue.reading_refusal_only a.0 r s h k, refl);
-        only = Catalogue.reading_refusal_only;
+        one_answer = λ κs a r s w v h k. (h ∙ sym k, refl);
+        only = Catalogue.not_read_refusal_only;
       };
-      catalogue_scaled_reading_refusal = record {
-        meets = catalogue_scaled_reading_refusal.met;
+      catalogue_not_written_refusal = record {
+        meets = catalogue_not_written_refusal.met;
         asks_nothing = free;
-        Promise = λ κs a r e. catalogue_promises.ScaledReadingRefusal a.0 r;
+        Promise = λ κs a r e. r ≡ catalogue_promises.number_of_not_written a.0;
         promises = λ 𝓤 𝓛 mem run κs a ghost r. refl;
-        one_answer = λ κs a r s w v h k. (Catalogue.scaled_reading_refusal_only a.0 r s h k, refl);
-        only = Catalogue.scaled_reading_refusal_only;
-      };
-      catalogue_writing_refusal = record {
-        meets = catalogue_writing_refusal.met;
-        asks_nothing = free;
-        Promise = λ κs a r e. catalogue_promises.WritingRefusal a.0 r;
-        promises = λ 𝓤 𝓛 mem run κs a ghost r. refl;
-        one_answer = λ κs a r s w v h k. (Catalogue.writing_refusal_only a.0 r s h k, refl);
-        only = Catalogue.writing_refusal_only;
+        one_answer = λ κs a r s w v h k. (h ∙ sym k, refl);
+        only = Catalogue.not_written_refusal_only;
       };
       catalogue_row_of = record {
         meets = catalogue_row_of.met;
@@ -664,45 +639,29 @@ every_call M =
         one_answer = λ κs a r s w v h k. (Claim.holds_list_only a.0 r s h k, refl);
         only = Claim.holds_list_only;
       };
-      claim_starting_refusal = record {
-        meets = claim_starting_refusal.met;
+      claim_not_started_refusal = record {
+        meets = claim_not_started_refusal.met;
         asks_nothing = free;
-        Promise = λ κs a r e. claim_promises.StartingRefusal a.0 r;
+        Promise = λ κs a r e. r ≡ claim_promises.number_of_not_started a.0;
         promises = λ 𝓤 𝓛 mem run κs a ghost r. refl;
-        one_answer = λ κs a r s w v h k. (Claim.starting_refusal_only a.0 r s h k, refl);
-        only = Claim.starting_refusal_only;
+        one_answer = λ κs a r s w v h k. (h ∙ sym k, refl);
+        only = Claim.not_started_refusal_only;
       };
-      claim_hearing_refusal = record {
-        meets = claim_hearing_refusal.met;
+      claim_not_heard_refusal = record {
+        meets = claim_not_heard_refusal.met;
         asks_nothing = free;
-        Promise = λ κs a r e. claim_promises.HearingRefusal a.0 r;
+        Promise = λ κs a r e. r ≡ claim_promises.number_of_not_heard a.0;
         promises = λ 𝓤 𝓛 mem run κs a ghost r. refl;
-        one_answer = λ κs a r s w v h k. (Claim.hearing_refusal_only a.0 r s h k, refl);
-        only = Claim.hearing_refusal_only;
+        one_answer = λ κs a r s w v h k. (h ∙ sym k, refl);
+        only = Claim.not_heard_refusal_only;
       };
-      claim_pausing_refusal = record {
-        meets = claim_pausing_refusal.met;
+      claim_bad_state_refusal = record {
+        meets = claim_bad_state_refusal.met;
         asks_nothing = free;
-        Promise = λ κs a r e. claim_promises.PausingRefusal a.0 r;
+        Promise = λ κs a r e. r ≡ claim_promises.number_of_bad_state a.0;
         promises = λ 𝓤 𝓛 mem run κs a ghost r. refl;
-        one_answer = λ κs a r s w v h k. (Claim.pausing_refusal_only a.0 r s h k, refl);
-        only = Claim.pausing_refusal_only;
-      };
-      claim_standing_refusal = record {
-        meets = claim_standing_refusal.met;
-        asks_nothing = free;
-        Promise = λ κs a r e. claim_promises.StandingRefusal a.0 r;
-        promises = λ 𝓤 𝓛 mem run κs a ghost r. refl;
-        one_answer = λ κs a r s w v h k. (Claim.standing_refusal_only a.0 r s h k, refl);
-        only = Claim.standing_refusal_only;
-      };
-      claim_sending_refusal = record {
-        meets = claim_sending_refusal.met;
-        asks_nothing = free;
-        Promise = λ κs a r e. claim_promises.SendingRefusal a.0 r;
-        promises = λ 𝓤 𝓛 mem run κs a ghost r. refl;
-        one_answer = λ κs a r s w v h k. (Claim.sending_refusal_only a.0 r s h k, refl);
-        only = Claim.sending_refusal_only;
+        one_answer = λ κs a r s w v h k. (h ∙ sym k, refl);
+        only = Claim.bad_state_refusal_only;
       };
       nodes_empty = record {
         meets = nodes_empty.met;
@@ -755,45 +714,21 @@ every_call M =
         one_answer = λ κs a r s w v h k. (Nodes.find_challenger_only a.0.now a.1.0 r s h k, refl);
         only = Nodes.find_challenger_only;
       };
-      nodes_hearing_refusal = record {
-        meets = nodes_hearing_refusal.met;
+      nodes_bad_table_refusal = record {
+        meets = nodes_bad_table_refusal.met;
         asks_nothing = free;
-        Promise = λ κs a r e. nodes_promises.HearingRefusal a.0 r;
+        Promise = λ κs a r e. r ≡ nodes_promises.number_of_bad_table a.0;
         promises = λ 𝓤 𝓛 mem run κs a ghost r. refl;
-        one_answer = λ κs a r s w v h k. (Nodes.hearing_refusal_only a.0 r s h k, refl);
-        only = Nodes.hearing_refusal_only;
+        one_answer = λ κs a r s w v h k. (h ∙ sym k, refl);
+        only = Nodes.bad_table_refusal_only;
       };
-      nodes_pausing_refusal = record {
-        meets = nodes_pausing_refusal.met;
+      nodes_not_heard_refusal = record {
+        meets = nodes_not_heard_refusal.met;
         asks_nothing = free;
-        Promise = λ κs a r e. nodes_promises.PausingRefusal a.0 r;
+        Promise = λ κs a r e. r ≡ nodes_promises.number_of_not_heard a.0;
         promises = λ 𝓤 𝓛 mem run κs a ghost r. refl;
-        one_answer = λ κs a r s w v h k. (Nodes.pausing_refusal_only a.0 r s h k, refl);
-        only = Nodes.pausing_refusal_only;
-      };
-      nodes_looked_up_refusal = record {
-        meets = nodes_looked_up_refusal.met;
-        asks_nothing = free;
-        Promise = λ κs a r e. nodes_promises.LookedUpRefusal a.0 r;
-        promises = λ 𝓤 𝓛 mem run κs a ghost r. refl;
-        one_answer = λ κs a r s w v h k. (Nodes.looked_up_refusal_only a.0 r s h k, refl);
-        only = Nodes.looked_up_refusal_only;
-      };
-      nodes_found_address_refusal = record {
-        meets = nodes_found_address_refusal.met;
-        asks_nothing = free;
-        Promise = λ κs a r e. nodes_promises.FoundAddressRefusal a.0 r;
-        promises = λ 𝓤 𝓛 mem run κs a ghost r. refl;
-        one_answer = λ κs a r s w v h k. (Nodes.found_address_refusal_only a.0 r s h k, refl);
-        only = Nodes.found_address_refusal_only;
-      };
-      nodes_found_challenger_refusal = record {
-        meets = nodes_found_challenger_refusal.met;
-        asks_nothing = free;
-        Promise = λ κs a r e. nodes_promises.FoundChallengerRefusal a.0 r;
-        promises = λ 𝓤 𝓛 mem run κs a ghost r. refl;
-        one_answer = λ κs a r s w v h k. (Nodes.found_challenger_refusal_only a.0 r s h k, refl);
-        only = Nodes.found_challenger_refusal_only;
+        one_answer = λ κs a r s w v h k. (h ∙ sym k, refl);
+        only = Nodes.not_heard_refusal_only;
       };
       command_start = record {
         meets = command_start.met;
@@ -829,37 +764,37 @@ every_call M =
         one_answer = λ κs a r s w v h k. (Command.acknowledge_only a.0 a.1.0 r s h k, refl);
         only = Command.acknowledge_only;
       };
-      command_starting_refusal = record {
-        meets = command_starting_refusal.met;
+      command_not_started_refusal = record {
+        meets = command_not_started_refusal.met;
         asks_nothing = free;
-        Promise = λ κs a r e. command_promises.StartingRefusal a.0 r;
+        Promise = λ κs a r e. r ≡ command_promises.number_of_not_started a.0;
         promises = λ 𝓤 𝓛 mem run κs a ghost r. refl;
-        one_answer = λ κs a r s w v h k. (Command.starting_refusal_only a.0 r s h k, refl);
-        only = Command.starting_refusal_only;
+        one_answer = λ κs a r s w v h k. (h ∙ sym k, refl);
+        only = Command.not_started_refusal_only;
       };
-      command_routing_refusal = record {
-        meets = command_routing_refusal.met;
+      command_not_routed_refusal = record {
+        meets = command_not_routed_refusal.met;
         asks_nothing = free;
-        Promise = λ κs a r e. command_promises.RoutingRefusal a.0 r;
+        Promise = λ κs a r e. r ≡ command_promises.number_of_not_routed a.0;
         promises = λ 𝓤 𝓛 mem run κs a ghost r. refl;
-        one_answer = λ κs a r s w v h k. (Command.routing_refusal_only a.0 r s h k, refl);
-        only = Command.routing_refusal_only;
+        one_answer = λ κs a r s w v h k. (h ∙ sym k, refl);
+        only = Command.not_routed_refusal_only;
       };
-      command_requesting_refusal = record {
-        meets = command_requesting_refusal.met;
+      command_not_answered_refusal = record {
+        meets = command_not_answered_refusal.met;
         asks_nothing = free;
-        Promise = λ κs a r e. command_promises.RequestingRefusal a.0 r;
+        Promise = λ κs a r e. r ≡ command_promises.number_of_not_answered a.0;
         promises = λ 𝓤 𝓛 mem run κs a ghost r. refl;
-        one_answer = λ κs a r s w v h k. (Command.requesting_refusal_only a.0 r s h k, refl);
-        only = Command.requesting_refusal_only;
+        one_answer = λ κs a r s w v h k. (h ∙ sym k, refl);
+        only = Command.not_answered_refusal_only;
       };
-      command_acknowledging_refusal = record {
-        meets = command_acknowledging_refusal.met;
+      command_not_acknowledged_refusal = record {
+        meets = command_not_acknowledged_refusal.met;
         asks_nothing = free;
-        Promise = λ κs a r e. command_promises.AcknowledgingRefusal a.0 r;
+        Promise = λ κs a r e. r ≡ command_promises.number_of_not_acknowledged a.0;
         promises = λ 𝓤 𝓛 mem run κs a ghost r. refl;
-        one_answer = λ κs a r s w v h k. (Command.acknowledging_refusal_only a.0 r s h k, refl);
-        only = Command.acknowledging_refusal_only;
+        one_answer = λ κs a r s w v h k. (h ∙ sym k, refl);
+        only = Command.not_acknowledged_refusal_only;
       };
       faults_packed_rows = record {
         meets = faults_packed_rows.met;
@@ -917,13 +852,37 @@ every_call M =
             a.0 a.1.0.now a.1.1.0 r s w.1.0 v.1.0 h k);
         only = FaultsFields.write_service_point_only;
       };
-      faults_service_point_refusal = record {
-        meets = faults_service_point_refusal.met;
+      faults_not_added_refusal = record {
+        meets = faults_not_added_refusal.met;
         asks_nothing = free;
-        Promise = λ κs a r e. faults_promises.ServicePointRefusal a.0 r;
+        Promise = λ κs a r e. r ≡ faults_promises.number_of_not_added a.0;
         promises = λ 𝓤 𝓛 mem run κs a ghost r. refl;
-        one_answer = λ κs a r s w v h k. (FaultsFields.service_point_refusal_only a.0 r s h k, refl);
-        only = FaultsFields.service_point_refusal_only;
+        one_answer = λ κs a r s w v h k. (h ∙ sym k, refl);
+        only = Faults.not_added_refusal_only;
+      };
+      faults_not_cleared_refusal = record {
+        meets = faults_not_cleared_refusal.met;
+        asks_nothing = free;
+        Promise = λ κs a r e. r ≡ faults_promises.number_of_not_cleared a.0;
+        promises = λ 𝓤 𝓛 mem run κs a ghost r. refl;
+        one_answer = λ κs a r s w v h k. (h ∙ sym k, refl);
+        only = Faults.not_cleared_refusal_only;
+      };
+      faults_not_stepped_refusal = record {
+        meets = faults_not_stepped_refusal.met;
+        asks_nothing = free;
+        Promise = λ κs a r e. r ≡ faults_promises.number_of_not_stepped a.0;
+        promises = λ 𝓤 𝓛 mem run κs a ghost r. refl;
+        one_answer = λ κs a r s w v h k. (h ∙ sym k, refl);
+        only = Faults.not_stepped_refusal_only;
+      };
+      faults_not_heard_refusal = record {
+        meets = faults_not_heard_refusal.met;
+        asks_nothing = free;
+        Promise = λ κs a r e. r ≡ faults_promises.number_of_not_heard a.0;
+        promises = λ 𝓤 𝓛 mem run κs a ghost r. refl;
+        one_answer = λ κs a r s w v h k. (h ∙ sym k, refl);
+        only = Faults.not_heard_refusal_only;
       };
       faults_start = record {
         meets = faults_start.met;
@@ -976,38 +935,6 @@ every_call M =
             (Faults.reply_only a.1.1.1.0 a.1.1.1.1.0.now a.1.0 a.1.1.0 a.0 r s h k, refl);
         only = Faults.reply_only;
       };
-      faults_adding_refusal = record {
-        meets = faults_adding_refusal.met;
-        asks_nothing = free;
-        Promise = λ κs a r e. faults_promises.AddingRefusal a.0 r;
-        promises = λ 𝓤 𝓛 mem run κs a ghost r. refl;
-        one_answer = λ κs a r s w v h k. (Faults.adding_refusal_only a.0 r s h k, refl);
-        only = Faults.adding_refusal_only;
-      };
-      faults_clearing_refusal = record {
-        meets = faults_clearing_refusal.met;
-        asks_nothing = free;
-        Promise = λ κs a r e. faults_promises.ClearingRefusal a.0 r;
-        promises = λ 𝓤 𝓛 mem run κs a ghost r. refl;
-        one_answer = λ κs a r s w v h k. (Faults.clearing_refusal_only a.0 r s h k, refl);
-        only = Faults.clearing_refusal_only;
-      };
-      faults_stepping_refusal = record {
-        meets = faults_stepping_refusal.met;
-        asks_nothing = free;
-        Promise = λ κs a r e. faults_promises.SteppingRefusal a.0 r;
-        promises = λ 𝓤 𝓛 mem run κs a ghost r. refl;
-        one_answer = λ κs a r s w v h k. (Faults.stepping_refusal_only a.0 r s h k, refl);
-        only = Faults.stepping_refusal_only;
-      };
-      faults_requesting_refusal = record {
-        meets = faults_requesting_refusal.met;
-        asks_nothing = free;
-        Promise = λ κs a r e. faults_promises.RequestingRefusal a.0 r;
-        promises = λ 𝓤 𝓛 mem run κs a ghost r. refl;
-        one_answer = λ κs a r s w v h k. (Faults.requesting_refusal_only a.0 r s h k, refl);
-        only = Faults.requesting_refusal_only;
-      };
       capture_take_apart = record {
         meets = capture_take_apart.met;
         asks_nothing = free;
@@ -1016,13 +943,13 @@ every_call M =
         one_answer = λ κs a r s w v h k. (Capture.take_apart_only a.0.now r s h k, refl);
         only = Capture.take_apart_only;
       };
-      capture_reading_refusal = record {
-        meets = capture_reading_refusal.met;
+      capture_not_read_refusal = record {
+        meets = capture_not_read_refusal.met;
         asks_nothing = free;
-        Promise = λ κs a r e. capture_promises.ReadingRefusal a.0 r;
+        Promise = λ κs a r e. r ≡ capture_promises.number_of_not_read a.0;
         promises = λ 𝓤 𝓛 mem run κs a ghost r. refl;
-        one_answer = λ κs a r s w v h k. (Capture.reading_refusal_only a.0 r s h k, refl);
-        only = Capture.reading_refusal_only;
+        one_answer = λ κs a r s w v h k. (h ∙ sym k, refl);
+        only = Capture.not_read_refusal_only;
       };
       capture_write = record {
         meets = capture_write.met;
@@ -1142,28 +1069,28 @@ every_call M =
         one_answer = λ κs a r s w v h k. (Tiles.read_tile_only a.1.0 a.0 r s h k, refl);
         only = Tiles.read_tile_only;
       };
-      tiles_naming_refusal = record {
-        meets = tiles_naming_refusal.met;
+      tiles_not_named_refusal = record {
+        meets = tiles_not_named_refusal.met;
         asks_nothing = free;
-        Promise = λ κs a r e. tiles_promises.NamingRefusal a.0 r;
+        Promise = λ κs a r e. r ≡ tiles_promises.number_of_not_named a.0;
         promises = λ 𝓤 𝓛 mem run κs a ghost r. refl;
-        one_answer = λ κs a r s w v h k. (Tiles.naming_refusal_only a.0 r s h k, refl);
-        only = Tiles.naming_refusal_only;
+        one_answer = λ κs a r s w v h k. (h ∙ sym k, refl);
+        only = Tiles.not_named_refusal_only;
       };
-      tiles_hearing_refusal = record {
-        meets = tiles_hearing_refusal.met;
+      tiles_not_heard_refusal = record {
+        meets = tiles_not_heard_refusal.met;
         asks_nothing = free;
-        Promise = λ κs a r e. tiles_promises.HearingRefusal a.0 r;
+        Promise = λ κs a r e. r ≡ tiles_promises.number_of_not_heard a.0;
         promises = λ 𝓤 𝓛 mem run κs a ghost r. refl;
-        one_answer = λ κs a r s w v h k. (Tiles.hearing_refusal_only a.0 r s h k, refl);
-        only = Tiles.hearing_refusal_only;
+        one_answer = λ κs a r s w v h k. (h ∙ sym k, refl);
+        only = Tiles.not_heard_refusal_only;
       };
-      tiles_asking_refusal = record {
-        meets = tiles_asking_refusal.met;
+      tiles_not_shown_refusal = record {
+        meets = tiles_not_shown_refusal.met;
         asks_nothing = free;
-        Promise = λ κs a r e. tiles_promises.AskingRefusal a.0 r;
+        Promise = λ κs a r e. r ≡ tiles_promises.number_of_not_shown a.0;
         promises = λ 𝓤 𝓛 mem run κs a ghost r. refl;
-        one_answer = λ κs a r s w v h k. (Tiles.asking_refusal_only a.0 r s h k, refl);
-        only = Tiles.asking_refusal_only;
+        one_answer = λ κs a r s w v h k. (h ∙ sym k, refl);
+        only = Tiles.not_shown_refusal_only;
       };
     }

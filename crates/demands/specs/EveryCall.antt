@@ -3,21 +3,30 @@
 -- see.
 use Rattle.std.specs.Prelude.{◌≡◌}
 use seplogic.Ra.Ura.{Ura}
-use base.Logic.{SProp}
+use base.Logic.{SProp, sep, emp}
 use prog.Memory.{Memory}
 use prog.Model.{Model}
 use prog.Routine.{Routine}
 use prog.Wired.{Code, Wired}
-use mir.Syntax.{Callee}
+use mir.Syntax.{Callee, Dict}
 use types.Logic.{Logic}
 use contract.Monad.{Fun}
 use contract.Lifetimes.{Lfts}
 use contract.Notation.{connectives}
+use contract.BorrowLft.{◌⊑◌}
+use contract.Fact.{fact}
 use contract.Running.{Running}
+use denote.RattleType.{RattleType}
 use denote.Signature.{Signature}
 use denote.Triple.Clauses.{Ended, Lasts, AtExit, at_exit}
 use denote.Triple.Entry.{Args, Res}
 use denote.Triple.Spec.{Spec, Meets, exits}
+use Rattle.std.specs.declared.clone.Clone as Clone
+use Rattle.words.specs.Words.{number_of_answer}
+use Rattle.words.specs.declared.Refusal as Refusal
+use Rattle.words.specs.contracts.ResultRefusal.refusal as words_result_refusal
+use Rattle.words.proofs.ResultRefusal.refusal.Symbol as words_result_refusal_symbol
+use Rattle.words.proofs.ResultRefusal.refusal.Statement as words_result_refusal_statement
 use Rattle.frame.specs.Laws as Frame
 use Rattle.frame.specs.contracts.take_apart as frame_take_apart
 use Rattle.frame.proofs.take_apart.Symbol as frame_take_apart_symbol
@@ -33,14 +42,12 @@ use Rattle.frame.specs.contracts.number_of as frame_number_of
 use Rattle.frame.proofs.number_of.Symbol as frame_number_of_symbol
 use Rattle.frame.specs.contracts.bytes_of as frame_bytes_of
 use Rattle.frame.proofs.bytes_of.Symbol as frame_bytes_of_symbol
-use Rattle.frame.specs.contracts.Apart.refusal as frame_apart_refusal
-use Rattle.frame.proofs.Apart.refusal.Symbol as frame_apart_refusal_symbol
-use Rattle.frame.specs.contracts.Formed.refusal as frame_formed_refusal
-use Rattle.frame.proofs.Formed.refusal.Symbol as frame_formed_refusal_symbol
-use Rattle.frame.specs.contracts.Verdict.refusal as frame_verdict_refusal
-use Rattle.frame.proofs.Verdict.refusal.Symbol as frame_verdict_refusal_symbol
-use Rattle.frame.specs.contracts.BadFrame.refusal as frame_bad_frame_refusal
-use Rattle.frame.proofs.BadFrame.refusal.Symbol as frame_bad_frame_refusal_symbol
+use Rattle.frame.specs.contracts.BadIdentifierRefusal.refusal as frame_bad_identifier_refusal
+use Rattle.frame.proofs.BadIdentifierRefusal.refusal.Symbol as frame_bad_identifier_refusal_symbol
+use Rattle.frame.specs.contracts.NotFormedRefusal.refusal as frame_not_formed_refusal
+use Rattle.frame.proofs.NotFormedRefusal.refusal.Symbol as frame_not_formed_refusal_symbol
+use Rattle.frame.specs.contracts.BadFrameRefusal.refusal as frame_bad_frame_refusal
+use Rattle.frame.proofs.BadFrameRefusal.refusal.Symbol as frame_bad_frame_refusal_symbol
 use Rattle.frame.specs.contracts.dgn_bytes as frame_dgn_bytes
 use Rattle.frame.proofs.dgn_bytes.Symbol as frame_dgn_bytes_symbol
 use Rattle.frame.specs.contracts.dgn_of as frame_dgn_of
@@ -58,35 +65,33 @@ use Rattle.message.specs.contracts.announcement as message_announcement
 use Rattle.message.proofs.announcement.Symbol as message_announcement_symbol
 use Rattle.message.specs.contracts.packet as message_packet
 use Rattle.message.proofs.packet.Symbol as message_packet_symbol
-use Rattle.message.specs.contracts.Answer.refusal as message_answer_refusal
-use Rattle.message.proofs.Answer.refusal.Symbol as message_answer_refusal_symbol
-use Rattle.message.specs.contracts.Pausing.refusal as message_pausing_refusal
-use Rattle.message.proofs.Pausing.refusal.Symbol as message_pausing_refusal_symbol
-use Rattle.message.specs.contracts.Announcing.refusal as message_announcing_refusal
-use Rattle.message.proofs.Announcing.refusal.Symbol as message_announcing_refusal_symbol
-use Rattle.message.specs.contracts.Splitting.refusal as message_splitting_refusal
-use Rattle.message.proofs.Splitting.refusal.Symbol as message_splitting_refusal_symbol
-use Rattle.message.specs.contracts.Unsplittable.refusal as message_unsplittable_refusal
-use Rattle.message.proofs.Unsplittable.refusal.Symbol as message_unsplittable_refusal_symbol
+use Rattle.message.specs.contracts.NotHeardRefusal.refusal as message_not_heard_refusal
+use Rattle.message.proofs.NotHeardRefusal.refusal.Symbol as message_not_heard_refusal_symbol
+use Rattle.message.specs.contracts.BadStateRefusal.refusal as message_bad_state_refusal
+use Rattle.message.proofs.BadStateRefusal.refusal.Symbol as message_bad_state_refusal_symbol
+use Rattle.message.specs.contracts.UnsplittableRefusal.refusal as message_unsplittable_refusal
+use Rattle.message.proofs.UnsplittableRefusal.refusal.Symbol as message_unsplittable_refusal_symbol
+use Rattle.message.specs.contracts.NotSplitRefusal.refusal as message_not_split_refusal
+use Rattle.message.proofs.NotSplitRefusal.refusal.Symbol as message_not_split_refusal_symbol
 use Rattle.fast.specs.Laws as Fast
 use Rattle.fast.specs.contracts.Receiver.start as fast_start
 use Rattle.fast.proofs.Receiver.start.Symbol as fast_start_symbol
-use Rattle.fast.specs.contracts.Starting.refusal as fast_starting_refusal
-use Rattle.fast.proofs.Starting.refusal.Symbol as fast_starting_refusal_symbol
+use Rattle.fast.specs.contracts.BadListRefusal.refusal as fast_bad_list_refusal
+use Rattle.fast.proofs.BadListRefusal.refusal.Symbol as fast_bad_list_refusal_symbol
+use Rattle.fast.specs.contracts.NotHeardRefusal.refusal as fast_not_heard_refusal
+use Rattle.fast.proofs.NotHeardRefusal.refusal.Symbol as fast_not_heard_refusal_symbol
+use Rattle.fast.specs.contracts.BadStateRefusal.refusal as fast_bad_state_refusal
+use Rattle.fast.proofs.BadStateRefusal.refusal.Symbol as fast_bad_state_refusal_symbol
+use Rattle.fast.specs.contracts.NotSplitRefusal.refusal as fast_not_split_refusal
+use Rattle.fast.proofs.NotSplitRefusal.refusal.Symbol as fast_not_split_refusal_symbol
 use Rattle.fast.specs.contracts.Receiver.hear as fast_hear
 use Rattle.fast.proofs.Receiver.hear.Symbol as fast_hear_symbol
-use Rattle.fast.specs.contracts.Answer.refusal as fast_answer_refusal
-use Rattle.fast.proofs.Answer.refusal.Symbol as fast_answer_refusal_symbol
 use Rattle.fast.specs.contracts.Receiver.pause as fast_pause
 use Rattle.fast.proofs.Receiver.pause.Symbol as fast_pause_symbol
-use Rattle.fast.specs.contracts.Pausing.refusal as fast_pausing_refusal
-use Rattle.fast.proofs.Pausing.refusal.Symbol as fast_pausing_refusal_symbol
 use Rattle.fast.specs.contracts.message as fast_message
 use Rattle.fast.proofs.message.Symbol as fast_message_symbol
 use Rattle.fast.specs.contracts.frame_of as fast_frame_of
 use Rattle.fast.proofs.frame_of.Symbol as fast_frame_of_symbol
-use Rattle.fast.specs.contracts.Splitting.refusal as fast_splitting_refusal
-use Rattle.fast.proofs.Splitting.refusal.Symbol as fast_splitting_refusal_symbol
 use Rattle.catalogue.specs.Laws as Catalogue
 use Rattle.catalogue.specs.contracts.rows as catalogue_rows
 use Rattle.catalogue.proofs.rows.Symbol as catalogue_rows_symbol
@@ -106,14 +111,12 @@ use Rattle.catalogue.specs.contracts.read_scaled as catalogue_read_scaled
 use Rattle.catalogue.proofs.read_scaled.Symbol as catalogue_read_scaled_symbol
 use Rattle.catalogue.specs.contracts.write as catalogue_write
 use Rattle.catalogue.proofs.write.Symbol as catalogue_write_symbol
-use Rattle.catalogue.specs.contracts.Looked.refusal as catalogue_looked_refusal
-use Rattle.catalogue.proofs.Looked.refusal.Symbol as catalogue_looked_refusal_symbol
-use Rattle.catalogue.specs.contracts.Reading.refusal as catalogue_reading_refusal
-use Rattle.catalogue.proofs.Reading.refusal.Symbol as catalogue_reading_refusal_symbol
-use Rattle.catalogue.specs.contracts.ScaledReading.refusal as catalogue_scaled_reading_refusal
-use Rattle.catalogue.proofs.ScaledReading.refusal.Symbol as catalogue_scaled_reading_refusal_symbol
-use Rattle.catalogue.specs.contracts.Writing.refusal as catalogue_writing_refusal
-use Rattle.catalogue.proofs.Writing.refusal.Symbol as catalogue_writing_refusal_symbol
+use Rattle.catalogue.specs.contracts.NotFoundRefusal.refusal as catalogue_not_found_refusal
+use Rattle.catalogue.proofs.NotFoundRefusal.refusal.Symbol as catalogue_not_found_refusal_symbol
+use Rattle.catalogue.specs.contracts.NotReadRefusal.refusal as catalogue_not_read_refusal
+use Rattle.catalogue.proofs.NotReadRefusal.refusal.Symbol as catalogue_not_read_refusal_symbol
+use Rattle.catalogue.specs.contracts.NotWrittenRefusal.refusal as catalogue_not_written_refusal
+use Rattle.catalogue.proofs.NotWrittenRefusal.refusal.Symbol as catalogue_not_written_refusal_symbol
 use Rattle.catalogue.specs.contracts.row_of as catalogue_row_of
 use Rattle.catalogue.proofs.row_of.Symbol as catalogue_row_of_symbol
 use Rattle.catalogue.specs.contracts.packed_rows as catalogue_packed_rows
@@ -145,16 +148,12 @@ use Rattle.claim.specs.contracts.Claim.keeps_rules as claim_keeps_rules
 use Rattle.claim.proofs.Claim.keeps_rules.Symbol as claim_keeps_rules_symbol
 use Rattle.claim.specs.contracts.Claim.holds_list as claim_holds_list
 use Rattle.claim.proofs.Claim.holds_list.Symbol as claim_holds_list_symbol
-use Rattle.claim.specs.contracts.Starting.refusal as claim_starting_refusal
-use Rattle.claim.proofs.Starting.refusal.Symbol as claim_starting_refusal_symbol
-use Rattle.claim.specs.contracts.Hearing.refusal as claim_hearing_refusal
-use Rattle.claim.proofs.Hearing.refusal.Symbol as claim_hearing_refusal_symbol
-use Rattle.claim.specs.contracts.Pausing.refusal as claim_pausing_refusal
-use Rattle.claim.proofs.Pausing.refusal.Symbol as claim_pausing_refusal_symbol
-use Rattle.claim.specs.contracts.Standing.refusal as claim_standing_refusal
-use Rattle.claim.proofs.Standing.refusal.Symbol as claim_standing_refusal_symbol
-use Rattle.claim.specs.contracts.Sending.refusal as claim_sending_refusal
-use Rattle.claim.proofs.Sending.refusal.Symbol as claim_sending_refusal_symbol
+use Rattle.claim.specs.contracts.NotStartedRefusal.refusal as claim_not_started_refusal
+use Rattle.claim.proofs.NotStartedRefusal.refusal.Symbol as claim_not_started_refusal_symbol
+use Rattle.claim.specs.contracts.NotHeardRefusal.refusal as claim_not_heard_refusal
+use Rattle.claim.proofs.NotHeardRefusal.refusal.Symbol as claim_not_heard_refusal_symbol
+use Rattle.claim.specs.contracts.BadStateRefusal.refusal as claim_bad_state_refusal
+use Rattle.claim.proofs.BadStateRefusal.refusal.Symbol as claim_bad_state_refusal_symbol
 use Rattle.nodes.specs.Laws as Nodes
 use Rattle.nodes.specs.contracts.empty as nodes_empty
 use Rattle.nodes.proofs.empty.Symbol as nodes_empty_symbol
@@ -168,16 +167,10 @@ use Rattle.nodes.specs.contracts.find_address as nodes_find_address
 use Rattle.nodes.proofs.find_address.Symbol as nodes_find_address_symbol
 use Rattle.nodes.specs.contracts.find_challenger as nodes_find_challenger
 use Rattle.nodes.proofs.find_challenger.Symbol as nodes_find_challenger_symbol
-use Rattle.nodes.specs.contracts.Hearing.refusal as nodes_hearing_refusal
-use Rattle.nodes.proofs.Hearing.refusal.Symbol as nodes_hearing_refusal_symbol
-use Rattle.nodes.specs.contracts.Pausing.refusal as nodes_pausing_refusal
-use Rattle.nodes.proofs.Pausing.refusal.Symbol as nodes_pausing_refusal_symbol
-use Rattle.nodes.specs.contracts.LookedUp.refusal as nodes_looked_up_refusal
-use Rattle.nodes.proofs.LookedUp.refusal.Symbol as nodes_looked_up_refusal_symbol
-use Rattle.nodes.specs.contracts.FoundAddress.refusal as nodes_found_address_refusal
-use Rattle.nodes.proofs.FoundAddress.refusal.Symbol as nodes_found_address_refusal_symbol
-use Rattle.nodes.specs.contracts.FoundChallenger.refusal as nodes_found_challenger_refusal
-use Rattle.nodes.proofs.FoundChallenger.refusal.Symbol as nodes_found_challenger_refusal_symbol
+use Rattle.nodes.specs.contracts.BadTableRefusal.refusal as nodes_bad_table_refusal
+use Rattle.nodes.proofs.BadTableRefusal.refusal.Symbol as nodes_bad_table_refusal_symbol
+use Rattle.nodes.specs.contracts.NotHeardRefusal.refusal as nodes_not_heard_refusal
+use Rattle.nodes.proofs.NotHeardRefusal.refusal.Symbol as nodes_not_heard_refusal_symbol
 use Rattle.command.specs.Laws as Command
 use Rattle.command.specs.contracts.Host.start as command_start
 use Rattle.command.proofs.Host.start.Symbol as command_start_symbol
@@ -187,14 +180,14 @@ use Rattle.command.specs.contracts.Host.request as command_request
 use Rattle.command.proofs.Host.request.Symbol as command_request_symbol
 use Rattle.command.specs.contracts.acknowledge as command_acknowledge
 use Rattle.command.proofs.acknowledge.Symbol as command_acknowledge_symbol
-use Rattle.command.specs.contracts.Starting.refusal as command_starting_refusal
-use Rattle.command.proofs.Starting.refusal.Symbol as command_starting_refusal_symbol
-use Rattle.command.specs.contracts.Routing.refusal as command_routing_refusal
-use Rattle.command.proofs.Routing.refusal.Symbol as command_routing_refusal_symbol
-use Rattle.command.specs.contracts.Requesting.refusal as command_requesting_refusal
-use Rattle.command.proofs.Requesting.refusal.Symbol as command_requesting_refusal_symbol
-use Rattle.command.specs.contracts.Acknowledging.refusal as command_acknowledging_refusal
-use Rattle.command.proofs.Acknowledging.refusal.Symbol as command_acknowledging_refusal_symbol
+use Rattle.command.specs.contracts.NotStartedRefusal.refusal as command_not_started_refusal
+use Rattle.command.proofs.NotStartedRefusal.refusal.Symbol as command_not_started_refusal_symbol
+use Rattle.command.specs.contracts.NotRoutedRefusal.refusal as command_not_routed_refusal
+use Rattle.command.proofs.NotRoutedRefusal.refusal.Symbol as command_not_routed_refusal_symbol
+use Rattle.command.specs.contracts.NotAnsweredRefusal.refusal as command_not_answered_refusal
+use Rattle.command.proofs.NotAnsweredRefusal.refusal.Symbol as command_not_answered_refusal_symbol
+use Rattle.command.specs.contracts.NotAcknowledgedRefusal.refusal as command_not_acknowledged_refusal
+use Rattle.command.proofs.NotAcknowledgedRefusal.refusal.Symbol as command_not_acknowledged_refusal_symbol
 use Rattle.faults.specs.Laws as Faults
 use Rattle.faults.specs.contracts.packed_rows as faults_packed_rows
 use Rattle.faults.proofs.packed_rows.Symbol as faults_packed_rows_symbol
@@ -208,8 +201,14 @@ use Rattle.faults.specs.contracts.read_service_point as faults_read_service_poin
 use Rattle.faults.proofs.read_service_point.Symbol as faults_read_service_point_symbol
 use Rattle.faults.specs.contracts.write_service_point as faults_write_service_point
 use Rattle.faults.proofs.write_service_point.Symbol as faults_write_service_point_symbol
-use Rattle.faults.specs.contracts.ServicePoint.refusal as faults_service_point_refusal
-use Rattle.faults.proofs.ServicePoint.refusal.Symbol as faults_service_point_refusal_symbol
+use Rattle.faults.specs.contracts.NotAddedRefusal.refusal as faults_not_added_refusal
+use Rattle.faults.proofs.NotAddedRefusal.refusal.Symbol as faults_not_added_refusal_symbol
+use Rattle.faults.specs.contracts.NotClearedRefusal.refusal as faults_not_cleared_refusal
+use Rattle.faults.proofs.NotClearedRefusal.refusal.Symbol as faults_not_cleared_refusal_symbol
+use Rattle.faults.specs.contracts.NotSteppedRefusal.refusal as faults_not_stepped_refusal
+use Rattle.faults.proofs.NotSteppedRefusal.refusal.Symbol as faults_not_stepped_refusal_symbol
+use Rattle.faults.specs.contracts.NotHeardRefusal.refusal as faults_not_heard_refusal
+use Rattle.faults.proofs.NotHeardRefusal.refusal.Symbol as faults_not_heard_refusal_symbol
 use Rattle.faults.specs.contracts.Sender.start as faults_start
 use Rattle.faults.proofs.Sender.start.Symbol as faults_start_symbol
 use Rattle.faults.specs.contracts.Sender.add as faults_add
@@ -222,14 +221,6 @@ use Rattle.faults.specs.contracts.Sender.request as faults_request
 use Rattle.faults.proofs.Sender.request.Symbol as faults_request_symbol
 use Rattle.faults.specs.contracts.Sender.reply as faults_reply
 use Rattle.faults.proofs.Sender.reply.Symbol as faults_reply_symbol
-use Rattle.faults.specs.contracts.Adding.refusal as faults_adding_refusal
-use Rattle.faults.proofs.Adding.refusal.Symbol as faults_adding_refusal_symbol
-use Rattle.faults.specs.contracts.Clearing.refusal as faults_clearing_refusal
-use Rattle.faults.proofs.Clearing.refusal.Symbol as faults_clearing_refusal_symbol
-use Rattle.faults.specs.contracts.Stepping.refusal as faults_stepping_refusal
-use Rattle.faults.proofs.Stepping.refusal.Symbol as faults_stepping_refusal_symbol
-use Rattle.faults.specs.contracts.Requesting.refusal as faults_requesting_refusal
-use Rattle.faults.proofs.Requesting.refusal.Symbol as faults_requesting_refusal_symbol
 use Rattle.capture.specs.Laws as Capture
 use Rattle.capture.specs.contracts.take_apart as capture_take_apart
 use Rattle.capture.proofs.take_apart.Symbol as capture_take_apart_symbol
@@ -241,8 +232,8 @@ use Rattle.capture.specs.contracts.Cutter.next as capture_next
 use Rattle.capture.proofs.Cutter.next.Symbol as capture_next_symbol
 use Rattle.capture.specs.contracts.Cutter.last as capture_last
 use Rattle.capture.proofs.Cutter.last.Symbol as capture_last_symbol
-use Rattle.capture.specs.contracts.Reading.refusal as capture_reading_refusal
-use Rattle.capture.proofs.Reading.refusal.Symbol as capture_reading_refusal_symbol
+use Rattle.capture.specs.contracts.NotReadRefusal.refusal as capture_not_read_refusal
+use Rattle.capture.proofs.NotReadRefusal.refusal.Symbol as capture_not_read_refusal_symbol
 use Rattle.text.specs.Laws as Text
 use Rattle.text.specs.contracts.put as text_put
 use Rattle.text.proofs.put.Symbol as text_put_symbol
@@ -263,12 +254,12 @@ use Rattle.tiles.specs.contracts.Panel.hear as tiles_hear
 use Rattle.tiles.proofs.Panel.hear.Symbol as tiles_hear_symbol
 use Rattle.tiles.specs.contracts.Panel.reading as tiles_reading
 use Rattle.tiles.proofs.Panel.reading.Symbol as tiles_reading_symbol
-use Rattle.tiles.specs.contracts.Naming.refusal as tiles_naming_refusal
-use Rattle.tiles.proofs.Naming.refusal.Symbol as tiles_naming_refusal_symbol
-use Rattle.tiles.specs.contracts.Hearing.refusal as tiles_hearing_refusal
-use Rattle.tiles.proofs.Hearing.refusal.Symbol as tiles_hearing_refusal_symbol
-use Rattle.tiles.specs.contracts.Asking.refusal as tiles_asking_refusal
-use Rattle.tiles.proofs.Asking.refusal.Symbol as tiles_asking_refusal_symbol
+use Rattle.tiles.specs.contracts.NotNamedRefusal.refusal as tiles_not_named_refusal
+use Rattle.tiles.proofs.NotNamedRefusal.refusal.Symbol as tiles_not_named_refusal_symbol
+use Rattle.tiles.specs.contracts.NotHeardRefusal.refusal as tiles_not_heard_refusal
+use Rattle.tiles.proofs.NotHeardRefusal.refusal.Symbol as tiles_not_heard_refusal_symbol
+use Rattle.tiles.specs.contracts.NotShownRefusal.refusal as tiles_not_shown_refusal
+use Rattle.tiles.proofs.NotShownRefusal.refusal.Symbol as tiles_not_shown_refusal_symbol
 
 -- A contract's `requires` asks nothing of a caller: there is a value of what the contract binds, and at each it is ⊤ₛ.
 pub record AsksNothing {M : Type 1} (𝓤 : Ura M) {Ghost : Type 0} (requires : Ghost → SProp 𝓤) : Type 2 where
@@ -312,29 +303,59 @@ module _ (M : Type 1) where
     abbrev pub Answers : Code → Callee → Contract → Type 0 → Type 2
     Answers code name contract Only = AnswersBy code name contract (λ κs r s. r ≡ s) Only
 
+  -- The number of an answer, at what the answer gives, `T`, and what it may refuse for, `E`, whose numbers are
+  -- `refusals`.
+  module _ (T E : RattleType) (tc : Clone.Ghosts T.Denot) (td : Dict) (refusals : Refusal.Ghosts E.Denot) (rd : Dict)
+      (ec : Clone.Ghosts E.Denot) (ed : Dict) where
+    abbrev Number : Ended
+    Number = words_result_refusal.ended T E tc td refusals rd ec ed
+
+    abbrev NumberContract : (𝓤 : Ura M) (𝓛 : Logic 𝓤) → (Memory → SProp 𝓤) → (Routine → Fun 𝓤) → Spec 𝓤 Number.signature
+    NumberContract 𝓤 𝓛 = words_result_refusal.spec T E tc td refusals rd ec ed 𝓛
+
+    pub record NumberOf : Type 2 where
+      -- The contract asks nothing of its caller but that the answer may be held.
+      pub asks_nothing : (𝓤 : Ura M) (𝓛 : Logic 𝓤) (mem : Memory → SProp 𝓤) (run : Routine → Fun 𝓤)
+          (κs : Lfts Number.signature.lifetimes) (args : Args Number.signature κs)
+          (ghost : (NumberContract 𝓤 𝓛 mem run κs args).ghost)
+          → (NumberContract 𝓤 𝓛 mem run κs args).requires ghost
+          ≡ sep 𝓤 (fact 𝓤 (κs.0 ⊑ T.lives)) (sep 𝓤 (fact 𝓤 (κs.1.0 ⊑ E.lives)) (emp 𝓤))
+      -- Its `ensures` is one promise: the number of the answer, which leaves no second one.
+      pub promises : (𝓤 : Ura M) (𝓛 : Logic 𝓤) (mem : Memory → SProp 𝓤) (run : Routine → Fun 𝓤)
+          (κs : Lfts Number.signature.lifetimes) (args : Args Number.signature κs)
+          (ghost : (NumberContract 𝓤 𝓛 mem run κs args).ghost) (r : Res Number.signature κs)
+          → (NumberContract 𝓤 𝓛 mem run κs args).ensures ghost r
+          ≡ exits 𝓛 Number.signature Number.kept κs args
+          (λ end. (connectives 𝓤).⌜◌⌝ (r ≡ number_of_answer refusals.number args.0))
+
+  -- The code meets this contract at every two types, and the contract is that promise.
+  pub record EveryAnswerNumbered : Type 2 where
+    pub meets : words_result_refusal_statement.statement M
+    pub each : (T E : RattleType) (tc : Clone.Ghosts T.Denot) (td : Dict) (refusals : Refusal.Ghosts E.Denot) (rd : Dict)
+        (ec : Clone.Ghosts E.Denot) (ed : Dict) → NumberOf T E tc td refusals rd ec ed
+
   pub record EveryCallOver : Type 2 where
+    -- The number of every answer
+    pub words_result_refusal : EveryAnswerNumbered
     -- Identifier
     pub frame_take_apart :
         Answers frame_take_apart.ended frame_take_apart_symbol.code frame_take_apart_symbol.name
         (λ 𝓤 𝓛. frame_take_apart.spec 𝓛) Frame.TakeApartOnly
-    pub frame_apart_refusal :
-        Answers frame_apart_refusal.ended frame_apart_refusal_symbol.code frame_apart_refusal_symbol.name
-        (λ 𝓤 𝓛. frame_apart_refusal.spec 𝓛) Frame.ApartRefusalOnly
-    pub frame_form :
-        Answers frame_form.ended frame_form_symbol.code frame_form_symbol.name
-        (λ 𝓤 𝓛. frame_form.spec 𝓛) Frame.FormOnly
-    pub frame_formed_refusal :
-        Answers frame_formed_refusal.ended frame_formed_refusal_symbol.code frame_formed_refusal_symbol.name
-        (λ 𝓤 𝓛. frame_formed_refusal.spec 𝓛) Frame.FormedRefusalOnly
-    pub frame_check :
-        Answers frame_check.ended frame_check_symbol.code frame_check_symbol.name
-        (λ 𝓤 𝓛. frame_check.spec 𝓛) Frame.CheckOnly
-    pub frame_verdict_refusal :
-        Answers frame_verdict_refusal.ended frame_verdict_refusal_symbol.code frame_verdict_refusal_symbol.name
-        (λ 𝓤 𝓛. frame_verdict_refusal.spec 𝓛) Frame.VerdictRefusalOnly
+    pub frame_bad_identifier_refusal :
+        Answers frame_bad_identifier_refusal.ended frame_bad_identifier_refusal_symbol.code frame_bad_identifier_refusal_symbol.name
+        (λ 𝓤 𝓛. frame_bad_identifier_refusal.spec 𝓛) Frame.BadIdentifierRefusalOnly
+    pub frame_not_formed_refusal :
+        Answers frame_not_formed_refusal.ended frame_not_formed_refusal_symbol.code frame_not_formed_refusal_symbol.name
+        (λ 𝓤 𝓛. frame_not_formed_refusal.spec 𝓛) Frame.NotFormedRefusalOnly
     pub frame_bad_frame_refusal :
         Answers frame_bad_frame_refusal.ended frame_bad_frame_refusal_symbol.code frame_bad_frame_refusal_symbol.name
         (λ 𝓤 𝓛. frame_bad_frame_refusal.spec 𝓛) Frame.BadFrameRefusalOnly
+    pub frame_form :
+        Answers frame_form.ended frame_form_symbol.code frame_form_symbol.name
+        (λ 𝓤 𝓛. frame_form.spec 𝓛) Frame.FormOnly
+    pub frame_check :
+        Answers frame_check.ended frame_check_symbol.code frame_check_symbol.name
+        (λ 𝓤 𝓛. frame_check.spec 𝓛) Frame.CheckOnly
     pub frame_destination_of :
         Answers frame_destination_of.ended frame_destination_of_symbol.code frame_destination_of_symbol.name
         (λ 𝓤 𝓛. frame_destination_of.spec 𝓛) Frame.DestinationOfOnly
@@ -360,15 +381,21 @@ module _ (M : Type 1) where
     pub message_hear :
         Answers message_hear.ended message_hear_symbol.code message_hear_symbol.name
         (λ 𝓤 𝓛. message_hear.spec 𝓛) Message.HearOnly
-    pub message_answer_refusal :
-        Answers message_answer_refusal.ended message_answer_refusal_symbol.code message_answer_refusal_symbol.name
-        (λ 𝓤 𝓛. message_answer_refusal.spec 𝓛) Message.AnswerRefusalOnly
+    pub message_not_heard_refusal :
+        Answers message_not_heard_refusal.ended message_not_heard_refusal_symbol.code message_not_heard_refusal_symbol.name
+        (λ 𝓤 𝓛. message_not_heard_refusal.spec 𝓛) Message.NotHeardRefusalOnly
+    pub message_bad_state_refusal :
+        Answers message_bad_state_refusal.ended message_bad_state_refusal_symbol.code message_bad_state_refusal_symbol.name
+        (λ 𝓤 𝓛. message_bad_state_refusal.spec 𝓛) Message.BadStateRefusalOnly
+    pub message_unsplittable_refusal :
+        Answers message_unsplittable_refusal.ended message_unsplittable_refusal_symbol.code message_unsplittable_refusal_symbol.name
+        (λ 𝓤 𝓛. message_unsplittable_refusal.spec 𝓛) Message.UnsplittableRefusalOnly
+    pub message_not_split_refusal :
+        Answers message_not_split_refusal.ended message_not_split_refusal_symbol.code message_not_split_refusal_symbol.name
+        (λ 𝓤 𝓛. message_not_split_refusal.spec 𝓛) Message.NotSplitRefusalOnly
     pub message_pause :
         Answers message_pause.ended message_pause_symbol.code message_pause_symbol.name
         (λ 𝓤 𝓛. message_pause.spec 𝓛) Message.PauseOnly
-    pub message_pausing_refusal :
-        Answers message_pausing_refusal.ended message_pausing_refusal_symbol.code message_pausing_refusal_symbol.name
-        (λ 𝓤 𝓛. message_pausing_refusal.spec 𝓛) Message.PausingRefusalOnly
     -- the answer is a part of the storage: two are the same that have the same bytes
     pub message_message :
         AnswersBy message_message.ended message_message_symbol.code message_message_symbol.name
@@ -376,46 +403,37 @@ module _ (M : Type 1) where
     pub message_announcement :
         Answers message_announcement.ended message_announcement_symbol.code message_announcement_symbol.name
         (λ 𝓤 𝓛. message_announcement.spec 𝓛) Message.AnnouncementOnly
-    pub message_announcing_refusal :
-        Answers message_announcing_refusal.ended message_announcing_refusal_symbol.code message_announcing_refusal_symbol.name
-        (λ 𝓤 𝓛. message_announcing_refusal.spec 𝓛) Message.AnnouncingRefusalOnly
     pub message_packet :
         Answers message_packet.ended message_packet_symbol.code message_packet_symbol.name
         (λ 𝓤 𝓛. message_packet.spec 𝓛) Message.PacketOnly
-    pub message_splitting_refusal :
-        Answers message_splitting_refusal.ended message_splitting_refusal_symbol.code message_splitting_refusal_symbol.name
-        (λ 𝓤 𝓛. message_splitting_refusal.spec 𝓛) Message.SplittingRefusalOnly
-    pub message_unsplittable_refusal :
-        Answers message_unsplittable_refusal.ended message_unsplittable_refusal_symbol.code message_unsplittable_refusal_symbol.name
-        (λ 𝓤 𝓛. message_unsplittable_refusal.spec 𝓛) Message.UnsplittableRefusalOnly
     -- Fast packets
     pub fast_start :
         Answers fast_start.ended fast_start_symbol.code fast_start_symbol.name
         (λ 𝓤 𝓛. fast_start.spec 𝓛) Fast.StartOnly
-    pub fast_starting_refusal :
-        Answers fast_starting_refusal.ended fast_starting_refusal_symbol.code fast_starting_refusal_symbol.name
-        (λ 𝓤 𝓛. fast_starting_refusal.spec 𝓛) Fast.StartingRefusalOnly
+    pub fast_bad_list_refusal :
+        Answers fast_bad_list_refusal.ended fast_bad_list_refusal_symbol.code fast_bad_list_refusal_symbol.name
+        (λ 𝓤 𝓛. fast_bad_list_refusal.spec 𝓛) Fast.BadListRefusalOnly
+    pub fast_not_heard_refusal :
+        Answers fast_not_heard_refusal.ended fast_not_heard_refusal_symbol.code fast_not_heard_refusal_symbol.name
+        (λ 𝓤 𝓛. fast_not_heard_refusal.spec 𝓛) Fast.NotHeardRefusalOnly
+    pub fast_bad_state_refusal :
+        Answers fast_bad_state_refusal.ended fast_bad_state_refusal_symbol.code fast_bad_state_refusal_symbol.name
+        (λ 𝓤 𝓛. fast_bad_state_refusal.spec 𝓛) Fast.BadStateRefusalOnly
+    pub fast_not_split_refusal :
+        Answers fast_not_split_refusal.ended fast_not_split_refusal_symbol.code fast_not_split_refusal_symbol.name
+        (λ 𝓤 𝓛. fast_not_split_refusal.spec 𝓛) Fast.NotSplitRefusalOnly
     pub fast_hear :
         Answers fast_hear.ended fast_hear_symbol.code fast_hear_symbol.name
         (λ 𝓤 𝓛. fast_hear.spec 𝓛) Fast.HearOnly
-    pub fast_answer_refusal :
-        Answers fast_answer_refusal.ended fast_answer_refusal_symbol.code fast_answer_refusal_symbol.name
-        (λ 𝓤 𝓛. fast_answer_refusal.spec 𝓛) Fast.AnswerRefusalOnly
     pub fast_pause :
         Answers fast_pause.ended fast_pause_symbol.code fast_pause_symbol.name
         (λ 𝓤 𝓛. fast_pause.spec 𝓛) Fast.PauseOnly
-    pub fast_pausing_refusal :
-        Answers fast_pausing_refusal.ended fast_pausing_refusal_symbol.code fast_pausing_refusal_symbol.name
-        (λ 𝓤 𝓛. fast_pausing_refusal.spec 𝓛) Fast.PausingRefusalOnly
     pub fast_message :
         AnswersBy fast_message.ended fast_message_symbol.code fast_message_symbol.name
         (λ 𝓤 𝓛. fast_message.spec 𝓛) (λ κs r s. r.now ≡ s.now) Fast.MessageOnly
     pub fast_frame_of :
         Answers fast_frame_of.ended fast_frame_of_symbol.code fast_frame_of_symbol.name
         (λ 𝓤 𝓛. fast_frame_of.spec 𝓛) Fast.FrameOfOnly
-    pub fast_splitting_refusal :
-        Answers fast_splitting_refusal.ended fast_splitting_refusal_symbol.code fast_splitting_refusal_symbol.name
-        (λ 𝓤 𝓛. fast_splitting_refusal.spec 𝓛) Fast.SplittingRefusalOnly
     -- Field catalogue
     pub catalogue_rows :
         Answers catalogue_rows.ended catalogue_rows_symbol.code catalogue_rows_symbol.name
@@ -444,18 +462,15 @@ module _ (M : Type 1) where
     pub catalogue_write :
         Answers catalogue_write.ended catalogue_write_symbol.code catalogue_write_symbol.name
         (λ 𝓤 𝓛. catalogue_write.spec 𝓛) Catalogue.WriteOnly
-    pub catalogue_looked_refusal :
-        Answers catalogue_looked_refusal.ended catalogue_looked_refusal_symbol.code catalogue_looked_refusal_symbol.name
-        (λ 𝓤 𝓛. catalogue_looked_refusal.spec 𝓛) Catalogue.LookedRefusalOnly
-    pub catalogue_reading_refusal :
-        Answers catalogue_reading_refusal.ended catalogue_reading_refusal_symbol.code catalogue_reading_refusal_symbol.name
-        (λ 𝓤 𝓛. catalogue_reading_refusal.spec 𝓛) Catalogue.ReadingRefusalOnly
-    pub catalogue_scaled_reading_refusal :
-        Answers catalogue_scaled_reading_refusal.ended catalogue_scaled_reading_refusal_symbol.code catalogue_scaled_reading_refusal_symbol.name
-        (λ 𝓤 𝓛. catalogue_scaled_reading_refusal.spec 𝓛) Catalogue.ScaledReadingRefusalOnly
-    pub catalogue_writing_refusal :
-        Answers catalogue_writing_refusal.ended catalogue_writing_refusal_symbol.code catalogue_writing_refusal_symbol.name
-        (λ 𝓤 𝓛. catalogue_writing_refusal.spec 𝓛) Catalogue.WritingRefusalOnly
+    pub catalogue_not_found_refusal :
+        Answers catalogue_not_found_refusal.ended catalogue_not_found_refusal_symbol.code catalogue_not_found_refusal_symbol.name
+        (λ 𝓤 𝓛. catalogue_not_found_refusal.spec 𝓛) Catalogue.NotFoundRefusalOnly
+    pub catalogue_not_read_refusal :
+        Answers catalogue_not_read_refusal.ended catalogue_not_read_refusal_symbol.code catalogue_not_read_refusal_symbol.name
+        (λ 𝓤 𝓛. catalogue_not_read_refusal.spec 𝓛) Catalogue.NotReadRefusalOnly
+    pub catalogue_not_written_refusal :
+        Answers catalogue_not_written_refusal.ended catalogue_not_written_refusal_symbol.code catalogue_not_written_refusal_symbol.name
+        (λ 𝓤 𝓛. catalogue_not_written_refusal.spec 𝓛) Catalogue.NotWrittenRefusalOnly
     pub catalogue_row_of :
         Answers catalogue_row_of.ended catalogue_row_of_symbol.code catalogue_row_of_symbol.name
         (λ 𝓤 𝓛. catalogue_row_of.spec 𝓛) Catalogue.RowOfOnly
@@ -502,21 +517,15 @@ module _ (M : Type 1) where
     pub claim_holds_list :
         Answers claim_holds_list.ended claim_holds_list_symbol.code claim_holds_list_symbol.name
         (λ 𝓤 𝓛. claim_holds_list.spec 𝓛) Claim.HoldsListOnly
-    pub claim_starting_refusal :
-        Answers claim_starting_refusal.ended claim_starting_refusal_symbol.code claim_starting_refusal_symbol.name
-        (λ 𝓤 𝓛. claim_starting_refusal.spec 𝓛) Claim.StartingRefusalOnly
-    pub claim_hearing_refusal :
-        Answers claim_hearing_refusal.ended claim_hearing_refusal_symbol.code claim_hearing_refusal_symbol.name
-        (λ 𝓤 𝓛. claim_hearing_refusal.spec 𝓛) Claim.HearingRefusalOnly
-    pub claim_pausing_refusal :
-        Answers claim_pausing_refusal.ended claim_pausing_refusal_symbol.code claim_pausing_refusal_symbol.name
-        (λ 𝓤 𝓛. claim_pausing_refusal.spec 𝓛) Claim.PausingRefusalOnly
-    pub claim_standing_refusal :
-        Answers claim_standing_refusal.ended claim_standing_refusal_symbol.code claim_standing_refusal_symbol.name
-        (λ 𝓤 𝓛. claim_standing_refusal.spec 𝓛) Claim.StandingRefusalOnly
-    pub claim_sending_refusal :
-        Answers claim_sending_refusal.ended claim_sending_refusal_symbol.code claim_sending_refusal_symbol.name
-        (λ 𝓤 𝓛. claim_sending_refusal.spec 𝓛) Claim.SendingRefusalOnly
+    pub claim_not_started_refusal :
+        Answers claim_not_started_refusal.ended claim_not_started_refusal_symbol.code claim_not_started_refusal_symbol.name
+        (λ 𝓤 𝓛. claim_not_started_refusal.spec 𝓛) Claim.NotStartedRefusalOnly
+    pub claim_not_heard_refusal :
+        Answers claim_not_heard_refusal.ended claim_not_heard_refusal_symbol.code claim_not_heard_refusal_symbol.name
+        (λ 𝓤 𝓛. claim_not_heard_refusal.spec 𝓛) Claim.NotHeardRefusalOnly
+    pub claim_bad_state_refusal :
+        Answers claim_bad_state_refusal.ended claim_bad_state_refusal_symbol.code claim_bad_state_refusal_symbol.name
+        (λ 𝓤 𝓛. claim_bad_state_refusal.spec 𝓛) Claim.BadStateRefusalOnly
     -- Node table
     pub nodes_empty :
         Answers nodes_empty.ended nodes_empty_symbol.code nodes_empty_symbol.name
@@ -536,21 +545,12 @@ module _ (M : Type 1) where
     pub nodes_find_challenger :
         Answers nodes_find_challenger.ended nodes_find_challenger_symbol.code nodes_find_challenger_symbol.name
         (λ 𝓤 𝓛. nodes_find_challenger.spec 𝓛) Nodes.FindChallengerOnly
-    pub nodes_hearing_refusal :
-        Answers nodes_hearing_refusal.ended nodes_hearing_refusal_symbol.code nodes_hearing_refusal_symbol.name
-        (λ 𝓤 𝓛. nodes_hearing_refusal.spec 𝓛) Nodes.HearingRefusalOnly
-    pub nodes_pausing_refusal :
-        Answers nodes_pausing_refusal.ended nodes_pausing_refusal_symbol.code nodes_pausing_refusal_symbol.name
-        (λ 𝓤 𝓛. nodes_pausing_refusal.spec 𝓛) Nodes.PausingRefusalOnly
-    pub nodes_looked_up_refusal :
-        Answers nodes_looked_up_refusal.ended nodes_looked_up_refusal_symbol.code nodes_looked_up_refusal_symbol.name
-        (λ 𝓤 𝓛. nodes_looked_up_refusal.spec 𝓛) Nodes.LookedUpRefusalOnly
-    pub nodes_found_address_refusal :
-        Answers nodes_found_address_refusal.ended nodes_found_address_refusal_symbol.code nodes_found_address_refusal_symbol.name
-        (λ 𝓤 𝓛. nodes_found_address_refusal.spec 𝓛) Nodes.FoundAddressRefusalOnly
-    pub nodes_found_challenger_refusal :
-        Answers nodes_found_challenger_refusal.ended nodes_found_challenger_refusal_symbol.code nodes_found_challenger_refusal_symbol.name
-        (λ 𝓤 𝓛. nodes_found_challenger_refusal.spec 𝓛) Nodes.FoundChallengerRefusalOnly
+    pub nodes_bad_table_refusal :
+        Answers nodes_bad_table_refusal.ended nodes_bad_table_refusal_symbol.code nodes_bad_table_refusal_symbol.name
+        (λ 𝓤 𝓛. nodes_bad_table_refusal.spec 𝓛) Nodes.BadTableRefusalOnly
+    pub nodes_not_heard_refusal :
+        Answers nodes_not_heard_refusal.ended nodes_not_heard_refusal_symbol.code nodes_not_heard_refusal_symbol.name
+        (λ 𝓤 𝓛. nodes_not_heard_refusal.spec 𝓛) Nodes.NotHeardRefusalOnly
     -- Commands, requests, replies
     pub command_start :
         Answers command_start.ended command_start_symbol.code command_start_symbol.name
@@ -564,18 +564,18 @@ module _ (M : Type 1) where
     pub command_acknowledge :
         Answers command_acknowledge.ended command_acknowledge_symbol.code command_acknowledge_symbol.name
         (λ 𝓤 𝓛. command_acknowledge.spec 𝓛) Command.AcknowledgeOnly
-    pub command_starting_refusal :
-        Answers command_starting_refusal.ended command_starting_refusal_symbol.code command_starting_refusal_symbol.name
-        (λ 𝓤 𝓛. command_starting_refusal.spec 𝓛) Command.StartingRefusalOnly
-    pub command_routing_refusal :
-        Answers command_routing_refusal.ended command_routing_refusal_symbol.code command_routing_refusal_symbol.name
-        (λ 𝓤 𝓛. command_routing_refusal.spec 𝓛) Command.RoutingRefusalOnly
-    pub command_requesting_refusal :
-        Answers command_requesting_refusal.ended command_requesting_refusal_symbol.code command_requesting_refusal_symbol.name
-        (λ 𝓤 𝓛. command_requesting_refusal.spec 𝓛) Command.RequestingRefusalOnly
-    pub command_acknowledging_refusal :
-        Answers command_acknowledging_refusal.ended command_acknowledging_refusal_symbol.code command_acknowledging_refusal_symbol.name
-        (λ 𝓤 𝓛. command_acknowledging_refusal.spec 𝓛) Command.AcknowledgingRefusalOnly
+    pub command_not_started_refusal :
+        Answers command_not_started_refusal.ended command_not_started_refusal_symbol.code command_not_started_refusal_symbol.name
+        (λ 𝓤 𝓛. command_not_started_refusal.spec 𝓛) Command.NotStartedRefusalOnly
+    pub command_not_routed_refusal :
+        Answers command_not_routed_refusal.ended command_not_routed_refusal_symbol.code command_not_routed_refusal_symbol.name
+        (λ 𝓤 𝓛. command_not_routed_refusal.spec 𝓛) Command.NotRoutedRefusalOnly
+    pub command_not_answered_refusal :
+        Answers command_not_answered_refusal.ended command_not_answered_refusal_symbol.code command_not_answered_refusal_symbol.name
+        (λ 𝓤 𝓛. command_not_answered_refusal.spec 𝓛) Command.NotAnsweredRefusalOnly
+    pub command_not_acknowledged_refusal :
+        Answers command_not_acknowledged_refusal.ended command_not_acknowledged_refusal_symbol.code command_not_acknowledged_refusal_symbol.name
+        (λ 𝓤 𝓛. command_not_acknowledged_refusal.spec 𝓛) Command.NotAcknowledgedRefusalOnly
     -- Faults
     pub faults_packed_rows :
         Answers faults_packed_rows.ended faults_packed_rows_symbol.code faults_packed_rows_symbol.name
@@ -595,9 +595,18 @@ module _ (M : Type 1) where
     pub faults_write_service_point :
         Answers faults_write_service_point.ended faults_write_service_point_symbol.code faults_write_service_point_symbol.name
         (λ 𝓤 𝓛. faults_write_service_point.spec 𝓛) Faults.WriteServicePointOnly
-    pub faults_service_point_refusal :
-        Answers faults_service_point_refusal.ended faults_service_point_refusal_symbol.code faults_service_point_refusal_symbol.name
-        (λ 𝓤 𝓛. faults_service_point_refusal.spec 𝓛) Faults.ServicePointRefusalOnly
+    pub faults_not_added_refusal :
+        Answers faults_not_added_refusal.ended faults_not_added_refusal_symbol.code faults_not_added_refusal_symbol.name
+        (λ 𝓤 𝓛. faults_not_added_refusal.spec 𝓛) Faults.NotAddedRefusalOnly
+    pub faults_not_cleared_refusal :
+        Answers faults_not_cleared_refusal.ended faults_not_cleared_refusal_symbol.code faults_not_cleared_refusal_symbol.name
+        (λ 𝓤 𝓛. faults_not_cleared_refusal.spec 𝓛) Faults.NotClearedRefusalOnly
+    pub faults_not_stepped_refusal :
+        Answers faults_not_stepped_refusal.ended faults_not_stepped_refusal_symbol.code faults_not_stepped_refusal_symbol.name
+        (λ 𝓤 𝓛. faults_not_stepped_refusal.spec 𝓛) Faults.NotSteppedRefusalOnly
+    pub faults_not_heard_refusal :
+        Answers faults_not_heard_refusal.ended faults_not_heard_refusal_symbol.code faults_not_heard_refusal_symbol.name
+        (λ 𝓤 𝓛. faults_not_heard_refusal.spec 𝓛) Faults.NotHeardRefusalOnly
     pub faults_start :
         Answers faults_start.ended faults_start_symbol.code faults_start_symbol.name
         (λ 𝓤 𝓛. faults_start.spec 𝓛) Faults.StartOnly
@@ -616,25 +625,13 @@ module _ (M : Type 1) where
     pub faults_reply :
         Answers faults_reply.ended faults_reply_symbol.code faults_reply_symbol.name
         (λ 𝓤 𝓛. faults_reply.spec 𝓛) Faults.ReplyOnly
-    pub faults_adding_refusal :
-        Answers faults_adding_refusal.ended faults_adding_refusal_symbol.code faults_adding_refusal_symbol.name
-        (λ 𝓤 𝓛. faults_adding_refusal.spec 𝓛) Faults.AddingRefusalOnly
-    pub faults_clearing_refusal :
-        Answers faults_clearing_refusal.ended faults_clearing_refusal_symbol.code faults_clearing_refusal_symbol.name
-        (λ 𝓤 𝓛. faults_clearing_refusal.spec 𝓛) Faults.ClearingRefusalOnly
-    pub faults_stepping_refusal :
-        Answers faults_stepping_refusal.ended faults_stepping_refusal_symbol.code faults_stepping_refusal_symbol.name
-        (λ 𝓤 𝓛. faults_stepping_refusal.spec 𝓛) Faults.SteppingRefusalOnly
-    pub faults_requesting_refusal :
-        Answers faults_requesting_refusal.ended faults_requesting_refusal_symbol.code faults_requesting_refusal_symbol.name
-        (λ 𝓤 𝓛. faults_requesting_refusal.spec 𝓛) Faults.RequestingRefusalOnly
     -- The capture reader
     pub capture_take_apart :
         Answers capture_take_apart.ended capture_take_apart_symbol.code capture_take_apart_symbol.name
         (λ 𝓤 𝓛. capture_take_apart.spec 𝓛) Capture.TakeApartOnly
-    pub capture_reading_refusal :
-        Answers capture_reading_refusal.ended capture_reading_refusal_symbol.code capture_reading_refusal_symbol.name
-        (λ 𝓤 𝓛. capture_reading_refusal.spec 𝓛) Capture.ReadingRefusalOnly
+    pub capture_not_read_refusal :
+        Answers capture_not_read_refusal.ended capture_not_read_refusal_symbol.code capture_not_read_refusal_symbol.name
+        (λ 𝓤 𝓛. capture_not_read_refusal.spec 𝓛) Capture.NotReadRefusalOnly
     pub capture_write :
         Answers capture_write.ended capture_write_symbol.code capture_write_symbol.name
         (λ 𝓤 𝓛. capture_write.spec 𝓛) Capture.WriteOnly
@@ -676,15 +673,15 @@ module _ (M : Type 1) where
     pub tiles_reading :
         Answers tiles_reading.ended tiles_reading_symbol.code tiles_reading_symbol.name
         (λ 𝓤 𝓛. tiles_reading.spec 𝓛) Tiles.ReadTileOnly
-    pub tiles_naming_refusal :
-        Answers tiles_naming_refusal.ended tiles_naming_refusal_symbol.code tiles_naming_refusal_symbol.name
-        (λ 𝓤 𝓛. tiles_naming_refusal.spec 𝓛) Tiles.NamingRefusalOnly
-    pub tiles_hearing_refusal :
-        Answers tiles_hearing_refusal.ended tiles_hearing_refusal_symbol.code tiles_hearing_refusal_symbol.name
-        (λ 𝓤 𝓛. tiles_hearing_refusal.spec 𝓛) Tiles.HearingRefusalOnly
-    pub tiles_asking_refusal :
-        Answers tiles_asking_refusal.ended tiles_asking_refusal_symbol.code tiles_asking_refusal_symbol.name
-        (λ 𝓤 𝓛. tiles_asking_refusal.spec 𝓛) Tiles.AskingRefusalOnly
+    pub tiles_not_named_refusal :
+        Answers tiles_not_named_refusal.ended tiles_not_named_refusal_symbol.code tiles_not_named_refusal_symbol.name
+        (λ 𝓤 𝓛. tiles_not_named_refusal.spec 𝓛) Tiles.NotNamedRefusalOnly
+    pub tiles_not_heard_refusal :
+        Answers tiles_not_heard_refusal.ended tiles_not_heard_refusal_symbol.code tiles_not_heard_refusal_symbol.name
+        (λ 𝓤 𝓛. tiles_not_heard_refusal.spec 𝓛) Tiles.NotHeardRefusalOnly
+    pub tiles_not_shown_refusal :
+        Answers tiles_not_shown_refusal.ended tiles_not_shown_refusal_symbol.code tiles_not_shown_refusal_symbol.name
+        (λ 𝓤 𝓛. tiles_not_shown_refusal.spec 𝓛) Tiles.NotShownRefusalOnly
 
 abbrev pub EveryCall : Type 2
 EveryCall = (M : Type 1) → EveryCallOver M

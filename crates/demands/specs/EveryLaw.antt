@@ -70,6 +70,11 @@ pub record FrameLaws : Type 0 where
   pub formed_refusal_only : Frame.FormedRefusalOnly
   pub bad_frame_refusal_only : Frame.BadFrameRefusalOnly
   pub verdict_refusal_only : Frame.VerdictRefusalOnly
+  pub bad_identifier_refusal_only : Frame.BadIdentifierRefusalOnly
+  pub apart_refusal_told : Frame.ApartRefusalTold
+  pub not_formed_refusal_only : Frame.NotFormedRefusalOnly
+  pub formed_refusal_told : Frame.FormedRefusalTold
+  pub verdict_refusal_told : Frame.VerdictRefusalTold
   pub refused_keeps : Frame.RefusedKeeps
   pub parts_back : Frame.PartsBack
   pub identifier_back : Frame.IdentifierBack
@@ -142,6 +147,13 @@ pub record MessageLaws : Type 0 where
   pub announcing_refusal_only : Message.AnnouncingRefusalOnly
   pub splitting_refusal_only : Message.SplittingRefusalOnly
   pub unsplittable_refusal_only : Message.UnsplittableRefusalOnly
+  pub not_heard_refusal_only : Message.NotHeardRefusalOnly
+  pub answer_refusal_told : Message.AnswerRefusalTold
+  pub bad_state_refusal_only : Message.BadStateRefusalOnly
+  pub pausing_refusal_told : Message.PausingRefusalTold
+  pub announcing_refusal_told : Message.AnnouncingRefusalTold
+  pub not_split_refusal_only : Message.NotSplitRefusalOnly
+  pub splitting_refusal_told : Message.SplittingRefusalTold
   pub refused_keeps : Message.RefusedKeeps
   pub ten_closes : Message.TenCloses
   pub pause_refused_keeps : Message.PauseRefusedKeeps
@@ -176,6 +188,14 @@ pub record FastLaws : Type 1 where
   pub answer_refusal_only : Fast.AnswerRefusalOnly
   pub pausing_refusal_only : Fast.PausingRefusalOnly
   pub splitting_refusal_only : Fast.SplittingRefusalOnly
+  pub bad_list_refusal_only : Fast.BadListRefusalOnly
+  pub starting_refusal_told : Fast.StartingRefusalTold
+  pub not_heard_refusal_only : Fast.NotHeardRefusalOnly
+  pub answer_refusal_told : Fast.AnswerRefusalTold
+  pub bad_state_refusal_only : Fast.BadStateRefusalOnly
+  pub pausing_refusal_told : Fast.PausingRefusalTold
+  pub not_split_refusal_only : Fast.NotSplitRefusalOnly
+  pub splitting_refusal_told : Fast.SplittingRefusalTold
   pub pair_same : Fast.PairSame
   pub first_byte_read : Fast.FirstByteRead
   pub frames_needed : Fast.FramesNeeded
@@ -225,6 +245,13 @@ pub record CatalogueLaws : Type 0 where
   pub reading_refusal_only : Catalogue.ReadingRefusalOnly
   pub scaled_reading_refusal_only : Catalogue.ScaledReadingRefusalOnly
   pub writing_refusal_only : Catalogue.WritingRefusalOnly
+  pub not_found_refusal_only : Catalogue.NotFoundRefusalOnly
+  pub not_read_refusal_only : Catalogue.NotReadRefusalOnly
+  pub not_written_refusal_only : Catalogue.NotWrittenRefusalOnly
+  pub looked_refusal_told : Catalogue.LookedRefusalTold
+  pub reading_refusal_told : Catalogue.ReadingRefusalTold
+  pub scaled_reading_refusal_told : Catalogue.ScaledReadingRefusalTold
+  pub writing_refusal_told : Catalogue.WritingRefusalTold
   pub refused_keeps : Catalogue.RefusedKeeps
   pub row_refused_keeps : Catalogue.RowRefusedKeeps
   pub lies_in_frame : Catalogue.LiesInFrame
@@ -312,6 +339,14 @@ pub record ClaimLaws : Type 0 where
   pub pausing_refusal_only : Claims.PausingRefusalOnly
   pub standing_refusal_only : Claims.StandingRefusalOnly
   pub sending_refusal_only : Claims.SendingRefusalOnly
+  pub not_started_refusal_only : Claims.NotStartedRefusalOnly
+  pub not_heard_refusal_only : Claims.NotHeardRefusalOnly
+  pub bad_state_refusal_only : Claims.BadStateRefusalOnly
+  pub starting_refusal_told : Claims.StartingRefusalTold
+  pub hearing_refusal_told : Claims.HearingRefusalTold
+  pub pausing_refusal_told : Claims.PausingRefusalTold
+  pub standing_refusal_told : Claims.StandingRefusalTold
+  pub sending_refusal_told : Claims.SendingRefusalTold
   pub start_refused_keeps : Claims.StartRefusedKeeps
   pub hear_refused_keeps : Claims.HearRefusedKeeps
   pub pause_refused_keeps : Claims.PauseRefusedKeeps
@@ -362,6 +397,13 @@ pub record NodesLaws : Type 0 where
   pub looked_up_refusal_only : Nodes.LookedUpRefusalOnly
   pub found_address_refusal_only : Nodes.FoundAddressRefusalOnly
   pub found_challenger_refusal_only : Nodes.FoundChallengerRefusalOnly
+  pub not_heard_refusal_only : Nodes.NotHeardRefusalOnly
+  pub bad_table_refusal_only : Nodes.BadTableRefusalOnly
+  pub hearing_refusal_told : Nodes.HearingRefusalTold
+  pub pausing_refusal_told : Nodes.PausingRefusalTold
+  pub looked_up_refusal_told : Nodes.LookedUpRefusalTold
+  pub found_address_refusal_told : Nodes.FoundAddressRefusalTold
+  pub found_challenger_refusal_told : Nodes.FoundChallengerRefusalTold
   pub hear_refused_keeps : Nodes.HearRefusedKeeps
   pub pause_refused_keeps : Nodes.PauseRefusedKeeps
   pub hear_nothing_keeps : Nodes.HearNothingKeeps
@@ -418,6 +460,14 @@ pub record CommandLaws : Type 0 where
   pub routing_refusal_any : Command.RoutingRefusalAny
   pub requesting_refusal_any : Command.RequestingRefusalAny
   pub acknowledging_refusal_any : Command.AcknowledgingRefusalAny
+  pub not_started_refusal_only : Command.NotStartedRefusalOnly
+  pub not_routed_refusal_only : Command.NotRoutedRefusalOnly
+  pub not_answered_refusal_only : Command.NotAnsweredRefusalOnly
+  pub not_acknowledged_refusal_only : Command.NotAcknowledgedRefusalOnly
+  pub starting_refusal_told : Command.StartingRefusalTold
+  pub routing_refusal_told : Command.RoutingRefusalTold
+  pub requesting_refusal_told : Command.RequestingRefusalTold
+  pub acknowledging_refusal_told : Command.AcknowledgingRefusalTold
   pub start_refused_keeps : Command.StartRefusedKeeps
   pub route_refused_keeps : Command.RouteRefusedKeeps
   pub request_refused_keeps : Command.RequestRefusedKeeps
@@ -512,6 +562,15 @@ pub record FaultsLaws : Type 0 where
   pub clearing_refusal_only : Faults.ClearingRefusalOnly
   pub stepping_refusal_only : Faults.SteppingRefusalOnly
   pub requesting_refusal_only : Faults.RequestingRefusalOnly
+  pub service_point_refusal_told : Faults.ServicePointRefusalTold
+  pub not_added_refusal_only : Faults.NotAddedRefusalOnly
+  pub not_cleared_refusal_only : Faults.NotClearedRefusalOnly
+  pub not_stepped_refusal_only : Faults.NotSteppedRefusalOnly
+  pub not_heard_refusal_only : Faults.NotHeardRefusalOnly
+  pub adding_refusal_told : Faults.AddingRefusalTold
+  pub clearing_refusal_told : Faults.ClearingRefusalTold
+  pub stepping_refusal_told : Faults.SteppingRefusalTold
+  pub requesting_refusal_told : Faults.RequestingRefusalTold
   pub add_refused_keeps : Faults.AddRefusedKeeps
   pub clear_refused_keeps : Faults.ClearRefusedKeeps
   pub step_refused_keeps : Faults.StepRefusedKeeps
@@ -554,6 +613,8 @@ pub record CaptureLaws : Type 0 where
   pub next_only : Capture.NextOnly
   pub last_only : Capture.LastOnly
   pub reading_refusal_only : Capture.ReadingRefusalOnly
+  pub not_read_refusal_only : Capture.NotReadRefusalOnly
+  pub reading_refusal_told : Capture.ReadingRefusalTold
   pub malformed_keeps : Capture.MalformedKeeps
   pub number_back : Capture.NumberBack
   pub digits_back : Capture.DigitsBack
@@ -619,6 +680,12 @@ pub record TilesLaws : Type 0 where
   pub naming_refusal_only : Tiles.NamingRefusalOnly
   pub hearing_refusal_only : Tiles.HearingRefusalOnly
   pub asking_refusal_only : Tiles.AskingRefusalOnly
+  pub not_named_refusal_only : Tiles.NotNamedRefusalOnly
+  pub not_heard_refusal_only : Tiles.NotHeardRefusalOnly
+  pub not_shown_refusal_only : Tiles.NotShownRefusalOnly
+  pub naming_refusal_told : Tiles.NamingRefusalTold
+  pub hearing_refusal_told : Tiles.HearingRefusalTold
+  pub asking_refusal_told : Tiles.AskingRefusalTold
   pub name_refused_keeps : Tiles.NameRefusedKeeps
   pub hear_refused_keeps : Tiles.HearRefusedKeeps
   pub name_lowest : Tiles.NameLowest

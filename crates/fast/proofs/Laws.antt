@@ -67,6 +67,7 @@ use Rattle.fast.proofs.Steps.{frame_expected, frame_other_sequence, frame_other_
 use Rattle.fast.proofs.Steps.{continues_nowhere, rules_of, keeps_rules_lem, all_allowed, OpenRules, rules_at}
 use Rattle.fast.proofs.Steps.{heard_short, heard_broken, heard_kept, meaning_refused, meaning_given, meant_other}
 use Rattle.fast.proofs.Steps.{meant_carried}
+use Rattle.fast.specs.Laws.{StartingRefusalTold, AnswerRefusalTold, PausingRefusalTold, SplittingRefusalTold}
 
 -- an answer is read back from what it tells
 
@@ -206,14 +207,30 @@ not_split_refusal_only why r s p q = p.number ∙ sym q.number
 pub starting_refusal_only : StartingRefusalOnly
 starting_refusal_only answer r s p q = p.number ∙ sym q.number
 
+pub starting_refusal_told : StartingRefusalTold
+starting_refusal_told (Ok value) = record { number = refl }
+starting_refusal_told (Err why) = record { number = refl }
+
 pub answer_refusal_only : AnswerRefusalOnly
 answer_refusal_only answer r s p q = p.number ∙ sym q.number
+
+pub answer_refusal_told : AnswerRefusalTold
+answer_refusal_told (Ok value) = record { number = refl }
+answer_refusal_told (Err why) = record { number = refl }
 
 pub pausing_refusal_only : PausingRefusalOnly
 pausing_refusal_only answer r s p q = p.number ∙ sym q.number
 
+pub pausing_refusal_told : PausingRefusalTold
+pausing_refusal_told (Ok value) = record { number = refl }
+pausing_refusal_told (Err why) = record { number = refl }
+
 pub splitting_refusal_only : SplittingRefusalOnly
 splitting_refusal_only answer r s p q = p.number ∙ sym q.number
+
+pub splitting_refusal_told : SplittingRefusalTold
+splitting_refusal_told (Ok value) = record { number = refl }
+splitting_refusal_told (Err why) = record { number = refl }
 
 -- the numbers of a pair, of a first byte, and of the last frame
 

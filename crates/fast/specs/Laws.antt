@@ -33,6 +33,11 @@ use Rattle.fast.specs.declared.BadState.{BadState}
 use Rattle.fast.specs.declared.Paused.{Paused}
 use Rattle.fast.specs.declared.NotSplit.{NotSplit}
 use Rattle.fast.specs.declared.Split.{Split}
+use Rattle.fast.specs.Promises.{number_of_bad_list}
+use Rattle.words.specs.Words.{number_of_answer}
+use Rattle.fast.specs.Promises.{number_of_not_heard}
+use Rattle.fast.specs.Promises.{number_of_bad_state}
+use Rattle.fast.specs.Promises.{number_of_not_split}
 
 -- An answer read as number and values loses nothing (RULES 2.10).
 
@@ -76,11 +81,17 @@ BadListRefusalOnly = (why : BadList) (r s : ℕ) → BadListRefusal why r → Ba
 abbrev pub StartingRefusalOnly : Type 0
 StartingRefusalOnly = (answer : Starting) (r s : ℕ) → StartingRefusal answer r → StartingRefusal answer s → r ≡ s
 
+abbrev pub StartingRefusalTold : Type 0
+StartingRefusalTold = (answer : Starting) → StartingRefusal answer (number_of_answer number_of_bad_list answer)
+
 abbrev pub NotHeardRefusalOnly : Type 0
 NotHeardRefusalOnly = (why : NotHeard) (r s : ℕ) → NotHeardRefusal why r → NotHeardRefusal why s → r ≡ s
 
 abbrev pub AnswerRefusalOnly : Type 0
 AnswerRefusalOnly = (answer : Answer) (r s : ℕ) → AnswerRefusal answer r → AnswerRefusal answer s → r ≡ s
+
+abbrev pub AnswerRefusalTold : Type 0
+AnswerRefusalTold = (answer : Answer) → AnswerRefusal answer (number_of_answer number_of_not_heard answer)
 
 abbrev pub BadStateRefusalOnly : Type 0
 BadStateRefusalOnly = (why : BadState) (r s : ℕ) → BadStateRefusal why r → BadStateRefusal why s → r ≡ s
@@ -88,11 +99,17 @@ BadStateRefusalOnly = (why : BadState) (r s : ℕ) → BadStateRefusal why r →
 abbrev pub PausingRefusalOnly : Type 0
 PausingRefusalOnly = (answer : Pausing) (r s : ℕ) → PausingRefusal answer r → PausingRefusal answer s → r ≡ s
 
+abbrev pub PausingRefusalTold : Type 0
+PausingRefusalTold = (answer : Pausing) → PausingRefusal answer (number_of_answer number_of_bad_state answer)
+
 abbrev pub NotSplitRefusalOnly : Type 0
 NotSplitRefusalOnly = (why : NotSplit) (r s : ℕ) → NotSplitRefusal why r → NotSplitRefusal why s → r ≡ s
 
 abbrev pub SplittingRefusalOnly : Type 0
 SplittingRefusalOnly = (answer : Splitting) (r s : ℕ) → SplittingRefusal answer r → SplittingRefusal answer s → r ≡ s
+
+abbrev pub SplittingRefusalTold : Type 0
+SplittingRefusalTold = (answer : Splitting) → SplittingRefusal answer (number_of_answer number_of_not_split answer)
 
 -- Two pairs of sender and DGN with one number are one pair.
 abbrev pub PairSame : Type 0

@@ -12,7 +12,8 @@ use crate::{Answer, Event, Heard, NotHeard, Paused, Place, Receiver, meaning, na
 use places::seats::Seat;
 use places::{seats, storage};
 
-// The state as it came, with an answer.
+// The state as it came, with an answer. (This and `replace` stand for long messages too, over their own state: two lines
+// each, which one for both would not shorten.)
 pub fn keeps(r: Receiver, answer: Answer) -> Heard
     ensures { (result.receiver ≡ r) × (result.answer ≡ answer) }
 {
@@ -22,7 +23,8 @@ pub fn keeps(r: Receiver, answer: Answer) -> Heard
     }
 }
 
-// A frame.
+// A frame. (That the state keeps its rules and the storage is long enough, contracts below ask too: a type that says so
+// would be built here and taken apart where the state and the storage change, in each of them.)
 #[tactic(auto, unfolding(crate::specs::FastPacket::meaning_of))]
 pub fn hear(r: Receiver, storage: &mut [u8], id: u32, bytes: &[u8]) -> Heard
     requires { (keeps_rules r ≡ true) × (room ≤ length storage.old) }

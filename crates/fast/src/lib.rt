@@ -20,7 +20,8 @@ use places::storage;
 use words::Refusal;
 
 // An open message's place: its pair of sender and DGN, its sequence number and length, the frame expected next, and the
-// pauses since its last frame, in milliseconds. A free place is all zeros.
+// pauses since its last frame, in milliseconds. A free place is all zeros. (No Option: a caller may hand in any numbers
+// as a state, and those that are no place are refused with 2, by `free_place` and `place_keeps_rules`.)
 #[derive(Clone, Copy, PartialEq)]
 pub struct Place {
     pub sender: u8,
@@ -32,7 +33,7 @@ pub struct Place {
 }
 
 // The receiver's state: the DGNs that are carried this way, `named` of them and then zeros, and the places. Place p
-// owns bytes 223 p to 223 p + 222 of the storage.
+// owns bytes 223 p to 223 p + 222 of the storage. (Memory is fixed, so that the list has its length beside it.)
 #[derive(Clone, Copy)]
 pub struct Receiver {
     pub dgns: [u32; DGNS],
@@ -56,7 +57,8 @@ pub struct Started {
     pub answer: Starting,
 }
 
-// The ways in which a frame is heard. The length of a message that is finished is what differs from a long message's.
+// The ways in which a frame is heard. (A long message's `Event` differs in the type of the length: with a parameter for
+// it both would be read with that parameter at each use.)
 #[derive(Clone, Copy)]
 pub enum Event {
     NothingToDo,
@@ -85,14 +87,16 @@ pub enum NotHeard {
 // What a frame did, or why it was not heard.
 pub type Answer = Result<Event, NotHeard>;
 
-// The state to go on with, and what the frame did.
+// The state to go on with, and what the frame did. (`Heard`, `Paused` and `Split` of long messages differ in the types
+// of their fields: as one struct with two parameters each would name them at every use, and no line would go.)
 #[derive(Clone, Copy)]
 pub struct Heard {
     pub receiver: Receiver,
     pub answer: Answer,
 }
 
-// Why a pause does not pass: refusal 2.
+// Why a pause does not pass: refusal 2. (Long messages have a type of their own for it: a caller of one crate need not
+// know the other's, and the wrong program `broken_state_as_1` of each changes its own number.)
 #[derive(Clone, Copy)]
 pub enum BadState {
     BrokenState,

@@ -1,5 +1,6 @@
 -- The statements of specs/FieldLaws.antt, proved.
 -- Assumes nothing.
+use Rattle.std.specs.Prelude.{Ok, Err}
 use mathlib.Core.Path.{◌≡◌, refl, sym, ap, ◌∙◌}
 use mathlib.Core.List.{List}
 use mathlib.Core.Logic.{⊎_elim}
@@ -66,6 +67,10 @@ write_service_point_only id bytes number r s after after' p q =
 
 pub service_point_refusal_only : the.ServicePointRefusalOnly
 service_point_refusal_only answer r s p q = p.number ∙ sym q.number
+
+pub service_point_refusal_told : the.ServicePointRefusalTold
+service_point_refusal_told (Ok value) = record { number = refl }
+service_point_refusal_told (Err why) = record { number = refl }
 
 -- the rows
 

@@ -192,14 +192,32 @@ not_heard_refusal_only why r s p q = p.number ∙ sym q.number
 pub adding_refusal_only : the.AddingRefusalOnly
 adding_refusal_only answer r s p q = p.number ∙ sym q.number
 
+pub adding_refusal_told : the.AddingRefusalTold
+adding_refusal_told (Ok value) = record { number = refl }
+adding_refusal_told (Err why) = record { number = refl }
+
 pub clearing_refusal_only : the.ClearingRefusalOnly
 clearing_refusal_only answer r s p q = p.number ∙ sym q.number
+
+pub clearing_refusal_told : the.ClearingRefusalTold
+clearing_refusal_told (Ok value) = record { number = refl }
+clearing_refusal_told (Err why) = record { number = refl }
 
 pub stepping_refusal_only : the.SteppingRefusalOnly
 stepping_refusal_only answer r s p q = p.number ∙ sym q.number
 
+pub stepping_refusal_told : the.SteppingRefusalTold
+stepping_refusal_told (Ok (Some place)) = record { number = refl }
+stepping_refusal_told (Ok None) = record { number = refl }
+stepping_refusal_told (Err why) = record { number = refl }
+
 pub requesting_refusal_only : the.RequestingRefusalOnly
 requesting_refusal_only answer r s p q = p.number ∙ sym q.number
+
+pub requesting_refusal_told : the.RequestingRefusalTold
+requesting_refusal_told (Ok Response.NothingToDo) = record { number = refl }
+requesting_refusal_told (Ok Response.Send) = record { number = refl }
+requesting_refusal_told (Err why) = record { number = refl }
 
 -- a refusal keeps, and a request keeps whatever it answers
 

@@ -48,6 +48,12 @@ use Rattle.faults.specs.declared.Cleared.{Cleared}
 use Rattle.faults.specs.declared.Stepped.{Stepped}
 use Rattle.faults.specs.declared.Requested.{Requested}
 use Rattle.faults.specs.declared.Replied.{Replied}
+use Rattle.faults.specs.Promises.{number_of_not_added}
+use Rattle.words.specs.Words.{number_of_answer}
+use Rattle.faults.specs.Promises.{number_of_not_cleared}
+use Rattle.faults.specs.Promises.{number_of_not_stepped}
+use Rattle.faults.specs.Promises.{number_of_not_heard}
+use Rattle.catalogue.specs.Promises.{number_of_not_read}
 
 -- An answer read as number and values loses nothing (RULES 2.10).
 
@@ -96,6 +102,9 @@ abbrev pub ServicePointRefusalOnly : Type 0
 ServicePointRefusalOnly =
     (answer : ServicePoint) (r s : ℕ) → ServicePointRefusal answer r → ServicePointRefusal answer s → r ≡ s
 
+abbrev pub ServicePointRefusalTold : Type 0
+ServicePointRefusalTold = (answer : ServicePoint) → ServicePointRefusal answer (number_of_answer number_of_not_read answer)
+
 abbrev pub StartOnly : Type 0
 StartOnly = (bytes : List ℕ) (r s : Sender) → Start bytes r → Start bytes s → r ≡ s
 
@@ -137,15 +146,27 @@ NotHeardRefusalOnly = (why : NotHeard) (r s : ℕ) → NotHeardRefusal why r →
 abbrev pub AddingRefusalOnly : Type 0
 AddingRefusalOnly = (answer : Adding) (r s : ℕ) → AddingRefusal answer r → AddingRefusal answer s → r ≡ s
 
+abbrev pub AddingRefusalTold : Type 0
+AddingRefusalTold = (answer : Adding) → AddingRefusal answer (number_of_answer number_of_not_added answer)
+
 abbrev pub ClearingRefusalOnly : Type 0
 ClearingRefusalOnly = (answer : Clearing) (r s : ℕ) → ClearingRefusal answer r → ClearingRefusal answer s → r ≡ s
+
+abbrev pub ClearingRefusalTold : Type 0
+ClearingRefusalTold = (answer : Clearing) → ClearingRefusal answer (number_of_answer number_of_not_cleared answer)
 
 abbrev pub SteppingRefusalOnly : Type 0
 SteppingRefusalOnly = (answer : Stepping) (r s : ℕ) → SteppingRefusal answer r → SteppingRefusal answer s → r ≡ s
 
+abbrev pub SteppingRefusalTold : Type 0
+SteppingRefusalTold = (answer : Stepping) → SteppingRefusal answer (number_of_answer number_of_not_stepped answer)
+
 abbrev pub RequestingRefusalOnly : Type 0
 RequestingRefusalOnly =
     (answer : Requesting) (r s : ℕ) → RequestingRefusal answer r → RequestingRefusal answer s → r ≡ s
+
+abbrev pub RequestingRefusalTold : Type 0
+RequestingRefusalTold = (answer : Requesting) → RequestingRefusal answer (number_of_answer number_of_not_heard answer)
 
 -- A refusal gives nothing (RULES 2.4 and 2.6): the state stays, so a refused step is none, and no frame stands beside.
 

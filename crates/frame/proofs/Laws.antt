@@ -30,6 +30,8 @@ use Rattle.frame.specs.declared.BadFrame.TheVariants.{IdentifierTooLarge, NotEig
 use Rattle.frame.specs.declared.BadFrame.TheVariants.{SourceNotAllowed}
 use Rattle.words.proofs.Words.{by_test, past_refusal, gives_same, refused_same, refused_gives}
 use Rattle.frame.proofs.Bytes.{number_of_bytes, bytes_of_number}
+use Rattle.frame.specs.Laws.{ApartRefusalTold, FormedRefusalTold, VerdictRefusalTold}
+use Rattle.std.specs.Prelude.{Ok, Err}
 
 -- an answer is read back from what it tells
 
@@ -106,17 +108,29 @@ bad_identifier_refusal_only why r s p q = p.number ∙ sym q.number
 pub apart_refusal_only : ApartRefusalOnly
 apart_refusal_only answer r s p q = p.number ∙ sym q.number
 
+pub apart_refusal_told : ApartRefusalTold
+apart_refusal_told (Ok value) = record { number = refl }
+apart_refusal_told (Err why) = record { number = refl }
+
 pub not_formed_refusal_only : NotFormedRefusalOnly
 not_formed_refusal_only why r s p q = p.number ∙ sym q.number
 
 pub formed_refusal_only : FormedRefusalOnly
 formed_refusal_only answer r s p q = p.number ∙ sym q.number
 
+pub formed_refusal_told : FormedRefusalTold
+formed_refusal_told (Ok value) = record { number = refl }
+formed_refusal_told (Err why) = record { number = refl }
+
 pub bad_frame_refusal_only : BadFrameRefusalOnly
 bad_frame_refusal_only why r s p q = p.number ∙ sym q.number
 
 pub verdict_refusal_only : VerdictRefusalOnly
 verdict_refusal_only answer r s p q = p.number ∙ sym q.number
+
+pub verdict_refusal_told : VerdictRefusalTold
+verdict_refusal_told (Ok value) = record { number = refl }
+verdict_refusal_told (Err why) = record { number = refl }
 
 pub refused_keeps : RefusedKeeps
 refused_keeps id bytes r why p e =

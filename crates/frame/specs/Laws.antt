@@ -17,6 +17,9 @@ use Rattle.frame.specs.declared.NotFormed.{NotFormed}
 use Rattle.frame.specs.declared.BadFrame.{BadFrame}
 use Rattle.frame.specs.declared.Checked.{Checked}
 use Rattle.frame.specs.declared.Destination.{Destination}
+use Rattle.frame.specs.Promises.{number_of_bad_identifier}
+use Rattle.words.specs.Words.{number_of_answer}
+use Rattle.frame.specs.Promises.{number_of_not_formed}
 
 -- An answer read as number and values loses nothing (RULES 2.10).
 
@@ -65,17 +68,26 @@ BadIdentifierRefusalOnly =
 abbrev pub ApartRefusalOnly : Type 0
 ApartRefusalOnly = (answer : Apart) (r s : ℕ) → ApartRefusal answer r → ApartRefusal answer s → r ≡ s
 
+abbrev pub ApartRefusalTold : Type 0
+ApartRefusalTold = (answer : Apart) → ApartRefusal answer (number_of_answer number_of_bad_identifier answer)
+
 abbrev pub NotFormedRefusalOnly : Type 0
 NotFormedRefusalOnly = (why : NotFormed) (r s : ℕ) → NotFormedRefusal why r → NotFormedRefusal why s → r ≡ s
 
 abbrev pub FormedRefusalOnly : Type 0
 FormedRefusalOnly = (answer : Formed) (r s : ℕ) → FormedRefusal answer r → FormedRefusal answer s → r ≡ s
 
+abbrev pub FormedRefusalTold : Type 0
+FormedRefusalTold = (answer : Formed) → FormedRefusal answer (number_of_answer number_of_not_formed answer)
+
 abbrev pub BadFrameRefusalOnly : Type 0
 BadFrameRefusalOnly = (why : BadFrame) (r s : ℕ) → BadFrameRefusal why r → BadFrameRefusal why s → r ≡ s
 
 abbrev pub VerdictRefusalOnly : Type 0
 VerdictRefusalOnly = (answer : Verdict) (r s : ℕ) → VerdictRefusal answer r → VerdictRefusal answer s → r ≡ s
+
+abbrev pub VerdictRefusalTold : Type 0
+VerdictRefusalTold = (answer : Verdict) → VerdictRefusal answer (number_of_answer refusal_of answer)
 
 -- A refusal gives nothing (RULES 2.4 and 2.6): the bytes beside it are zeros.
 abbrev pub RefusedKeeps : Type 0

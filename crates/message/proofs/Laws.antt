@@ -58,6 +58,7 @@ use Rattle.message.proofs.Steps.{carries_at, carries_nowhere, heard_short, heard
 use Rattle.message.proofs.Packets.{splits_above, splits_outside, splits_within}
 use Rattle.message.proofs.Packets.{announcement_refused, announcement_given, packet_refused, packet_numbered}
 use Rattle.message.proofs.Packets.{numbered_zero, numbered_above, numbered_given}
+use Rattle.message.specs.Laws.{AnswerRefusalTold, PausingRefusalTold, AnnouncingRefusalTold, SplittingRefusalTold}
 
 -- an answer is read back from what it tells
 
@@ -200,8 +201,16 @@ not_split_refusal_only why r s p q = p.number ∙ sym q.number
 pub answer_refusal_only : AnswerRefusalOnly
 answer_refusal_only answer r s p q = p.number ∙ sym q.number
 
+pub answer_refusal_told : AnswerRefusalTold
+answer_refusal_told (Ok value) = record { number = refl }
+answer_refusal_told (Err why) = record { number = refl }
+
 pub pausing_refusal_only : PausingRefusalOnly
 pausing_refusal_only answer r s p q = p.number ∙ sym q.number
+
+pub pausing_refusal_told : PausingRefusalTold
+pausing_refusal_told (Ok value) = record { number = refl }
+pausing_refusal_told (Err why) = record { number = refl }
 
 pub unsplittable_refusal_only : UnsplittableRefusalOnly
 unsplittable_refusal_only why r s p q = p.number ∙ sym q.number
@@ -209,8 +218,16 @@ unsplittable_refusal_only why r s p q = p.number ∙ sym q.number
 pub announcing_refusal_only : AnnouncingRefusalOnly
 announcing_refusal_only answer r s p q = p.number ∙ sym q.number
 
+pub announcing_refusal_told : AnnouncingRefusalTold
+announcing_refusal_told (Ok value) = record { number = refl }
+announcing_refusal_told (Err why) = record { number = refl }
+
 pub splitting_refusal_only : SplittingRefusalOnly
 splitting_refusal_only answer r s p q = p.number ∙ sym q.number
+
+pub splitting_refusal_told : SplittingRefusalTold
+splitting_refusal_told (Ok value) = record { number = refl }
+splitting_refusal_told (Err why) = record { number = refl }
 
 -- A frame, by its outcomes: either a refusal or an announcement that leaves the storage, or a packet at its sender's place.
 

@@ -28,6 +28,11 @@ use Rattle.message.specs.declared.Unsplittable.{Unsplittable}
 use Rattle.message.specs.declared.Announced.{Announced}
 use Rattle.message.specs.declared.NotSplit.{NotSplit}
 use Rattle.message.specs.declared.Split.{Split}
+use Rattle.message.specs.Promises.{number_of_not_heard}
+use Rattle.words.specs.Words.{number_of_answer}
+use Rattle.message.specs.Promises.{number_of_bad_state}
+use Rattle.message.specs.Promises.{refusal_why}
+use Rattle.message.specs.Promises.{number_of_not_split}
 
 -- An answer read as number and values loses nothing (RULES 2.10).
 
@@ -75,11 +80,17 @@ NotHeardRefusalOnly = (why : NotHeard) (r s : ℕ) → NotHeardRefusal why r →
 abbrev pub AnswerRefusalOnly : Type 0
 AnswerRefusalOnly = (answer : Answer) (r s : ℕ) → AnswerRefusal answer r → AnswerRefusal answer s → r ≡ s
 
+abbrev pub AnswerRefusalTold : Type 0
+AnswerRefusalTold = (answer : Answer) → AnswerRefusal answer (number_of_answer number_of_not_heard answer)
+
 abbrev pub BadStateRefusalOnly : Type 0
 BadStateRefusalOnly = (why : BadState) (r s : ℕ) → BadStateRefusal why r → BadStateRefusal why s → r ≡ s
 
 abbrev pub PausingRefusalOnly : Type 0
 PausingRefusalOnly = (answer : Pausing) (r s : ℕ) → PausingRefusal answer r → PausingRefusal answer s → r ≡ s
+
+abbrev pub PausingRefusalTold : Type 0
+PausingRefusalTold = (answer : Pausing) → PausingRefusal answer (number_of_answer number_of_bad_state answer)
 
 abbrev pub UnsplittableRefusalOnly : Type 0
 UnsplittableRefusalOnly = (why : Unsplittable) (r s : ℕ) → UnsplittableRefusal why r → UnsplittableRefusal why s → r ≡ s
@@ -88,11 +99,17 @@ abbrev pub AnnouncingRefusalOnly : Type 0
 AnnouncingRefusalOnly =
     (answer : Announcing) (r s : ℕ) → AnnouncingRefusal answer r → AnnouncingRefusal answer s → r ≡ s
 
+abbrev pub AnnouncingRefusalTold : Type 0
+AnnouncingRefusalTold = (answer : Announcing) → AnnouncingRefusal answer (number_of_answer refusal_why answer)
+
 abbrev pub NotSplitRefusalOnly : Type 0
 NotSplitRefusalOnly = (why : NotSplit) (r s : ℕ) → NotSplitRefusal why r → NotSplitRefusal why s → r ≡ s
 
 abbrev pub SplittingRefusalOnly : Type 0
 SplittingRefusalOnly = (answer : Splitting) (r s : ℕ) → SplittingRefusal answer r → SplittingRefusal answer s → r ≡ s
+
+abbrev pub SplittingRefusalTold : Type 0
+SplittingRefusalTold = (answer : Splitting) → SplittingRefusal answer (number_of_answer number_of_not_split answer)
 
 -- A refusal keeps state and storage; 10 closes the sender's place, and keeps every other place and all bytes.
 

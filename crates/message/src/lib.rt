@@ -20,7 +20,8 @@ use places::storage;
 use words::Refusal;
 
 // An open message's place: its sender, what was announced, the packet expected next, and the pauses since its last
-// frame, in milliseconds. A free place is all zeros.
+// frame, in milliseconds. A free place is all zeros. (No Option: a caller may hand in any numbers as a state, and those
+// that are no place are refused with 2, by `free_place` and `place_keeps_rules`.)
 #[derive(Clone, Copy, PartialEq)]
 pub struct Place {
     pub sender: u8,
@@ -36,7 +37,8 @@ pub struct Receiver {
     pub places: [Place; 8],
 }
 
-// The ways in which a frame is heard. The length of a message that is finished is what differs from a fast packet's.
+// The ways in which a frame is heard. (A fast packet's `Event` differs in the type of the length: with a parameter for
+// it both would be read with that parameter at each use.)
 #[derive(Clone, Copy)]
 pub enum Event {
     NothingToDo,
@@ -65,14 +67,16 @@ pub enum NotHeard {
 // What a frame did, or why it was not heard.
 pub type Answer = Result<Event, NotHeard>;
 
-// The state to go on with, and what the frame did.
+// The state to go on with, and what the frame did. (`Heard`, `Paused` and `Split` of fast packets differ in the types of
+// their fields: as one struct with two parameters each would name them at every use, and no line would go.)
 #[derive(Clone, Copy)]
 pub struct Heard {
     pub receiver: Receiver,
     pub answer: Answer,
 }
 
-// Why a pause does not pass: refusal 2.
+// Why a pause does not pass: refusal 2. (Fast packets have a type of their own for it: a caller of one crate need not
+// know the other's, and the wrong program `broken_state_as_1` of each changes its own number.)
 #[derive(Clone, Copy)]
 pub enum BadState {
     BrokenState,

@@ -50,15 +50,17 @@ fn announcement_bytes(size: u16, dgn: u32, count: u8) -> [u8; 8]
     requires { count ≡ packets_of size }
     ensures { result ≡ announcement_bytes size dgn }
 {
+    let size = size.to_le_bytes();
+    let dgn = frame::dgn_bytes(dgn);
     [
         TO_ALL,
-        (size % 256) as u8,
-        (size / 256 % 256) as u8,
+        size[0],
+        size[1],
         count,
         standard::UNUSED,
-        (dgn % 256) as u8,
-        (dgn / 256 % 256) as u8,
-        (dgn / 256 / 256 % 256) as u8,
+        dgn[0],
+        dgn[1],
+        dgn[2],
     ]
 }
 

@@ -25,7 +25,7 @@ use Rattle.nodes.specs.Call.{holder, nobody, holder_of, looked_up_of}
 use Rattle.nodes.specs.Promises.{FindChallenger}
 use Rattle.nodes.specs.Runs.{Said, claims, said_of, said_by, hearing, record_after_all, Sound, RunLeft}
 use Rattle.nodes.specs.declared.Node as Record
-use Rattle.nodes.specs.declared.FoundChallenger.TheVariants.{NoChallenger}
+use Rattle.std.specs.Prelude.{None, Ok}
 use Rattle.nodes.proofs.Sound.{stands_holder, has_name_of, of_zero}
 use Rattle.nodes.proofs.Blank.{empty_keeps_rules, absent_at}
 use Rattle.nodes.proofs.Find.{get_d_front, holder_held, looked_past}
@@ -268,7 +268,7 @@ module _ (names : List ℕ) (acts : List Act) (w : Network) (differ : Differ nam
       looked : looked_up_of table a ≡ gives (holder_of r)
       looked = looked_here table left.sound.enough left.sound.rules a low
 
-      unchallenged : is_challenged r ≡ false → FindChallenger table a NoChallenger
+      unchallenged : is_challenged r ≡ false → FindChallenger table a (Ok None)
       unchallenged e =
           record {
             answer = sym (rival_here table left.sound.enough left.sound.rules a low ∙ ap gives (no_rival_is r e));

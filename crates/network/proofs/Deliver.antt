@@ -16,9 +16,8 @@ use Rattle.claim.specs.Claim.{claim_id, claim_bytes, pause}
 use Rattle.claim.specs.Promises.{Pause, OurClaim, is_sound, sound_of, told_hearing, told_pausing, told_sending}
 use Rattle.claim.specs.declared.Claim.{Claim}
 use Rattle.claim.specs.declared.Paused.{Paused}
-use Rattle.claim.specs.declared.Pausing.TheVariants as Pausing
+use Rattle.std.specs.Prelude.{Ok}
 use Rattle.claim.specs.declared.ClaimFrame.{ClaimFrame}
-use Rattle.claim.specs.declared.Sending.TheVariants as Sending
 use Rattle.claim.proofs.Calls.{sound_well}
 use Rattle.network.specs.Network.{Sent, Node, off, on, Network, node_at, name_of, Differ, Fit, fresh, Act, starts}
 use Rattle.network.specs.Network.{comes, reads, pauses, asked, Step, start, come, hear, pass, Ran, no_act, an_act}
@@ -174,14 +173,14 @@ comes_to_rest names acts w differ fit r =
 pausing_some : (ms : ℕ) (c : Claim) → is_sound c ≡ true → (r : Paused) × Pause ms c r
 pausing_some ms c s =
     let b = both_true (keeps_rules c) (holds_list c) s in (
-      record { claim = pause ms c; answer = Pausing.Waited },
+      record { claim = pause ms c; answer = Ok tt },
       record { answer = sym (sound_well c b.0 b.1).0; state = rw s refl },
     )
 
 claim_some : (c : Claim) → is_sound c ≡ true → (r : ClaimFrame) × OurClaim c r
 claim_some c s =
     let b = both_true (keeps_rules c) (holds_list c) s in (
-      record { answer = Sending.Frame; id = claim_id c; bytes = claim_bytes c },
+      record { answer = Ok tt; id = claim_id c; bytes = claim_bytes c },
       record { answer = sym (sound_well c b.0 b.1).0; sent_id = rw s refl; sent_bytes = rw s refl },
     )
 

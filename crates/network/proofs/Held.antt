@@ -16,7 +16,8 @@ use Rattle.claim.specs.Claim.{held_after, keeps_rules, holds_list, address, paus
 use Rattle.claim.specs.Claim as Machine
 use Rattle.claim.specs.Promises.{told_standing}
 use Rattle.claim.specs.declared.Claim.{Claim}
-use Rattle.claim.specs.declared.Standing.TheVariants.{Held, Silent}
+use Rattle.std.specs.Prelude.{Ok}
+use Rattle.claim.specs.declared.Place.TheVariants.{Held, Silent}
 use Rattle.claim.proofs.Sound.{rules_of, pause_silent, pause_awake}
 use Rattle.claim.proofs.Laws.{told_standing_same}
 use Rattle.network.specs.Network.{Sent, Node, off, on, Network, node_at, Fit, Act, starts, comes, reads}
@@ -192,10 +193,10 @@ before_run names fit w end acts (an_act w' t e act more s r) v rest q i d m f =
 pub held_at_last : HeldAtLast
 held_at_last names acts more w v differ fit r rest s q i c k e h standing p =
     by_test b.claim.silent
-    (λ z. inr (told_standing_same standing Silent (told ∙ ap gives (stand_silent c (b.waited.silent ∙ z)))))
+    (λ z. inr (told_standing_same standing (Ok Silent) (told ∙ ap gives (stand_silent c (b.waited.silent ∙ z)))))
     (λ z. inl (
       Machine.address c,
-      told_standing_same standing (Held (Machine.address c)) (told ∙ ap gives (stand_held c (b.waited.silent ∙ z) (full z))),
+      told_standing_same standing (Ok (Held (Machine.address c))) (told ∙ ap gives (stand_held c (b.waited.silent ∙ z) (full z))),
       rw b.waited.address (here_at names w i b.claim b.read kept b.started z),
     ))
   where

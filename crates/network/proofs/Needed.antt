@@ -21,7 +21,7 @@ use Rattle.nodes.specs.Call.{nobody, holder, holder_of, looked_up_of}
 use Rattle.nodes.specs.Promises.{LookUp}
 use Rattle.nodes.specs.Runs.{Call, hearing, pausing, said_of, said_by, record_after_all, Sound, RunLeft}
 use Rattle.nodes.specs.declared.Node as Record
-use Rattle.nodes.specs.declared.LookedUp.TheVariants.{Present, Absent}
+use Rattle.std.specs.Prelude.{Some, None, Ok}
 use Rattle.nodes.proofs.Blank.{empty_keeps_rules, absent_at}
 use Rattle.nodes.proofs.Find.{get_d_front}
 use Rattle.nodes.proofs.Shown.{looked_here}
@@ -191,7 +191,7 @@ module _ (calls : List Call) where
       differs : (n : ℕ) → holder n ≡ nobody → ⊥
       differs n z = let y : ◌≡◌ {A = ℕ} 0 1 = cc in omega arith
 
-      go : ((j : ℕ) × At w j a × LookUp end a (Present (name_of names j))) ⊎ (((j : ℕ) → At w j a → ⊥) × LookUp end a Absent) → ⊥
+      go : ((j : ℕ) × At w j a × LookUp end a (Ok (Some (name_of names j)))) ⊎ (((j : ℕ) → At w j a → ⊥) × LookUp end a (Ok None)) → ⊥
       go (inl q) = differs (name_of names q.0) (gives_same (q.2.answer ∙ looked))
       go (inr q) = q.0 i p
 

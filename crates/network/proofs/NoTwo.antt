@@ -18,8 +18,9 @@ use Rattle.claim.specs.Claim.{keeps_rules, holds_list, address, begun, Outcome, 
 use Rattle.claim.specs.Claim as Machine
 use Rattle.claim.specs.Promises.{is_sound, Stands, told_standing}
 use Rattle.claim.specs.declared.Claim.{Claim}
-use Rattle.claim.specs.declared.Standing.{Standing}
-use Rattle.claim.specs.declared.Standing.TheVariants.{Held, Claiming}
+use Rattle.claim.specs.Promises.{Standing}
+use Rattle.std.specs.Prelude.{Ok}
+use Rattle.claim.specs.declared.Place.TheVariants.{Held, Claiming}
 use Rattle.claim.proofs.Outcomes.{Went, deaf, apart, same, wins, goes, ends, went}
 use Rattle.claim.proofs.Calls.{sound_well}
 use Rattle.network.specs.Network.{Sent, Node, off, on, Network, node_at, name_of, Differ, Fit, fresh, Act, becomes, Ran}
@@ -236,23 +237,23 @@ module _ (c : Claim) where
               (λ q. f (address c) (inr (e ∙ stand_claiming z q))),
         ))
 
-    pub at_of : (a : ℕ) → Stands c (Held a) ⊎ Stands c (Claiming a) → (c.silent ≡ false) × (address c ≡ a)
-    at_of a (inl p) = at_stand a (Held a) (Machine.held a) refl p (λ e. let z : ◌≡◌ {A = ℕ} 0 1 = cc in absurd (omega arith)) f
+    pub at_of : (a : ℕ) → Stands c (Ok (Held a)) ⊎ Stands c (Ok (Claiming a)) → (c.silent ≡ false) × (address c ≡ a)
+    at_of a (inl p) = at_stand a (Ok (Held a)) (Machine.held a) refl p (λ e. let z : ◌≡◌ {A = ℕ} 0 1 = cc in absurd (omega arith)) f
       where
         f : (b : ℕ) → (Machine.held a ≡ Machine.held b) ⊎ (Machine.held a ≡ Machine.claiming b) → b ≡ a
         f b (inl e) = cc
         f b (inr e) = let z : ◌≡◌ {A = ℕ} 0 1 = cc in absurd (omega arith)
-    at_of a (inr p) = at_stand a (Claiming a) (Machine.claiming a) refl p (λ e. let z : ◌≡◌ {A = ℕ} 0 1 = cc in absurd (omega arith)) f
+    at_of a (inr p) = at_stand a (Ok (Claiming a)) (Machine.claiming a) refl p (λ e. let z : ◌≡◌ {A = ℕ} 0 1 = cc in absurd (omega arith)) f
       where
         f : (b : ℕ) → (Machine.claiming a ≡ Machine.held b) ⊎ (Machine.claiming a ≡ Machine.claiming b) → b ≡ a
         f b (inl e) = let z : ◌≡◌ {A = ℕ} 0 1 = cc in absurd (omega arith)
         f b (inr e) = cc
 
-    pub is_at : c.silent ≡ false → Stands c (Held (address c)) ⊎ Stands c (Claiming (address c))
+    pub is_at : c.silent ≡ false → Stands c (Ok (Held (address c))) ⊎ Stands c (Ok (Claiming (address c)))
     is_at s =
         by_test (c.wait =? Machine.held_after)
-        (λ q. inl (told_stand (Held (address c)) (sym (ap gives (stand_held s q)))))
-        (λ q. inr (told_stand (Claiming (address c)) (sym (ap gives (stand_claiming s q)))))
+        (λ q. inl (told_stand (Ok (Held (address c))) (sym (ap gives (stand_held s q)))))
+        (λ q. inr (told_stand (Ok (Claiming (address c))) (sym (ap gives (stand_claiming s q)))))
 
 pub at_here : (names : List ℕ) (w : Network) (i a : ℕ) → Kept names w → (p : At w i a)
     → (p.claim.silent ≡ false) × (address p.claim ≡ a)

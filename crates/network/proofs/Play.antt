@@ -16,9 +16,12 @@ use Rattle.claim.specs.Promises.{Start, Hear, started_of, heard_of, after_told, 
 use Rattle.claim.specs.Promises.{told_hearing, told_starting}
 use Rattle.claim.specs.declared.Claim.{Claim}
 use Rattle.claim.specs.declared.Started.{Started}
-use Rattle.claim.specs.declared.Starting.{Starting}
+use Rattle.std.specs.Prelude.{Ok, Err}
+use Rattle.claim.specs.declared.NotStarted.TheVariants.{ListMalformed}
 use Rattle.claim.specs.declared.Heard.{Heard}
-use Rattle.claim.specs.declared.Hearing.{Hearing}
+use Rattle.claim.specs.Promises.{Hearing}
+use Rattle.claim.specs.declared.NotHeard.{NotHeard}
+use Rattle.claim.specs.declared.Reaction.{Reaction}
 use Rattle.network.specs.Network.{Sent, Node, off, on, Network, node_at, name_of, Act, starts, comes, reads, pauses}
 use Rattle.network.specs.Network.{asked, becomes, sent_if, started_by, Step, Ran, no_act, an_act}
 use Rattle.network.specs.Network as The
@@ -31,7 +34,7 @@ abbrev pub start_of : ℕ → List ℕ → Started
 start_of name list =
     record {
       claim = if is_well_formed list then begun name list else blank;
-      answer = if is_well_formed list then Starting.SendClaim else Starting.ListMalformed;
+      answer = if is_well_formed list then Ok tt else Err ListMalformed;
       id = (frame_if (is_well_formed list) (begun name list)).id;
       bytes = (frame_if (is_well_formed list) (begun name list)).bytes;
     }
@@ -47,12 +50,12 @@ start_is name list =
     }
 
 abbrev pub answer_of : Told Outcome → Hearing
-answer_of (gives nothing_to_do) = Hearing.NothingToDo
-answer_of (gives own_name) = Hearing.OwnName
-answer_of (gives repeated) = Hearing.SendClaimAgain
-answer_of (gives moved) = Hearing.SendNextClaim
-answer_of (gives fell_silent) = Hearing.SendCannotClaim
-answer_of (refused n) = Hearing.BrokenState
+answer_of (gives nothing_to_do) = Ok Reaction.NothingToDo
+answer_of (gives own_name) = Ok Reaction.OwnName
+answer_of (gives repeated) = Ok Reaction.SendClaimAgain
+answer_of (gives moved) = Ok Reaction.SendNextClaim
+answer_of (gives fell_silent) = Ok Reaction.SendCannotClaim
+answer_of (refused n) = Err NotHeard.BrokenState
 
 abbrev pub is_given : Told Outcome → Bool
 is_given (gives o) = true

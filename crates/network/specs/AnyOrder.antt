@@ -10,7 +10,8 @@ use Rattle.claim.specs.declared.Started.{Started}
 use Rattle.claim.specs.declared.Heard.{Heard}
 use Rattle.claim.specs.declared.Paused.{Paused}
 use Rattle.claim.specs.declared.ClaimFrame.{ClaimFrame}
-use Rattle.claim.specs.declared.Standing.TheVariants.{Held, Claiming}
+use Rattle.std.specs.Prelude.{Ok}
+use Rattle.claim.specs.declared.Place.TheVariants.{Held, Claiming}
 use Rattle.network.specs.Network.{Sent, name_of, Differ, Fit, sent_if, is_ours}
 
 -- a node has not started; or it has: its claim, and the claims that are on their way to it
@@ -69,7 +70,7 @@ pub record At (w : Nodes) (i a : ℕ) : Type 0 where
   pub claim : Claim
   pub unread : List Sent
   pub started : w i ≡ on claim unread
-  pub stands : Stands claim (Held a) ⊎ Stands claim (Claiming a)
+  pub stands : Stands claim (Ok (Held a)) ⊎ Stands claim (Ok (Claiming a))
 
 abbrev pub NoTwoInAnyOrder : Type 0
 NoTwoInAnyOrder =

@@ -11,8 +11,9 @@ use Rattle.claim.specs.declared.Claim.{Claim}
 use Rattle.claim.specs.declared.Heard.{Heard}
 use Rattle.claim.specs.declared.Paused.{Paused}
 use Rattle.claim.specs.declared.ClaimFrame.{ClaimFrame}
-use Rattle.claim.specs.declared.Standing.{Standing}
-use Rattle.claim.specs.declared.Standing.TheVariants.{Held, Claiming, Silent}
+use Rattle.claim.specs.Promises.{Standing}
+use Rattle.std.specs.Prelude.{Ok}
+use Rattle.claim.specs.declared.Place.TheVariants.{Held, Claiming, Silent}
 use Rattle.network.specs.Network.{Sent, off, on, Network, node_at, Differ, Fit, fresh, Act, starts, comes}
 use Rattle.network.specs.Network.{reads, pauses, asked, Step, Ran}
 
@@ -23,7 +24,7 @@ pub record At (w : Network) (i a : ℕ) : Type 0 where
   pub claim : Claim
   pub read : ℕ
   pub started : node_at w i ≡ on claim read
-  pub stands : Stands claim (Held a) ⊎ Stands claim (Claiming a)
+  pub stands : Stands claim (Ok (Held a)) ⊎ Stands claim (Ok (Claiming a))
 
 -- every claim of a list is the node's own
 abbrev pub Own : ℕ → List Sent → Type 0
@@ -178,4 +179,4 @@ HeldAtLast =
     (names : List ℕ) (acts more : List Act) (w v : Network) → Differ names → Fit names
     → Ran names (fresh names) acts w → AtRest w → Ran names w more v → LeftAlone more
     → (i : ℕ) (c : Claim) (k : ℕ) → node_at v i ≡ on c k → held_after ≤ passes_in i more
-    → (r : Standing) → Stands c r → ((a : ℕ) × (r ≡ Held a) × At w i a) ⊎ (r ≡ Silent)
+    → (r : Standing) → Stands c r → ((a : ℕ) × (r ≡ Ok (Held a)) × At w i a) ⊎ (r ≡ Ok Silent)

@@ -7,8 +7,7 @@ use Rattle.nodes.specs.Promises.{Empty, LookUp, FindChallenger}
 use Rattle.nodes.specs.Runs as Table
 use Rattle.nodes.specs.Runs.{Said, nothing, claims, pauses, said_by, hearing}
 use Rattle.nodes.specs.declared.Node as Record
-use Rattle.nodes.specs.declared.LookedUp.TheVariants.{Present, Absent}
-use Rattle.nodes.specs.declared.FoundChallenger.TheVariants.{NoChallenger}
+use Rattle.std.specs.Prelude.{Some, None, Ok}
 use Rattle.network.specs.Network.{Sent, Network, name_of, Differ, Fit, fresh, Act, starts, comes, reads, asked}
 use Rattle.network.specs.Network.{Ran, no_act, an_act}
 use Rattle.network.specs.Network as Network
@@ -58,9 +57,9 @@ pub record Listened (heard : List Said) (table : List Record.Node) : Type 0 wher
 -- ---- What it shows: at an address the node that is there, and nobody where no node is
 
 pub record Shows (names : List ℕ) (w : Network) (table : List Record.Node) (a : ℕ) : Type 0 where
-  pub shown : ((i : ℕ) × At w i a × LookUp table a (Present (name_of names i)))
-      ⊎ (((i : ℕ) → At w i a → ⊥) × LookUp table a Absent)
-  pub no_challenger : FindChallenger table a NoChallenger
+  pub shown : ((i : ℕ) × At w i a × LookUp table a (Ok (Some (name_of names i))))
+      ⊎ (((i : ℕ) → At w i a → ⊥) × LookUp table a (Ok None))
+  pub no_challenger : FindChallenger table a (Ok None)
 
 abbrev pub TableAgrees : Type 0
 TableAgrees =

@@ -1,4 +1,6 @@
 // The records of a table: whether they keep the rules, what is found in them, and what an event makes of each.
+// They are a slice of the lent table, and that there are 254 is asked for: with an array, `hear` and `pause` would have
+// to test the length again that `judge` has tested.
 ghost use Rattle.std.specs.Prelude.{◌≡◌, length, count_by};
 ghost use Rattle.words.specs.Words.{◌and◌, gives, done};
 ghost use Rattle.words.specs.Lists.{any, every, first, no_two};
@@ -10,7 +12,7 @@ ghost use Rattle.nodes.specs.Table.{claimed_of, paused_of, replaced_in, sound_ch
 ghost use Rattle.nodes.specs.Table.{keeps_rules};
 ghost use Rattle.nodes.specs.Call.{table_or, claim_outcome, holder_at, rival_at};
 ghost use Rattle.nodes.specs.Promises.{outcome_in, holder_in, rival_in};
-ghost use Rattle.nodes.specs.Private.{told_table};
+ghost use Rattle.nodes.specs.Private.{told_table, Changes};
 
 use crate::{BadTable, Challenger, Claim, Effect, Node, RECORDS, TAKES_AFTER};
 use frame::standard::GREATEST_ADDRESS;
@@ -53,9 +55,12 @@ pub fn claim_all(records: &mut [Node], claim: Claim)
     requires { length records.old ≡ addresses }
     ensures { records.new ≡ claimed_of claim records.old }
 {
-    for (address, record) in records.iter_mut().enumerate() {
-        *record = claimed(*record, address, claim);
-    }
+    change(
+        records,
+        |address, n|
+            ensures { result ≡ claimed_at claim address n }
+        { claimed(n, address, claim) },
+    );
 }
 
 // In how many records the challenger takes the address in a pause.
@@ -77,8 +82,21 @@ pub fn pause_all(records: &mut [Node], ms: u16)
     requires { length records.old ≡ addresses }
     ensures { records.new ≡ paused_of ms records.old }
 {
-    for record in records.iter_mut() {
-        *record = paused(*record, ms);
+    change(
+        records,
+        |_address, n|
+            ensures { result ≡ paused_at ms n }
+        { paused(n, ms) },
+    );
+}
+
+// The one pass over the lent records: each becomes what a version on values makes of it and its address.
+fn change<F: Fn(usize, Node) -> Node>(records: &mut [Node], after: F)
+    requires { F.IsAlwaysCallable after }
+    ensures { Changes (F.post after) records.old records.new }
+{
+    for (address, record) in records.iter_mut().enumerate() {
+        *record = after(address, *record);
     }
 }
 
@@ -113,7 +131,7 @@ pub fn challenger(records: &[Node], address: u8) -> Option<Challenger>
     }
 }
 
-// The first address whose record has the NAME.
+// The first address whose record has the NAME: in its arm the position is known to fit.
 pub fn address(records: &[Node], name: u64) -> Option<u8>
     requires { length records.now ≡ addresses }
     ensures { result ≡ first (has_name name) records.now }

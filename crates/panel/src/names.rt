@@ -4,10 +4,10 @@ ghost use Rattle.std.specs.Prelude.{◌≡◌};
 ghost use Rattle.nodes.specs.Promises.{Hear, LookUp, Pause};
 
 use crate::show;
-use streams::Streams;
+use rvc::Refusal;
 use rvc::identifiers::standard::NO_ADDRESS;
 use rvc::node_table::{Effect, Hearing, LookedUp, Node, Pausing, RECORDS};
-use rvc::Refusal;
+use streams::Streams;
 
 // A table after a frame, and what was answered.
 #[derive(Clone, Copy)]

@@ -1,11 +1,11 @@
 // The panel as a node of the network: its address, and the long messages that it joins.
 use crate::state::Panel;
-use streams::Streams;
 use crate::{names, own_faults, replies, show, state};
 use rvc::Refusal;
 use rvc::claims::{Claim, Heard, Place, Reaction};
 use rvc::messages::{Event, Receiver};
 use rvc::node_table::{Node, RECORDS};
+use streams::Streams;
 
 // The panel's NAME (3.3): no other node of the coach has it.
 const NAME: u64 = 0x8000_1234_5678_9ABC;

@@ -1,11 +1,11 @@
 // The panel's own fault: one of the two tanks that are wired to it (replies.rt) gives no data. The panel broadcasts
 // this once a second as DM_RV (3.2.5), and answers it to a request.
 use crate::show;
-use streams::Streams;
-use rvc::claims::Claim;
 use rvc::Refusal;
+use rvc::claims::Claim;
 use rvc::diagnostics::{DM_RV, NotStepped, Requested, Response, STEP, Sender, names};
 use rvc::fields::Value;
+use streams::Streams;
 
 // The panel's part for tanks is a water and waste tank system (Table 7.2): its default source address, in byte 1.
 const TANK_SYSTEM: u8 = 72;

@@ -1,16 +1,14 @@
 // What the panel answers for two tanks whose senders are wired to the panel itself: requests for their status, and
 // commands.
-use streams::Streams;
 use crate::{own_faults, show};
+use rvc::Refusal;
 use rvc::claims::{Claim, Place};
-use rvc::commands::{
-    Acknowledging, Acknowledgment, Edition, Entry, Host, Positions, Requested, Requesting, Routing,
-};
+use rvc::commands::{Acknowledgment, Choice, Edition, Entry, Host, Positions, Requested, Response};
 use rvc::diagnostics::Sender;
 use rvc::fields::dgns::{TANK_CALIBRATION_COMMAND, TANK_STATUS};
 use rvc::fields::names::tank_status;
 use rvc::fields::{Row, Value};
-use rvc::Refusal;
+use streams::Streams;
 
 // What the sender of a wired tank says, in quarters.
 #[derive(Clone, Copy)]
@@ -28,8 +26,7 @@ pub fn start(streams: &mut Streams) -> Host {
     entries[0] = fresh;
     entries[1] = gray;
     let started = Host::start(entries, 2, Edition::Two);
-    let answer = started.answer;
-    show::refused(answer.refusal(), streams);
+    show::refused(started.answer.refusal(), streams);
     started.host
 }
 
@@ -60,17 +57,12 @@ pub fn answer_request(
 
 // What the host says: our claim, our statuses or a NAK.
 fn answer_by_host(claim: Claim, requested: Requested, streams: &mut Streams) {
-    let answer = requested.answer;
     let to_send = requested.bytes;
-    match answer {
-        Requesting::NothingToDo | Requesting::Unsupported => {}
-        Requesting::SendClaim | Requesting::SendNak => show::send(requested.id, to_send, streams),
-        Requesting::Supported => send_statuses(claim, requested.positions, streams),
-        Requesting::BrokenState
-        | Requesting::BadFrame(_)
-        | Requesting::ListMalformed
-        | Requesting::DgnTooLarge
-        | Requesting::NoAddressHeld => show::refused(answer.refusal(), streams),
+    match requested.answer {
+        Ok(Response::NothingToDo | Response::Unsupported) => {}
+        Ok(Response::SendClaim | Response::SendNak) => show::send(requested.id, to_send, streams),
+        Ok(Response::Supported) => send_statuses(claim, requested.positions, streams),
+        Err(why) => show::refused(why.refusal(), streams),
     }
 }
 
@@ -85,19 +77,14 @@ pub fn answer_command(
     streams: &mut Streams,
 ) {
     let routed = host.route(claim, id, &bytes);
-    let answer = routed.answer;
-    let positions = routed.positions;
-    match answer {
-        Routing::NothingToDo => {}
-        Routing::Picked => {
-            if 0 < positions.count {
+    match routed.answer {
+        Ok(Choice::NothingToDo) => {}
+        Ok(Choice::Picked) => {
+            if 0 < routed.positions.count {
                 send_nak(claim, source, bytes[0], streams);
             }
         }
-        Routing::BrokenState
-        | Routing::BadFrame(_)
-        | Routing::ListMalformed
-        | Routing::NoAddressHeld => { show::refused(answer.refusal(), streams) }
+        Err(why) => show::refused(why.refusal(), streams),
     }
 }
 
@@ -110,11 +97,10 @@ fn send_nak(claim: Claim, requester: u8, instance: u8, streams: &mut Streams) {
         dgn: TANK_CALIBRATION_COMMAND,
     };
     let formed = rvc::commands::acknowledge(claim, reply);
-    let answer = formed.answer;
     let bytes = formed.bytes;
-    show::refused(answer.refusal(), streams);
-    if let Acknowledging::Send = answer {
-        show::send(formed.id, bytes, streams);
+    match formed.answer {
+        Ok(()) => show::send(formed.id, bytes, streams),
+        Err(why) => show::refused(why.refusal(), streams),
     }
 }
 

@@ -1,10 +1,9 @@
 // What the panel prints: a line for each thing that changes, for each refusal, and for each frame that it would send.
 use crate::state::{Charger, Missing, Panel, Shown, Slide, Tank};
-use streams::Streams;
 use crate::{names, state};
-use rvc::Refusal;
 use rvc::claims::{Claim, Place};
-use rvc::texts;
+use rvc::{Refusal, texts};
+use streams::Streams;
 
 // The whole panel.
 pub fn show_panel(panel: Panel, streams: &mut Streams) {

@@ -1,15 +1,15 @@
 // What the panel keeps, and how the status of a tank, a charger or a slide changes it.
 use crate::own_faults::Faults;
 use crate::show;
-use streams::Streams;
+use rvc::Refusal;
 use rvc::claims::Claim;
 use rvc::commands::Host;
 use rvc::fields::dgns::{CHARGER_STATUS, SLIDE_STATUS, TANK_STATUS};
 use rvc::fields::names::{charger_status, slide_status, tank_status};
-use rvc::Refusal;
 use rvc::fields::{Row, Value};
 use rvc::messages::Receiver;
 use rvc::node_table::{Node, RECORDS};
+use streams::Streams;
 
 // A value is stale once it was not heard for so many milliseconds.
 const STALE_AFTER: u32 = 5000;
@@ -156,11 +156,7 @@ pub fn hear_slide(
 }
 
 // Time passes for the tanks, and one that it makes stale is shown.
-pub fn pause_tanks(
-    tanks: [Option<Tank>; 4],
-    gap: u16,
-    streams: &mut Streams,
-) -> [Option<Tank>; 4] {
+pub fn pause_tanks(tanks: [Option<Tank>; 4], gap: u16, streams: &mut Streams) -> [Option<Tank>; 4] {
     [
         pause_tank(0, tanks[0], gap, streams),
         pause_tank(1, tanks[1], gap, streams),
@@ -169,12 +165,7 @@ pub fn pause_tanks(
     ]
 }
 
-fn pause_tank(
-    instance: u64,
-    tank: Option<Tank>,
-    gap: u16,
-    streams: &mut Streams,
-) -> Option<Tank> {
+fn pause_tank(instance: u64, tank: Option<Tank>, gap: u16, streams: &mut Streams) -> Option<Tank> {
     let tank = tank?;
     let paused = Tank {
         silence: waited(tank.silence, gap),

@@ -1,4 +1,5 @@
 pub mod NineKeys
+pub mod NoTwo
 pub mod Filling
 pub mod Places
 pub mod Steps

@@ -5,18 +5,25 @@ use mathlib.Core.List.{List, ◌++◌, append_assoc, append-nil}
 use Prim.Native.Nat.{ℕ, suc, ◌+◌, ◌-◌, ◌*◌, ◌≤◌, ◌<◌}
 use native.Mathlib.Nat.{add_assoc, le_refl, mul-le-mul_left}
 use native.Mathlib.Decide.{dec_lt}
-use native.Mathlib.Numerals.{add-one}
 use native.Mathlib.Omega.{arith}
 use borrow.Author.Tests.{ltb-true, ltb-false}
 use borrow.Rule.Slice.PartMut.{put_mid}
-use lib.ListN.{length, take, drop, get_or, set, take-append-drop, length-take, length-drop, drop_of_length-le}
+use lib.ListN.{length, take, drop, get_or, take-append-drop, length-take, length-drop, drop_of_length-le}
 use lib.ListN.{get_or-append}
-use lib.Seq.{paste, paste-suc, get_or-drop, drop-append-le, take-append-le, take-take, drop-drop, drop-paste, take-add}
+use lib.Seq.{paste, get_or-drop, drop-append-le, take-append-le, take-take, drop-drop, drop-paste, take-add}
 use lib.Seq.{take_all, length-take-le, drop_at, length_paste_head, take-append-add}
 use lib.Seq.{take-paste, get_or-take, get_or-append-add}
 use Rattle.words.specs.Words.{◌<?◌}
 use Rattle.words.proofs.Words.{by_test}
 use Rattle.places.specs.Layout.{stretch, AgreeBut}
+
+-- a copy into the part from a on that was lent, put back, is a copy into the whole
+pub paste_part : (xs s : List ℕ) (a o n : ℕ) → put_mid a (length xs - a) xs (paste (take (length xs - a) (drop a xs)) o s n) ≡ paste xs (a + o) s n
+paste_part xs s a o n =
+    let h : length (drop a xs) ≤ length xs - a = rw length-drop (le_refl _) in
+    let e₁ = take_all (length xs - a) (drop a xs) h in
+    let e₂ = drop_of_length-le (drop a xs) h in
+    rw (e₁, e₂) (simp (append-nil, append_assoc, take-add, drop-drop, add_assoc))
 
 -- a part that lies in the first of two lists
 in_first : (p q : List ℕ) (n m : ℕ) → n + m ≤ length p → take m (drop n (p ++ q)) ≡ take m (drop n p)

@@ -37,14 +37,14 @@ pub trait Seat: Copy {
 }
 
 // Whether a place is open for this key.
-pub fn is_held_by<P: Seat>(place: &P, key: u64) -> bool
+fn is_held_by<P: Seat>(place: &P, key: u64) -> bool
     ensures { result ≡ held_by P.is_free P.key_of key place.now }
 {
     !place.is_free() && place.key() == key
 }
 
 // The lowest-numbered free place.
-pub fn lowest_free<P: Seat>(places: &[P]) -> Option<usize>
+fn lowest_free<P: Seat>(places: &[P]) -> Option<usize>
     ensures { result ≡ first P.is_free places.now }
 {
     places.iter().position(|place| place.is_free())

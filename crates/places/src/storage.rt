@@ -9,12 +9,15 @@ use crate::bytes;
 // The places of a receiver.
 pub const PLACES: usize = 8;
 
-// Keeps these bytes in the stretch of place `at`, from its byte `offset` on.
+// Keeps these bytes in the stretch of place `at`, from its byte `offset` on. What puts them there is lent the storage from
+// the place's start on.
+#[tactic(auto, using(crate::proofs::Stretch::paste_part))]
 pub fn keep(storage: &mut [u8], stretch: usize, at: usize, offset: usize, bytes: &[u8])
     requires { stretch * at + offset + length bytes.now ≤ length storage.old }
     ensures { storage.new ≡ paste storage.old (stretch * at + offset) bytes.now (length bytes.now) }
 {
-    bytes::put(storage, stretch * at + offset, bytes);
+    let from = stretch * at;
+    bytes::put(&mut storage[from..], offset, bytes);
 }
 
 // The first `size` bytes of the stretch of place `at`; none where there is no such place, or it has fewer.

@@ -48,6 +48,7 @@ use Rattle.tiles.proofs.Exact.{nearest_exact}
 use Rattle.tiles.proofs.OneFrame.{meant_for, for_tile, other_instance, mask_below, mask_given}
 use Rattle.tiles.proofs.OneFrame.{sound_given, after_sound_lem, heard_at}
 use Rattle.tiles.proofs.Running.{named_so, ran_sound, ran_tile, tile_shows, shows_tile, every_run}
+use Rattle.tiles.specs.Laws.{NamingRefusalTold, HearingRefusalTold, AskingRefusalTold}
 
 -- an answer is read back from what it tells
 
@@ -135,11 +136,23 @@ not_shown_refusal_only why r s p q = p.number ∙ sym q.number
 pub naming_refusal_only : Laws.NamingRefusalOnly
 naming_refusal_only answer r s p q = p.number ∙ sym q.number
 
+pub naming_refusal_told : NamingRefusalTold
+naming_refusal_told (Ok value) = record { number = refl }
+naming_refusal_told (Err why) = record { number = refl }
+
 pub hearing_refusal_only : Laws.HearingRefusalOnly
 hearing_refusal_only answer r s p q = p.number ∙ sym q.number
 
+pub hearing_refusal_told : HearingRefusalTold
+hearing_refusal_told (Ok value) = record { number = refl }
+hearing_refusal_told (Err why) = record { number = refl }
+
 pub asking_refusal_only : Laws.AskingRefusalOnly
 asking_refusal_only answer r s p q = p.number ∙ sym q.number
+
+pub asking_refusal_told : AskingRefusalTold
+asking_refusal_told (Ok value) = record { number = refl }
+asking_refusal_told (Err why) = record { number = refl }
 
 -- a refusal leaves the panel
 

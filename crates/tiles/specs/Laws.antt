@@ -32,6 +32,10 @@ use Rattle.tiles.specs.declared.Tile.{Tile}
 use Rattle.tiles.specs.declared.Panel.{Panel}
 use Rattle.tiles.specs.declared.Named.{Named}
 use Rattle.tiles.specs.declared.Heard.{Heard}
+use Rattle.tiles.specs.Promises.{number_of_not_named}
+use Rattle.words.specs.Words.{number_of_answer}
+use Rattle.tiles.specs.Promises.{number_of_not_heard}
+use Rattle.tiles.specs.Promises.{number_of_not_shown}
 
 -- An answer read as number and values loses nothing (RULES 2.10).
 
@@ -71,11 +75,20 @@ NotShownRefusalOnly = (why : NotShown) (r s : ℕ) → NotShownRefusal why r →
 abbrev pub NamingRefusalOnly : Type 0
 NamingRefusalOnly = (answer : Naming) (r s : ℕ) → NamingRefusal answer r → NamingRefusal answer s → r ≡ s
 
+abbrev pub NamingRefusalTold : Type 0
+NamingRefusalTold = (answer : Naming) → NamingRefusal answer (number_of_answer number_of_not_named answer)
+
 abbrev pub HearingRefusalOnly : Type 0
 HearingRefusalOnly = (answer : Hearing) (r s : ℕ) → HearingRefusal answer r → HearingRefusal answer s → r ≡ s
 
+abbrev pub HearingRefusalTold : Type 0
+HearingRefusalTold = (answer : Hearing) → HearingRefusal answer (number_of_answer number_of_not_heard answer)
+
 abbrev pub AskingRefusalOnly : Type 0
 AskingRefusalOnly = (answer : Asking) (r s : ℕ) → AskingRefusal answer r → AskingRefusal answer s → r ≡ s
+
+abbrev pub AskingRefusalTold : Type 0
+AskingRefusalTold = (answer : Asking) → AskingRefusal answer (number_of_answer number_of_not_shown answer)
 
 -- A refusal leaves the panel.
 

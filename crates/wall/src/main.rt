@@ -9,7 +9,8 @@ mod values;
 
 ghost use Rattle.std.specs.Prelude.{◌≡◌, ◌<◌, length};
 
-use rvc::captures::{Cutter, Cutting, Ending, Reading};
+use rvc::Refusal;
+use rvc::captures::{Cutter, Cutting, Ending, NotRead};
 use state::Wall;
 use std::io;
 use streams::Streams;
@@ -51,16 +52,14 @@ fn block() -> [u8; 65536]
     [0; 65536]
 }
 
-// Block after block. Nothing says that an input ends, so the loop counts down from a number that no input uses up.
+// Block after block. Nothing says that an input ends, so the loop goes up to a number that no input reaches.
 fn listen(listener: Listener, block: &mut [u8], streams: &mut Streams) -> Listener {
     let mut listener = listener;
-    let mut turns = u64::MAX;
-    while turns > 0 {
+    for _ in 0..u64::MAX {
         listener = read_block(listener, block, streams);
         if !listener.more {
-            return listener;
+            break;
         }
-        turns -= 1;
     }
     listener
 }
@@ -69,12 +68,9 @@ fn listen(listener: Listener, block: &mut [u8], streams: &mut Streams) -> Listen
 fn read_block(listener: Listener, block: &mut [u8], streams: &mut Streams) -> Listener {
     let count = streams.read(block);
     if count == 0 {
-        let cutter = listener.cutter;
-        let wall = listener.wall;
         return Listener {
-            cutter,
-            wall,
             more: false,
+            ..listener
         };
     }
     hear_block(listener, &block[..count], streams)
@@ -152,8 +148,7 @@ fn last_line(listener: Listener, streams: &mut Streams) -> Wall {
 
 // A malformed line, by its number; so is one that is too long.
 fn malformed(number: u32, streams: &mut Streams) {
-    let answer = Reading::Malformed;
-    show::refused(number, answer.refusal(), streams);
+    show::refused(number, NotRead::Malformed.refusal(), streams);
 }
 
 // A line of either kind, by its number.
@@ -166,29 +161,26 @@ fn hear_line(wall: Wall, number: u32, text: &[u8], streams: &mut Streams) -> Wal
 
 // A line that names a tile.
 fn name_tile(wall: Wall, number: u32, text: &[u8], streams: &mut Streams) -> Wall {
-    let line = tile_line::take_apart(text);
-    if !line.sound {
+    let Some(line) = tile_line::take_apart(text) else {
         malformed(number, streams);
         return wall;
-    }
+    };
     let step = state::name(wall, line);
-    show::refused(number, step.refusal, streams);
+    show::refused(number, step.answer.refusal(), streams);
     step.wall
 }
 
 // A line of a capture: the pause before its frame, then the frame. A malformed line passes no time.
 fn hear_frame(wall: Wall, number: u32, text: &[u8], streams: &mut Streams) -> Wall {
     let line = rvc::captures::take_apart(text);
-    let answer = line.answer;
-    let bytes = line.bytes;
-    match answer {
-        Reading::Sound => {
+    match line.answer {
+        Ok(()) => {
             let wall = state::pause(wall, line.gap);
-            let step = state::hear(wall, line.id, bytes);
-            show::refused(number, step.refusal, streams);
+            let step = state::hear(wall, line.id, line.bytes);
+            show::refused(number, step.answer.refusal(), streams);
             step.wall
         }
-        Reading::Malformed => {
+        Err(_) => {
             malformed(number, streams);
             wall
         }

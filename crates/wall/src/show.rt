@@ -2,10 +2,10 @@
 ghost use Rattle.std.specs.Prelude.{◌<◌, ◌≤◌};
 
 use crate::state::{Label, Wall};
-use streams::Streams;
 use crate::{state, values};
 use rvc::texts;
-use tiles::{Asking, Panel, Reading, TILES};
+use streams::Streams;
+use tiles::{Panel, Reading, TILES};
 
 // The boxes that stand side by side, and the characters inside of one.
 const COLUMNS: usize = 4;
@@ -40,10 +40,8 @@ pub fn show_wall(wall: Wall, streams: &mut Streams) {
         return;
     }
     show_border(streams);
-    let mut first: usize = 0;
-    while first < TILES {
-        show_row(wall, first, streams);
-        first += COLUMNS;
+    for row in 0..TILES / COLUMNS {
+        show_row(wall, row * COLUMNS, streams);
     }
 }
 
@@ -65,11 +63,9 @@ fn show_row(wall: Wall, first: usize, streams: &mut Streams)
 fn show_line(wall: Wall, first: usize, part: Part, streams: &mut Streams)
     requires { first ≤ 28 }
 {
-    let mut column: usize = 0;
-    while column < COLUMNS {
+    for column in 0..COLUMNS {
         say(b"|", streams);
         show_part(wall, first + column, part, streams);
-        column += 1;
     }
     say(b"|\n", streams);
 }
@@ -103,32 +99,17 @@ fn show_part(wall: Wall, tile: usize, part: Part, streams: &mut Streams)
 
 // Whether one of the tiles from one to before another is named.
 fn has_named(panel: Panel, from: usize, to: usize) -> bool {
-    let mut tile = from;
-    while tile < to {
-        if !is_blank(reading_of(panel, tile)) {
-            return true;
-        }
-        tile += 1;
-    }
-    false
+    (from..to).any(|tile| !is_blank(reading_of(panel, tile)))
 }
 
 // What a tile shows. Neither refusal comes: the panel has the tile, and keeps its rules.
 fn reading_of(panel: Panel, tile: usize) -> Reading {
-    let answer = panel.reading(tile);
-    match answer {
-        Asking::Is(reading) => reading,
-        Asking::BrokenState => Reading::Blank,
-        Asking::NoSuchTile => Reading::Blank,
-    }
+    panel.reading(tile).unwrap_or(Reading::Blank)
 }
 
 // Whether a tile names no row.
 fn is_blank(reading: Reading) -> bool {
-    let Reading::Blank = reading else {
-        return false;
-    };
-    true
+    matches!(reading, Reading::Blank)
 }
 
 // The number in two places, and the name.
@@ -160,15 +141,11 @@ fn show_value(reading: Reading, streams: &mut Streams) {
 
 // Whether the value can be trusted: it never came, or came too long ago, or nothing is to be said.
 fn show_note(label: Label, streams: &mut Streams) {
-    if !label.heard {
-        show_word(b"never heard", streams);
-        return;
+    match label.silence {
+        None => show_word(b"never heard", streams),
+        Some(silence) if state::is_stale(silence) => show_word(b"stale", streams),
+        Some(_) => spaces(WIDTH, streams),
     }
-    if state::is_stale(label) {
-        show_word(b"stale", streams);
-        return;
-    }
-    spaces(WIDTH, streams);
 }
 
 // A number with its unit, which is so many characters wide.
@@ -206,10 +183,7 @@ fn show_centred(text: &[u8], unit: &[u8], width: usize, streams: &mut Streams) {
 fn room(width: usize) -> usize
     ensures { result ≤ 18 }
 {
-    if WIDTH < width {
-        return 0;
-    }
-    WIDTH - width
+    WIDTH.saturating_sub(width)
 }
 
 // So many spaces.

@@ -36,7 +36,7 @@ fn put_steps(out: &mut [u8], steps: i64, size: u64) -> usize
     requires { size ≤ 500000 }
     ensures { result ≤ length out.new }
 {
-    let count = magnitude(steps);
+    let count = steps.unsigned_abs();
     if MOST_STEPS < count {
         return put_unknown(out);
     }
@@ -88,22 +88,12 @@ fn put_places(out: &mut [u8], at: usize, fraction: u64) -> usize
 {
     let mut end = at;
     let mut rest = fraction;
-    let mut places: usize = 0;
-    while places < 7 {
+    for _ in 0..7 {
         if rest == 0 {
-            return end;
+            break;
         }
         end = texts::put_decimal(out, end, b"", rest * 10 / ONE);
         rest = rest * 10 % ONE;
-        places += 1;
     }
     end
-}
-
-// How far a number is from zero.
-fn magnitude(number: i64) -> u64 {
-    if number < 0 {
-        return (-1 - number) as u64 + 1;
-    }
-    number as u64
 }

@@ -5,4 +5,4 @@ use Rattle.message.proofs.splitter.announcement_bytes.Goals as goal
 
 pub returns : goal.returns
 unfolding announcement_bytes bytes_of
-returns c = rw c.requires
+returns c = rw (c.requires, c.dgn_bytes-dgn.ensures.answer, c.to_le_bytes-size.ensures)

@@ -1,5 +1,5 @@
 -- What the loop of `places::seats::pause` keeps.
-use Rattle.std.proofs.Common.{ℕ, List, ◌≡◌, ◌++◌, map, take, drop, ◌≤◌}
+use Rattle.std.proofs.Common.{◌≡◌, ◌++◌, map, take, drop, ◌≤◌}
 use Rattle.words.specs.Lists.{count}
 use Rattle.places.specs.Seats.{closes, idled}
 use Rattle.places.proofs.seats.pause.Given as goal

@@ -1,5 +1,5 @@
 -- `wall::tile_line::digits` is safe and ends. Assumes nothing.
-use Rattle.std.proofs.Common.{arith, rules}
+use Rattle.std.proofs.Common.{arith}
 use Rattle.capture.proofs.Digits.{read_room}
 use Rattle.wall.proofs.tile_line.digits.Goals as goal
 
@@ -8,7 +8,7 @@ overflow_mul-value c =
     let l = c.loop-count in
     let a = c.args in
     let r = read_room a.base l.value c.value_of-digit.result l.count (omega arith) (omega arith)
-    (omega arith) l.invariant.1 in
+    (omega arith) l.invariant in
     omega arith
 
 pub overflow_add-value : goal.overflow_add-value
@@ -16,7 +16,7 @@ overflow_add-value c =
     let l = c.loop-count in
     let a = c.args in
     let r = read_room a.base l.value c.value_of-digit.result l.count (omega arith) (omega arith)
-    (omega arith) l.invariant.1 in
+    (omega arith) l.invariant in
     omega arith
 
 pub loop-count-preserved : goal.loop-count-preserved
@@ -24,5 +24,5 @@ loop-count-preserved c =
     let l = c.loop-count in
     let a = c.args in
     let r = read_room a.base l.value c.value_of-digit.result l.count (omega arith) (omega arith)
-    (omega arith) l.invariant.1 in
-    (search rules, r.0)
+    (omega arith) l.invariant in
+    r.0

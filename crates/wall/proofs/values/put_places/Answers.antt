@@ -3,7 +3,6 @@ use Rattle.std.proofs.Common.{arith, rules}
 use Rattle.text.proofs.Pieces.{end_within}
 use Rattle.wall.proofs.values.put_places.Goals as goal
 
-pub loop-places-preserved : goal.loop-places-preserved
-loop-places-preserved c =
-    let h = end_within c.put_decimal-end.ensures (omega arith) in
-    (h, search rules, search rules, search rules)
+pub loop-preserved : goal.loop-preserved
+loop-preserved c =
+    record { within = end_within c.put_decimal-end.ensures (omega arith); room = search rules; small = search rules }
