@@ -139,20 +139,6 @@ numbers_of row c a =
 pub two_bits : (row : Row) → has_two_states row ≡ true → row.width ≡ 2
 two_bits row s = eqb-true row.width 2 (both_true row.two_state (row.width =? 2) s).1
 
--- as the code asks whether a code is 10b in a row of two states
-
-pub error_elsewhere : (row : Row) (c : ℕ) → (row.width ≡ 2 → ⊥) → false ≡ is_error row c
-error_elsewhere row c n = sym (one_false (has_two_states row) (c =? error_code) (other_width row n))
-
-pub error_other : (row : Row) (c : ℕ) → (c ≡ error_code → ⊥) → false ≡ is_error row c
-error_other row c n = sym (rw (ne_eqb c error_code n) (and_false (has_two_states row)))
-
-pub error_marked : (row : Row) (c : ℕ) → row.width ≡ 2 → c ≡ error_code → row.two_state ≡ is_error row c
-error_marked row c w e =
-    by_test row.two_state
-    (λ t. rw (t, eq-eqb row.width 2 w, eq-eqb c error_code e))
-    (λ t. rw t)
-
 pub two_of : Laws.TwoStates
 unfolding class_in class_at
 two_of row p s =

@@ -80,10 +80,6 @@ module _ (row : Row) (id size : ℕ) (r : Row) (e : opened_for row id size ≡ g
       let f = found row id size r e in
       subst (λ (x : Row). InFrame x.first x.width) (sym f.is) (framed row f.lies)
 
-  -- its bytes are the frame's
-  pub found_bytes : (bytes : List ℕ) → bytes_if (checked_of id size) bytes ≡ bytes
-  found_bytes bytes = ap (λ (t : Told Parts). bytes_if t bytes) (found row id size r e).checked.1
-
 -- the outcomes of a search for a row, for the code
 
 module _ (row : Row) (dgn : ℕ) where

@@ -31,9 +31,6 @@ pub table_at : (table : List ℕ) (n : ℕ) → nth (table_rows table) n ≡ unp
 unfolding unpacked unit_of
 table_at table n = get_or-map unpacked table n 0
 
-pub table_past : (table : List ℕ) (n : ℕ) → length table ≤ n → nth (table_rows table) n ≡ no_row
-table_past table n h = get_or-eq_default (table_rows table) no_row (rw (length-map table unpacked) h)
-
 pub row_past : (table : List ℕ) (n : ℕ) → length table ≤ n → refused 11 ≡ table_row table n
 unfolding table_row row_in
 row_past table n h = sym (rw (le-ltb n (length (table_rows table)) (rw (length-map table unpacked) h)))

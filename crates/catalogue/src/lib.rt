@@ -39,8 +39,8 @@ pub enum Unit {
 }
 
 // A field of a DGN (RULES 6.1): its bits are counted over the bytes, 8 to each. A plain row is always a number; in a
-// two-state row, which has two bits, 10b is out-of-range (RULES 7.13). The default row is all zeros, and lies in no frame.
-// (The two marks are no enum, since the laws of classes speak of each.)
+// two-state row, which has two bits, 10b is out-of-range (RULES 7.13). The default row is all zeros, and lies in no
+// frame. (The two marks are no enum, since the laws of classes speak of each.)
 #[derive(Clone, Copy, Default)]
 pub struct Row {
     pub dgn: u32,
@@ -239,8 +239,8 @@ pub fn has_instance(dgn: u32) -> bool
 }
 
 // How many steps of a scaled value make one of a unit, at a width: 2 halves of a percent, 32 of a °C, 20 of a volt or
-// an ampere, 128 of a hertz. 0 where the width has no scale, and a scaled value is the code: the promise `StepsInOne` has
-// this 0, so it is no `Option`.
+// an ampere, 128 of a hertz. 0 where the width has no scale, and a scaled value is the code: the promise `StepsInOne`
+// has this 0, so it is no `Option`.
 pub fn steps_in_one(unit: Unit, width: u8) -> u8
     ensures { StepsInOne unit width result }
 {

@@ -35,8 +35,8 @@ pub const PLACES: usize = 32;
 pub const STEP: u16 = 50;
 
 // A place. It is empty, all zeros, or an active fault: the eight bytes of its DM_RV, its period in milliseconds, the
-// milliseconds until it is due, and, once it is due, for how many steps it has been passed over since, up to 31. (It is no
-// `Option`: a state with bytes in an empty place is refused, `place_keeps_rules`.)
+// milliseconds until it is due, and, once it is due, for how many steps it has been passed over since, up to 31. (It is
+// no `Option`: a state with bytes in an empty place is refused, `place_keeps_rules`.)
 #[derive(Clone, Copy)]
 pub struct Fault {
     pub bytes: [u8; 8],

@@ -11,8 +11,8 @@ ghost use Rattle.tiles.specs.Private.{IsSound, ReadsOf, heard_as};
 use crate::{Heard, Panel, Reading, TILES, Tile, readings, rules};
 use rvc::fields::{Looked, Row};
 
-// A frame that is not refused by itself, as the tiles hear it: beside it the catalogue's rows, its DGN in their form, and
-// its byte 0.
+// A frame that is not refused by itself, as the tiles hear it: beside it the catalogue's rows, its DGN in their form,
+// and its byte 0.
 #[derive(Clone, Copy)]
 struct Frame<'a> {
     rows: &'a [u64],
