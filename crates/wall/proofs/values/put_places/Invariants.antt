@@ -6,5 +6,5 @@ abbrev pub invariant-loop : goal.invariant-loop
 invariant-loop l = record {
   within : l.end ≤ length l.out;
   room : length l.out ≡ length l.initial.out;
-  small : l.rest < 10000000
+  small : l.rest < 10000000;
 }
