@@ -20,7 +20,8 @@ pub const TAKES_AFTER: u16 = 250;
 
 // A record: whether a node holds the address, and its NAME; the NAME that challenges it, 0 for none, and for how many
 // milliseconds it has, up to 249. A challenger has a higher NAME than the holder, and so is never 0. Where nobody holds
-// the address, or nobody challenges the holder, what is missing is all zeros.
+// the address, or nobody challenges the holder, what is missing is all zeros. They are flag and numbers, and no Option,
+// since a lent table can hold a record that breaks this, and is refused with 2.
 #[derive(Clone, Copy)]
 pub struct Node {
     pub present: bool,

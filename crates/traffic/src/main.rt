@@ -16,7 +16,7 @@ use reader::{Going, Reader};
 use std::io;
 use streams::Streams;
 
-// The reader after a block, and whether another is to be read.
+// The reader after a block, and whether another is to be read. No enum: both of its cases would hold a reader.
 #[derive(Clone, Copy)]
 struct Fed {
     reader: Reader,

@@ -15,7 +15,8 @@ use state::Wall;
 use std::io;
 use streams::Streams;
 
-// The wall while it listens: the lines of its input so far, and whether more may come.
+// The wall while it listens: the lines of its input so far, and whether more may come. No enum: both of its cases would
+// hold a listener.
 #[derive(Clone, Copy)]
 struct Listener {
     cutter: Cutter,
