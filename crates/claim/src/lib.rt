@@ -23,7 +23,7 @@ pub const HELD_AFTER: u16 = 250;
 // that is claimed or held, the milliseconds waited there, up to 250, whether all addresses are lost, and how many
 // addresses were given up since the start: one for each contest that was lost. A contest that is won gives up nothing.
 // The list stands with its count beside it, for the fields are public, and the laws (`SameNode`, `Counts`) speak of
-// them. `silent` is a flag: a state that is silent at a position or after a wait can be handed in, and is refused with 2.
+// them. `silent` is a flag: a state that is silent after a wait can be handed in, and is refused with 2.
 #[derive(Clone, Copy)]
 pub struct Claim {
     pub name: u64,

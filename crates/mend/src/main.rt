@@ -18,8 +18,8 @@ use std::fs::File;
 use std::io::{Cursor, Print, Read, Seek, SeekFrom, Write};
 use std::{io, str};
 
-// The cutter after a block, whether another is to be read, and whether all was read and written. Two flags: each case of
-// an enum would hold the cutter, and the rest of a block is still written after a write that failed.
+// The cutter after a block, whether another is to be read, and whether all was read and written. Two flags: each
+// case of an enum would hold the cutter, and the rest of a block is still written after a write that failed.
 #[derive(Clone, Copy)]
 struct Fed {
     cutter: Cutter,

@@ -21,8 +21,8 @@ use state::Panel;
 use std::io;
 use streams::Streams;
 
-// The panel while it listens: the lines of its input so far, and whether more may come. No enum: both of its cases would
-// hold a listener.
+// The panel while it listens: the lines of its input so far, and whether more may come. No enum: both of its cases
+// would hold a listener.
 #[derive(Clone, Copy)]
 struct Listener {
     cutter: Cutter,
