@@ -3,13 +3,16 @@
 use crate::claims::claim;
 use crate::commands::host;
 use crate::notes::{field_u8, field_u16, get, get_u16, get_u32, put, put_all, record};
-use streams::Streams;
 use crate::{commands, fields, frames, notes, say, state};
+use catalogue::NotRead;
 use faults::{
-    Adding, Clearing, Fault, PLACES, Replied, Requested, Requesting, Sender, ServicePoint, Stepping,
+    Fault, NotAdded, NotCleared, NotHeard, NotStepped, PLACES, Replied, Requested, Requesting,
+    Response, Sender, ServicePoint, Stepping,
 };
 use frame::standard;
 use std::num::wrapping_add_usize;
+use streams::Streams;
+use words::Refusal;
 
 // The notes of a place: eight bytes, period, until_due, age.
 pub const FIELDS: usize = 11;
@@ -86,9 +89,9 @@ fn read_service_point(notes: &mut [u64], bytes: &[u8], streams: &mut Streams) {
 
 fn tell_service_point(notes: &mut [u64], answer: ServicePoint, streams: &mut Streams) {
     match answer {
-        ServicePoint::Is(number) => say::number(b"Is #", number as u64, streams),
-        ServicePoint::BadFrame(why) => frames::bad_frame(notes, why, streams),
-        ServicePoint::NoSuchRow => say::text(b"NoSuchRow", streams),
+        Ok(number) => say::number(b"Is #", number as u64, streams),
+        Err(NotRead::BadFrame(why)) => frames::bad_frame(notes, why, streams),
+        Err(NotRead::NoSuchRow) => say::text(b"NoSuchRow", streams),
     }
 }
 
@@ -125,10 +128,10 @@ fn add(notes: &mut [u64], bytes: &[u8], streams: &mut Streams) {
     keep(notes, added.sender);
     let answer = added.answer;
     match answer {
-        Adding::Added(place) => say::number(b"Added #", place as u64, streams),
-        Adding::BrokenState => say::text(b"BrokenState", streams),
-        Adding::NoPlace => say::text(b"NoPlace", streams),
-        Adding::PeriodNotAllowed => say::text(b"PeriodNotAllowed", streams),
+        Ok(place) => say::number(b"Added #", place as u64, streams),
+        Err(NotAdded::BrokenState) => say::text(b"BrokenState", streams),
+        Err(NotAdded::NoPlace) => say::text(b"NoPlace", streams),
+        Err(NotAdded::PeriodNotAllowed) => say::text(b"PeriodNotAllowed", streams),
     }
     end(notes, notes::FAULTS_ADDING, answer.refusal(), streams);
 }
@@ -145,9 +148,9 @@ fn clear(notes: &mut [u64], streams: &mut Streams) {
     keep(notes, cleared.sender);
     let answer = cleared.answer;
     match answer {
-        Clearing::Cleared => say::text(b"Cleared", streams),
-        Clearing::BrokenState => say::text(b"BrokenState", streams),
-        Clearing::NoSuchFault => say::text(b"NoSuchFault", streams),
+        Ok(()) => say::text(b"Cleared", streams),
+        Err(NotCleared::BrokenState) => say::text(b"BrokenState", streams),
+        Err(NotCleared::NoSuchFault) => say::text(b"NoSuchFault", streams),
     }
     end(notes, notes::FAULTS_CLEARING, answer.refusal(), streams);
 }
@@ -163,11 +166,11 @@ fn step(notes: &mut [u64], streams: &mut Streams) {
 
 fn stepped_so(notes: &mut [u64], answer: Stepping, id: u32, bytes: [u8; 8], streams: &mut Streams) {
     match answer {
-        Stepping::Send(place) => say::number(b"Send #", place as u64, streams),
-        Stepping::NothingDue => say::text(b"NothingDue", streams),
-        Stepping::BrokenState => say::text(b"BrokenState", streams),
-        Stepping::ListMalformed => say::text(b"ListMalformed", streams),
-        Stepping::NoAddressHeld => say::text(b"NoAddressHeld", streams),
+        Ok(Some(place)) => say::number(b"Send #", place as u64, streams),
+        Ok(None) => say::text(b"NothingDue", streams),
+        Err(NotStepped::BrokenState) => say::text(b"BrokenState", streams),
+        Err(NotStepped::ListMalformed) => say::text(b"ListMalformed", streams),
+        Err(NotStepped::NoAddressHeld) => say::text(b"NoAddressHeld", streams),
     }
     say::frame(notes, id, bytes, streams);
     end(notes, notes::FAULTS_STEPPING, answer.refusal(), streams);
@@ -202,7 +205,7 @@ fn requested_so(
 
 fn tell_requesting(notes: &mut [u64], answer: Requesting, streams: &mut Streams) {
     match answer {
-        Requesting::BadFrame(why) => frames::bad_frame(notes, why, streams),
+        Err(NotHeard::BadFrame(why)) => frames::bad_frame(notes, why, streams),
         _ => say::word(
             b"NothingToDo Send BrokenState ListMalformed DgnTooLarge NoAddressHeld",
             number_of_requesting(answer),
@@ -213,11 +216,11 @@ fn tell_requesting(notes: &mut [u64], answer: Requesting, streams: &mut Streams)
 
 fn number_of_requesting(answer: Requesting) -> usize {
     match answer {
-        Requesting::NothingToDo => 0,
-        Requesting::Send => 1,
-        Requesting::BrokenState => 2,
-        Requesting::ListMalformed => 3,
-        Requesting::DgnTooLarge => 4,
+        Ok(Response::NothingToDo) => 0,
+        Ok(Response::Send) => 1,
+        Err(NotHeard::BrokenState) => 2,
+        Err(NotHeard::ListMalformed) => 3,
+        Err(NotHeard::DgnTooLarge) => 4,
         _ => 5,
     }
 }
@@ -258,10 +261,8 @@ fn sender(notes: &[u64]) -> Sender {
 
 fn places(notes: &[u64]) -> [Fault; PLACES] {
     let mut places = [place(notes, notes::FAULTS); PLACES];
-    let mut i: usize = 0;
-    while i < PLACES {
-        places[i] = place(notes, record(notes::FAULTS, FIELDS, i));
-        i += 1;
+    for (i, kept) in places.iter_mut().enumerate() {
+        *kept = place(notes, record(notes::FAULTS, FIELDS, i));
     }
     places
 }
@@ -298,10 +299,8 @@ fn keep(notes: &mut [u64], sender: Sender) {
 }
 
 fn keep_places(notes: &mut [u64], places: [Fault; PLACES]) {
-    let mut i: usize = 0;
-    while i < PLACES {
-        keep_place(notes, record(notes::FAULTS, FIELDS, i), places[i]);
-        i += 1;
+    for (i, place) in places.iter().enumerate() {
+        keep_place(notes, record(notes::FAULTS, FIELDS, i), *place);
     }
 }
 
@@ -339,10 +338,8 @@ pub fn show(notes: &[u64], streams: &mut Streams) {
 }
 
 fn show_places(notes: &[u64], streams: &mut Streams) {
-    let mut i: usize = 0;
-    while i < PLACES {
+    for i in 0..PLACES {
         show_place(notes, i, streams);
-        i += 1;
     }
 }
 

@@ -1,11 +1,11 @@
 // The arguments of a call and the values of a field: read from the line by their shape, and noted.
 use crate::notes::{byte_at, get, put};
-use streams::Streams;
 use crate::typing::{
     NONE, Word, bytes_in, ends_here, find_word, letter, nth_name, nth_word, number_in,
 };
 use crate::{notes, say};
 use std::num::{wrapping_add_usize, wrapping_sub_usize};
+use streams::Streams;
 
 // Nothing is left to be answered.
 const ANSWERED: usize = 1001;

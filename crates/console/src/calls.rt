@@ -1,7 +1,7 @@
 // Every call of the library, part by part, with the shapes of its arguments; and the methods that number a refusal.
-use streams::Streams;
 use crate::{arguments, notes, say, typing};
 use std::num::wrapping_add_usize;
+use streams::Streams;
 
 // The parts, in the order of the lists below.
 pub fn part(notes: &[u64]) -> usize {

@@ -1,10 +1,10 @@
 // The words of crate `capture`: one cutter of lines, and the block that it was given last.
 use crate::frames::first_eight;
 use crate::notes::{bounded, byte_at, field_u8, field_u32, get, get_u16, get_u32, put};
-use streams::Streams;
 use crate::{notes, say};
 use capture::{Cutter, Cutting, Ending, LONGEST_LINE};
 use std::num::wrapping_add_usize;
+use streams::Streams;
 use words::Refusal;
 
 pub fn call(n: usize, notes: &mut [u64], bytes: &[u8], streams: &mut Streams) {

@@ -1,9 +1,9 @@
 // The words of crate `claim`: one claim.
 use crate::notes::{field, field_u8, field_u16, get, get_u16, get_u32, put, put_all};
-use streams::Streams;
 use crate::{frames, notes, say};
 use claim::{BadState, CANDIDATES, Claim, Hearing, NotHeard, Place, Reaction};
 use std::num::wrapping_add_usize;
+use streams::Streams;
 use words::Refusal;
 
 pub fn call(n: usize, notes: &mut [u64], bytes: &[u8], streams: &mut Streams) {

@@ -1,12 +1,13 @@
 // The words of crate `command`: a list of entries to start a host from, and one host. They use the console's claim.
 use crate::claims::claim;
 use crate::notes::{field, field_u8, field_u32, get, get_u8, get_u32, put, put_all, record};
-use streams::Streams;
 use crate::{frames, notes, say, state};
 use command::{
-    Acknowledging, Acknowledgment, ENTRIES, Edition, Entry, Host, Positions, Requested, Requesting,
-    Routing, Starting,
+    Acknowledging, Acknowledgment, Choice, ENTRIES, Edition, Entry, Host, NotAcknowledged,
+    NotAnswered, NotRouted, Positions, Requested, Requesting, Response, Routing,
 };
+use streams::Streams;
+use words::Refusal;
 
 pub fn call(n: usize, notes: &mut [u64], bytes: &[u8], streams: &mut Streams) {
     match n {
@@ -26,8 +27,8 @@ fn start(notes: &mut [u64], streams: &mut Streams) {
     keep(notes, started.host);
     let answer = started.answer;
     match answer {
-        Starting::Hosted => say::text(b"Hosted", streams),
-        Starting::ListMalformed => say::text(b"ListMalformed", streams),
+        Ok(()) => say::text(b"Hosted", streams),
+        Err(_) => say::text(b"ListMalformed", streams),
     }
     say::end(notes, notes::COMMAND_STARTING, answer.refusal(), streams);
     show_host(notes, streams);
@@ -44,7 +45,7 @@ fn route(notes: &mut [u64], bytes: &[u8], streams: &mut Streams) {
 
 fn tell_routing(notes: &mut [u64], answer: Routing, streams: &mut Streams) {
     match answer {
-        Routing::BadFrame(why) => frames::bad_frame(notes, why, streams),
+        Err(NotRouted::BadFrame(why)) => frames::bad_frame(notes, why, streams),
         _ => say::word(
             b"NothingToDo Picked BrokenState ListMalformed NoAddressHeld",
             number_of_routing(answer),
@@ -55,10 +56,10 @@ fn tell_routing(notes: &mut [u64], answer: Routing, streams: &mut Streams) {
 
 fn number_of_routing(answer: Routing) -> usize {
     match answer {
-        Routing::NothingToDo => 0,
-        Routing::Picked => 1,
-        Routing::BrokenState => 2,
-        Routing::ListMalformed => 3,
+        Ok(Choice::NothingToDo) => 0,
+        Ok(Choice::Picked) => 1,
+        Err(NotRouted::BrokenState) => 2,
+        Err(NotRouted::ListMalformed) => 3,
         _ => 4,
     }
 }
@@ -81,7 +82,7 @@ pub fn requested(notes: &mut [u64], requested: Requested, streams: &mut Streams)
 
 fn tell_requesting(notes: &mut [u64], answer: Requesting, streams: &mut Streams) {
     match answer {
-        Requesting::BadFrame(why) => frames::bad_frame(notes, why, streams),
+        Err(NotAnswered::BadFrame(why)) => frames::bad_frame(notes, why, streams),
         _ => say::word(
             b"NothingToDo SendClaim Supported SendNak Unsupported BrokenState ListMalformed DgnTooLarge NoAddressHeld",
             number_of_requesting(answer),
@@ -92,14 +93,14 @@ fn tell_requesting(notes: &mut [u64], answer: Requesting, streams: &mut Streams)
 
 fn number_of_requesting(answer: Requesting) -> usize {
     match answer {
-        Requesting::NothingToDo => 0,
-        Requesting::SendClaim => 1,
-        Requesting::Supported => 2,
-        Requesting::SendNak => 3,
-        Requesting::Unsupported => 4,
-        Requesting::BrokenState => 5,
-        Requesting::ListMalformed => 6,
-        Requesting::DgnTooLarge => 7,
+        Ok(Response::NothingToDo) => 0,
+        Ok(Response::SendClaim) => 1,
+        Ok(Response::Supported) => 2,
+        Ok(Response::SendNak) => 3,
+        Ok(Response::Unsupported) => 4,
+        Err(NotAnswered::BrokenState) => 5,
+        Err(NotAnswered::ListMalformed) => 6,
+        Err(NotAnswered::DgnTooLarge) => 7,
         _ => 8,
     }
 }
@@ -134,30 +135,21 @@ fn reply(notes: &[u64]) -> Acknowledgment {
 
 fn number_of_acknowledging(answer: Acknowledging) -> usize {
     match answer {
-        Acknowledging::Send => 0,
-        Acknowledging::BrokenState => 1,
-        Acknowledging::RequesterNotAllowed => 2,
-        Acknowledging::ListMalformed => 3,
-        Acknowledging::DgnTooLarge => 4,
-        Acknowledging::NoAddressHeld => 5,
+        Ok(()) => 0,
+        Err(NotAcknowledged::BrokenState) => 1,
+        Err(NotAcknowledged::RequesterNotAllowed) => 2,
+        Err(NotAcknowledged::ListMalformed) => 3,
+        Err(NotAcknowledged::DgnTooLarge) => 4,
+        Err(NotAcknowledged::NoAddressHeld) => 5,
     }
 }
 
 // The positions up to their count.
 fn show_positions(positions: Positions, streams: &mut Streams) {
     say::text(b" positions=", streams);
-    let at = positions.at;
-    let mut i: usize = 0;
-    while i < ENTRIES {
-        if i < positions.count {
-            show_position(at[i], streams);
-        }
-        i += 1;
+    for position in positions.at.iter().take(positions.count) {
+        say::number(b" #", *position as u64, streams);
     }
-}
-
-fn show_position(position: u8, streams: &mut Streams) {
-    say::number(b" #", position as u64, streams);
 }
 
 // The host of the notes.
@@ -186,10 +178,8 @@ fn number_of_edition(edition: Edition) -> u64 {
 // The entries of the notes from a place on.
 fn entries(notes: &[u64], at: usize) -> [Entry; ENTRIES] {
     let mut entries = [entry(notes, at); ENTRIES];
-    let mut i: usize = 0;
-    while i < ENTRIES {
-        entries[i] = entry(notes, record(at, 4, i));
-        i += 1;
+    for (i, kept) in entries.iter_mut().enumerate() {
+        *kept = entry(notes, record(at, 4, i));
     }
     entries
 }
@@ -213,10 +203,8 @@ fn keep(notes: &mut [u64], host: Host) {
 }
 
 fn keep_entries(notes: &mut [u64], entries: [Entry; ENTRIES]) {
-    let mut i: usize = 0;
-    while i < ENTRIES {
-        keep_entry(notes, record(notes::HOST_ENTRIES, 4, i), entries[i]);
-        i += 1;
+    for (i, entry) in entries.iter().enumerate() {
+        keep_entry(notes, record(notes::HOST_ENTRIES, 4, i), *entry);
     }
 }
 

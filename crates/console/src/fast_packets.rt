@@ -5,11 +5,12 @@ use crate::notes::{
     bounded, field, field_u8, field_u16, field_u32, get, get_u8, get_u16, get_u32, put, put_all,
     record,
 };
-use streams::Streams;
 use crate::{frames, notes, say, state};
 use fast::limits::{DGNS, PLACES, STRETCH};
-use fast::{Answer, Pausing, Place, Receiver, Splitting, Started, Starting};
+use fast::{Answer, Event, NotHeard, NotSplit, Place, Receiver, Splitting, Started};
 use std::num::wrapping_add_usize;
+use streams::Streams;
+use words::Refusal;
 
 pub fn call(n: usize, notes: &mut [u64], bytes: &[u8], storage: &mut [u8], streams: &mut Streams) {
     match n {
@@ -28,8 +29,8 @@ fn start(notes: &mut [u64], storage: &[u8], streams: &mut Streams) {
     keep(notes, started.receiver);
     let answer = started.answer;
     match answer {
-        Starting::Named => say::text(b"Named", streams),
-        Starting::ListMalformed => say::text(b"ListMalformed", streams),
+        Ok(()) => say::text(b"Named", streams),
+        Err(_) => say::text(b"ListMalformed", streams),
     }
     say::end(notes, notes::FAST_STARTING, answer.refusal(), streams);
     show(notes, storage, streams);
@@ -38,10 +39,8 @@ fn start(notes: &mut [u64], storage: &[u8], streams: &mut Streams) {
 // The numbers of the list that was typed.
 fn typed_list(notes: &[u64]) -> [u32; 32] {
     let mut list = [0u32; 32];
-    let mut i: usize = 0;
-    while i < 32 {
-        list[i] = field_u32(notes, notes::NUMBERS, i);
-        i += 1;
+    for (i, number) in list.iter_mut().enumerate() {
+        *number = field_u32(notes, notes::NUMBERS, i);
     }
     list
 }
@@ -82,13 +81,8 @@ fn heard_so(notes: &mut [u64], storage: &[u8], answer: Answer, streams: &mut Str
 
 fn tell(notes: &mut [u64], answer: Answer, streams: &mut Streams) {
     match answer {
-        Answer::BadFrame(why) => frames::bad_frame(notes, why, streams),
-        Answer::Finished {
-            place: _,
-            sender: _,
-            dgn: _,
-            length: _,
-        } => say::form(
+        Err(NotHeard::BadFrame(why)) => frames::bad_frame(notes, why, streams),
+        Ok(Event::Finished { .. }) => say::form(
             b"Finished place=# sender=% dgn=~ length=# message=",
             notes,
             notes::FAST_FINISHED + 1,
@@ -105,14 +99,14 @@ fn tell(notes: &mut [u64], answer: Answer, streams: &mut Streams) {
 
 fn number(answer: Answer) -> usize {
     match answer {
-        Answer::StorageTooShort => 0,
-        Answer::BrokenState => 1,
-        Answer::MalformedLength => 2,
-        Answer::NoPlaceFree => 3,
-        Answer::NoOpenMessage => 4,
-        Answer::UnexpectedFrame => 5,
-        Answer::NothingToDo => 6,
-        Answer::Opened => 7,
+        Err(NotHeard::StorageTooShort) => 0,
+        Err(NotHeard::BrokenState) => 1,
+        Err(NotHeard::MalformedLength) => 2,
+        Err(NotHeard::NoPlaceFree) => 3,
+        Err(NotHeard::NoOpenMessage) => 4,
+        Err(NotHeard::UnexpectedFrame) => 5,
+        Ok(Event::NothingToDo) => 6,
+        Ok(Event::Opened) => 7,
         _ => 8,
     }
 }
@@ -132,8 +126,8 @@ fn pause(notes: &mut [u64], storage: &[u8], streams: &mut Streams) {
     keep(notes, paused.receiver);
     let answer = paused.answer;
     match answer {
-        Pausing::Closed(count) => say::number(b"Closed #", count as u64, streams),
-        Pausing::BrokenState => say::text(b"BrokenState", streams),
+        Ok(count) => say::number(b"Closed #", count as u64, streams),
+        Err(_) => say::text(b"BrokenState", streams),
     }
     say::end(notes, notes::FAST_PAUSING, answer.refusal(), streams);
     show(notes, storage, streams);
@@ -155,10 +149,10 @@ fn frame_of(notes: &mut [u64], bytes: &[u8], streams: &mut Streams) {
 
 fn number_of_splitting(answer: Splitting) -> usize {
     match answer {
-        Splitting::Bytes => 0,
-        Splitting::NoCode => 1,
-        Splitting::LengthNotSplit => 2,
-        Splitting::NoSuchFrame => 3,
+        Ok(()) => 0,
+        Err(NotSplit::NoCode) => 1,
+        Err(NotSplit::LengthNotSplit) => 2,
+        Err(NotSplit::NoSuchFrame) => 3,
     }
 }
 
@@ -173,20 +167,16 @@ fn receiver(notes: &[u64]) -> Receiver {
 
 fn dgns(notes: &[u64]) -> [u32; DGNS] {
     let mut dgns = [0u32; DGNS];
-    let mut i: usize = 0;
-    while i < DGNS {
-        dgns[i] = field_u32(notes, notes::FAST_DGNS, i);
-        i += 1;
+    for (i, dgn) in dgns.iter_mut().enumerate() {
+        *dgn = field_u32(notes, notes::FAST_DGNS, i);
     }
     dgns
 }
 
 fn places(notes: &[u64]) -> [Place; PLACES] {
     let mut places = [place(notes, notes::FAST_PLACES); PLACES];
-    let mut i: usize = 0;
-    while i < PLACES {
-        places[i] = place(notes, record(notes::FAST_PLACES, 6, i));
-        i += 1;
+    for (i, kept) in places.iter_mut().enumerate() {
+        *kept = place(notes, record(notes::FAST_PLACES, 6, i));
     }
     places
 }
@@ -212,22 +202,14 @@ fn keep(notes: &mut [u64], receiver: Receiver) {
 }
 
 fn keep_dgns(notes: &mut [u64], dgns: [u32; DGNS]) {
-    let mut i: usize = 0;
-    while i < DGNS {
-        put(
-            notes,
-            wrapping_add_usize(notes::FAST_DGNS, i),
-            dgns[i] as u64,
-        );
-        i += 1;
+    for (i, dgn) in dgns.iter().enumerate() {
+        put(notes, wrapping_add_usize(notes::FAST_DGNS, i), *dgn as u64);
     }
 }
 
 fn keep_places(notes: &mut [u64], places: [Place; PLACES]) {
-    let mut i: usize = 0;
-    while i < PLACES {
-        keep_place(notes, record(notes::FAST_PLACES, 6, i), places[i]);
-        i += 1;
+    for (i, place) in places.iter().enumerate() {
+        keep_place(notes, record(notes::FAST_PLACES, 6, i), *place);
     }
 }
 
@@ -246,24 +228,26 @@ fn keep_place(notes: &mut [u64], at: usize, place: Place) {
 // The last answer, as far as it is about a finished message.
 fn kept_answer(notes: &[u64]) -> Answer {
     if get(notes, notes::FAST_FINISHED) == 0 {
-        return Answer::NothingToDo;
+        return Ok(Event::NothingToDo);
     }
-    Answer::Finished {
+    Ok(Event::Finished {
         place: field(notes, notes::FAST_FINISHED, 1) as usize,
         sender: field_u8(notes, notes::FAST_FINISHED, 2),
         dgn: field_u32(notes, notes::FAST_FINISHED, 3),
         length: field_u8(notes, notes::FAST_FINISHED, 4),
-    }
+    })
 }
 
 fn keep_answer(notes: &mut [u64], answer: Answer) {
     match answer {
-        Answer::Finished {
-            place,
-            sender,
-            dgn,
-            length,
-        } => {
+        Ok(
+            Event::Finished {
+                place,
+                sender,
+                dgn,
+                length,
+            },
+        ) => {
             let finished = [1, place as u64, sender as u64, dgn as u64, length as u64];
             put_all(notes, notes::FAST_FINISHED, &finished);
         }
@@ -285,8 +269,7 @@ pub fn show(notes: &[u64], storage: &[u8], streams: &mut Streams) {
 }
 
 fn show_dgns(notes: &[u64], named: usize, streams: &mut Streams) {
-    let mut i: usize = 0;
-    while i < DGNS {
+    for i in 0..DGNS {
         if i < named {
             say::form(
                 b" ~",
@@ -295,15 +278,12 @@ fn show_dgns(notes: &[u64], named: usize, streams: &mut Streams) {
                 streams,
             );
         }
-        i += 1;
     }
 }
 
 fn show_places(notes: &[u64], storage: &[u8], streams: &mut Streams) {
-    let mut i: usize = 0;
-    while i < PLACES {
+    for i in 0..PLACES {
         show_place(notes, storage, i, streams);
-        i += 1;
     }
 }
 

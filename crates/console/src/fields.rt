@@ -2,11 +2,12 @@
 ghost use Rattle.io.specs.Counts.{IsPrefixLen};
 
 use crate::notes::{field, field_u8, get, get_i64, get_u8, get_u32, put, put_all};
-use streams::Streams;
 use crate::{claims, frames, notes, say};
 use catalogue::{
-    Class, Field, Looked, NotRead, NotWritten, Reading, Row, ScaledReading, Span, Unit, Value, Writing,
+    Class, Field, Looked, NotRead, NotWritten, Reading, Row, ScaledReading, Span, Unit, Value,
+    Writing,
 };
+use streams::Streams;
 use words::Refusal;
 
 pub fn call(
@@ -268,16 +269,9 @@ pub fn typed_value(notes: &[u64], slot: usize) -> Value {
         1 => Value::OutOfRange,
         2 => Value::Reserved,
         3 => Value::Scaled(number),
-        _ => Value::Scaled(below_zero(number)),
+        // Below zero one less than the size is noted.
+        _ => Value::Scaled((-1i64).wrapping_sub(number)),
     }
-}
-
-// The number below zero of which one less than its size was noted.
-fn below_zero(less: i64) -> i64 {
-    if less < 0 {
-        return 0;
-    }
-    -1 - less
 }
 
 fn write_by(n: usize, notes: &mut [u64], bytes: &mut [u8], streams: &mut Streams) {

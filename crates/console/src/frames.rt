@@ -1,8 +1,8 @@
 // The words of crate `frame`.
 use crate::notes::{byte_at, get, get_u8, get_u32};
-use streams::Streams;
 use crate::{notes, say};
 use frame::{BadFrame, BadIdentifier, Destination, NotFormed, Parts, Verdict};
+use streams::Streams;
 use words::Refusal;
 
 pub fn call(n: usize, notes: &mut [u64], bytes: &[u8], streams: &mut Streams) {

@@ -3,10 +3,12 @@ use crate::notes::{
     bounded, field, field_u8, field_u16, field_u32, get, get_u8, get_u16, get_u32, put, put_all,
     record,
 };
-use streams::Streams;
 use crate::{frames, notes, say, state};
 use message::limits::{PLACES, STRETCH};
-use message::{Announcing, Answer, Event, NotHeard, NotSplit, Place, Receiver, Splitting, Unsplittable};
+use message::{
+    Announcing, Answer, Event, NotHeard, NotSplit, Place, Receiver, Splitting, Unsplittable,
+};
+use streams::Streams;
 use words::Refusal;
 
 pub fn call(n: usize, notes: &mut [u64], bytes: &[u8], storage: &mut [u8], streams: &mut Streams) {
@@ -199,12 +201,14 @@ fn kept_answer(notes: &[u64]) -> Answer {
 
 fn keep_answer(notes: &mut [u64], answer: Answer) {
     match answer {
-        Ok(Event::Finished {
-            place,
-            sender,
-            dgn,
-            length,
-        }) => {
+        Ok(
+            Event::Finished {
+                place,
+                sender,
+                dgn,
+                length,
+            },
+        ) => {
             let finished = [1, place as u64, sender as u64, dgn as u64, length as u64];
             put_all(notes, notes::MESSAGE_FINISHED, &finished);
         }

@@ -3,11 +3,12 @@ ghost use Rattle.std.specs.Prelude.{◌≡◌, ◌≤◌, take};
 ghost use Rattle.nodes.specs.Promises.{Hear, Pause, LookUp, FindAddress, FindChallenger};
 
 use crate::notes::{field, field_u16, get, get_u8, get_u16, get_u32, put_all, record};
-use streams::Streams;
 use crate::{frames, notes, say, state};
 use nodes::{
-    BadTable, Challenger, Effect, FoundAddress, FoundChallenger, Hearing, LookedUp, Node, NotHeard, Pausing, RECORDS,
+    BadTable, Challenger, Effect, FoundAddress, FoundChallenger, Hearing, LookedUp, Node, NotHeard,
+    Pausing, RECORDS,
 };
+use streams::Streams;
 use words::Refusal;
 
 // How many records the console keeps.

@@ -1,8 +1,8 @@
 // What the console prints: texts, numbers, bytes, and the end of an answer with its number.
 use crate::notes::{bounded, byte_at, get, put};
-use streams::Streams;
 use crate::{notes, typing};
 use std::num::wrapping_add_usize;
+use streams::Streams;
 
 pub fn text(text: &[u8], streams: &mut Streams) {
     streams.write(text);
@@ -87,12 +87,9 @@ fn hex_digits(number: u64, least: usize, streams: &mut Streams) {
 // A number that may be negative.
 pub fn signed(number: i64, streams: &mut Streams) {
     if number < 0 {
-        let size = (-1 - number) as u64 + 1;
         text(b"-", streams);
-        decimal(size, streams);
-        return;
     }
-    decimal(number as u64, streams);
+    decimal(number.unsigned_abs(), streams);
 }
 
 fn byte(byte: u8, streams: &mut Streams) {

@@ -2,10 +2,10 @@
 use crate::arguments::{argument, values};
 use crate::node_table::MOST_RECORDS;
 use crate::notes::{byte_at, field, get, get_u8, put, put_all, record};
-use streams::Streams;
 use crate::typing::{NONE, ends_here, find_field, find_state, letter, nth_word, number_in};
 use crate::{active_faults, notes, say};
 use std::num::wrapping_add_usize;
+use streams::Streams;
 
 // The head of a record, with its position, and its fields; nothing where they are all 0. Whether it was printed.
 pub fn show(

@@ -1,7 +1,7 @@
 // The words of crate `text`: a piece put into bytes that the console lends for one call, hyphens all of them.
 use crate::notes::{bounded, get};
-use streams::Streams;
 use crate::{notes, say};
+use streams::Streams;
 
 // So many bytes are lent at most.
 const MOST_LENT: usize = 64;

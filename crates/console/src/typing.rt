@@ -1,8 +1,8 @@
 // A typed line: its words, and the numbers and bytes that they mean. The line stands in the notes, a letter a note.
 use crate::notes::{byte_at, field_u8, get, put};
-use streams::Streams;
 use crate::{notes, say};
 use std::num::{wrapping_add_usize, wrapping_sub_usize};
+use streams::Streams;
 
 // Where a word stands. There is none where both are the same.
 #[derive(Clone, Copy)]
