@@ -1,7 +1,6 @@
 // Exercises: a message split and joined again, a row written and read back, as a class would do it by many lines.
-use crate::fields::number_of_class;
-use crate::notes::{get, get_u8};
-use crate::{notes, say};
+use crate::notes::{get, get_as};
+use crate::{fields, notes, say};
 use catalogue::{NotRead, Row, Writing};
 use streams::Streams;
 use words::Refusal;
@@ -16,7 +15,7 @@ struct Heard<R> {
 pub fn call(n: usize, notes: &[u64], bytes: &[u8], streams: &mut Streams) {
     match n {
         0 => try_long_message(bytes, streams),
-        1 => try_fast_packet(bytes, get_u8(notes, notes::SECOND), streams),
+        1 => try_fast_packet(bytes, get_as(notes, notes::SECOND), streams),
         2 => row_back(get(notes, notes::FIRST) as usize, streams),
         _ => {}
     }
@@ -64,7 +63,7 @@ fn long_message(whole: &[u8], storage: &mut [u8], streams: &mut Streams) {
 }
 
 fn not_split(refusal: u8, streams: &mut Streams) {
-    say::number(b"not split, refusal #\n", refusal as u64, streams);
+    say::number(b"not split, refusal #\n", u64::from(refusal), streams);
 }
 
 // How long the message was, how many frames it took, and whether it came back.
@@ -197,11 +196,7 @@ fn read_back(n: usize, id: u32, bytes: [u8; 8], streams: &mut Streams) {
         Err(NotRead::NoSuchRow) => say::text(b"NoSuchRow", streams),
         Ok(field) => {
             say::number(b"#=", field.code, streams);
-            say::word(
-                b"NoData OutOfRange Reserved Number",
-                number_of_class(field.class),
-                streams,
-            );
+            fields::class(field.class, streams);
         }
     }
 }

@@ -15,6 +15,11 @@ pub fn call(n: usize, notes: &[u64], bytes: &[u8], streams: &mut Streams) {
     answer(n, notes, &mut all[..lent], bytes, streams);
 }
 
+// Where the arguments of a call do not fit, what was read of them is answered as `text::put_bytes` would be.
+pub fn unread(notes: &[u64], bytes: &[u8], streams: &mut Streams) {
+    call(3, notes, bytes, streams);
+}
+
 // The answer, and the lent bytes.
 fn answer(n: usize, notes: &[u64], out: &mut [u8], bytes: &[u8], streams: &mut Streams) {
     let end = piece(n, notes, out, bytes);
@@ -36,9 +41,6 @@ fn piece(n: usize, notes: &[u64], out: &mut [u8], bytes: &[u8]) -> usize {
 }
 
 fn width(notes: &[u64], streams: &mut Streams) {
-    say::number(
-        b"#\n",
-        text::decimal_width(get(notes, notes::FIRST)) as u64,
-        streams,
-    );
+    let width = text::decimal_width(get(notes, notes::FIRST));
+    say::number(b"#\n", width as u64, streams);
 }
