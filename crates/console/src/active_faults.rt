@@ -23,20 +23,20 @@ pub fn call(
     packed: &mut [u64],
     streams: &mut Streams,
 ) {
-    if n < 2 {
-        return look(n, notes, packed, streams);
-    }
-    if n < 6 {
-        return by_field(n, notes, bytes, streams);
-    }
-    of_sender(n, notes, bytes, streams);
-}
-
-// The rows of DM_RV.
-fn look(n: usize, notes: &mut [u64], packed: &mut [u64], streams: &mut Streams) {
     match n {
         0 => packed_rows(notes, packed, streams),
-        _ => row_at(notes, streams),
+        1 => row_at(notes, streams),
+        2 => read(notes, bytes, streams),
+        3 => write(notes, bytes, streams),
+        4 => read_service_point(notes, bytes, streams),
+        5 => write_service_point(notes, bytes, streams),
+        6 => start(notes, bytes, streams),
+        7 => add(notes, bytes, streams),
+        8 => clear(notes, streams),
+        9 => step(notes, streams),
+        10 => request(notes, bytes, streams),
+        11 => reply(notes, bytes, streams),
+        _ => {}
     }
 }
 
@@ -49,16 +49,6 @@ fn packed_rows(notes: &mut [u64], packed: &mut [u64], streams: &mut Streams) {
 fn row_at(notes: &mut [u64], streams: &mut Streams) {
     let answer = faults::row_at(get(notes, notes::FIRST) as usize);
     fields::looked(notes, answer, streams);
-}
-
-// The fields of a DM_RV.
-fn by_field(n: usize, notes: &mut [u64], bytes: &mut [u8], streams: &mut Streams) {
-    match n {
-        2 => read(notes, bytes, streams),
-        3 => write(notes, bytes, streams),
-        4 => read_service_point(notes, bytes, streams),
-        _ => write_service_point(notes, bytes, streams),
-    }
 }
 
 fn read(notes: &mut [u64], bytes: &[u8], streams: &mut Streams) {
@@ -98,19 +88,6 @@ fn write_service_point(notes: &mut [u64], bytes: &mut [u8], streams: &mut Stream
     let id: u32 = get_as(notes, notes::FIRST);
     let answer = faults::write_service_point(id, bytes, get_as(notes, notes::THIRD));
     fields::written(notes, bytes, answer, streams);
-}
-
-// The sender.
-fn of_sender(n: usize, notes: &mut [u64], bytes: &[u8], streams: &mut Streams) {
-    match n {
-        6 => start(notes, bytes, streams),
-        7 => add(notes, bytes, streams),
-        8 => clear(notes, streams),
-        9 => step(notes, streams),
-        10 => request(notes, bytes, streams),
-        11 => reply(notes, bytes, streams),
-        _ => {}
-    }
 }
 
 fn start(notes: &mut [u64], bytes: &[u8], streams: &mut Streams) {

@@ -12,12 +12,6 @@ pub fn call(n: usize, notes: &mut [u64], bytes: &[u8], streams: &mut Streams) {
         2 => pause(notes, streams),
         3 => stands(notes, streams),
         4 => our_claim(notes, streams),
-        _ => questions(n, notes, streams),
-    }
-}
-
-fn questions(n: usize, notes: &[u64], streams: &mut Streams) {
-    match n {
         5 => truth(claim(notes).keeps_rules(), streams),
         6 => truth(claim(notes).holds_list(), streams),
         _ => {}

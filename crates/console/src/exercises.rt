@@ -122,6 +122,8 @@ fn fast_packet(whole: &[u8], sequence: u8, storage: &mut [u8], streams: &mut Str
     );
 }
 
+// It stands beside `hear`, for the two receivers and their answers are types of two crates with no trait between them: a
+// trait written here would have the two bodies as its implementations.
 fn hear_fast(
     receiver: fast::Receiver,
     storage: &mut [u8],
@@ -177,7 +179,7 @@ fn code_back(n: usize, row: Row, code: u64, streams: &mut Streams) {
             wrote(writing, streams);
             read_back(n, id, bytes, streams);
             let around = frame::number_of(bytes) | shifted(ones(row.width), row.first);
-            if around != 0xFFFFFFFFFFFFFFFF {
+            if around != u64::MAX {
                 say::text(b" another bit changed", streams);
             }
         }
@@ -203,9 +205,9 @@ fn read_back(n: usize, id: u32, bytes: [u8; 8], streams: &mut Streams) {
 
 fn ones(width: u8) -> u64 {
     if width < 64 {
-        return (1u64 << width) - 1;
+        return !(u64::MAX << width);
     }
-    0xFFFFFFFFFFFFFFFF
+    u64::MAX
 }
 
 fn shifted(code: u64, first: u8) -> u64 {

@@ -15,24 +15,20 @@ pub fn call(
     packed: &mut [u64],
     streams: &mut Streams,
 ) {
-    if n < 4 {
-        return look(n, notes, streams);
-    }
-    if n < 8 {
-        return look_in(n, notes, packed, streams);
-    }
-    if n < 13 {
-        return read_by(n, notes, bytes, streams);
-    }
-    if n < 15 {
-        return write_by(n, notes, bytes, streams);
-    }
-    tell_of(n, notes, streams);
-}
-
-// What is said of a DGN, or of a unit at a width.
-fn tell_of(n: usize, notes: &[u64], streams: &mut Streams) {
     match n {
+        0 => say::number(b"#\n", catalogue::rows() as u64, streams),
+        1 => row_at(notes, streams),
+        2 => row_of(notes, streams),
+        3 => span(catalogue::rows_of(get_as(notes, notes::FIRST)), streams),
+        4 => packed_rows(notes, packed, streams),
+        5..=7 => look_in(n, notes, packed, streams),
+        8 => read(notes, bytes, streams),
+        9 => read_scaled(notes, bytes, streams),
+        10 => classify(notes, streams),
+        11 => read_row(notes, bytes, streams),
+        12 => read_row_scaled(notes, bytes, streams),
+        13 => write(notes, bytes, streams),
+        14 => write_row(notes, bytes, streams),
         15 => claims::truth(
             catalogue::has_instance(get_as(notes, notes::FIRST)),
             streams,
@@ -48,16 +44,6 @@ fn steps_in_one(notes: &[u64], streams: &mut Streams) {
     say::number(b"#\n", u64::from(steps), streams);
 }
 
-// Rows of the catalogue.
-fn look(n: usize, notes: &mut [u64], streams: &mut Streams) {
-    match n {
-        0 => say::number(b"#\n", catalogue::rows() as u64, streams),
-        1 => row_at(notes, streams),
-        2 => row_of(notes, streams),
-        _ => span(catalogue::rows_of(get_as(notes, notes::FIRST)), streams),
-    }
-}
-
 fn row_at(notes: &mut [u64], streams: &mut Streams) {
     let answer = catalogue::row_at(get(notes, notes::FIRST) as usize);
     looked(notes, answer, streams);
@@ -70,20 +56,14 @@ fn row_of(notes: &mut [u64], streams: &mut Streams) {
 }
 
 // Rows of the lent table.
-fn look_in(n: usize, notes: &mut [u64], packed: &mut [u64], streams: &mut Streams) {
-    if n == 4 {
-        return packed_rows(notes, packed, streams);
-    }
+fn look_in(n: usize, notes: &mut [u64], packed: &[u64], streams: &mut Streams) {
     let count = bounded(get(notes, notes::PACKED) as usize, packed);
-    look_in_these(n, notes, &packed[..count], streams);
-}
-
-fn look_in_these(n: usize, notes: &mut [u64], packed: &[u64], streams: &mut Streams) {
+    let lent = &packed[..count];
     match n {
-        5 => row_in(notes, packed, streams),
-        6 => row_of_in(notes, packed, streams),
+        5 => row_in(notes, lent, streams),
+        6 => row_of_in(notes, lent, streams),
         _ => span(
-            catalogue::rows_in(packed, get_as(notes, notes::FIRST)),
+            catalogue::rows_in(lent, get_as(notes, notes::FIRST)),
             streams,
         ),
     }
@@ -141,17 +121,6 @@ fn span(span: Span, streams: &mut Streams) {
         0,
         streams,
     );
-}
-
-// Fields, by the number of their row or by the console's row.
-fn read_by(n: usize, notes: &mut [u64], bytes: &[u8], streams: &mut Streams) {
-    match n {
-        8 => read(notes, bytes, streams),
-        9 => read_scaled(notes, bytes, streams),
-        10 => classify(notes, streams),
-        11 => read_row(notes, bytes, streams),
-        _ => read_row_scaled(notes, bytes, streams),
-    }
 }
 
 fn classify(notes: &[u64], streams: &mut Streams) {
@@ -258,14 +227,6 @@ pub fn typed_value(notes: &[u64], slot: usize) -> Value {
         3 => Value::Scaled(number),
         // Below zero one less than the size is noted.
         _ => Value::Scaled((-1i64).wrapping_sub(number)),
-    }
-}
-
-fn write_by(n: usize, notes: &mut [u64], bytes: &mut [u8], streams: &mut Streams) {
-    match n {
-        13 => write(notes, bytes, streams),
-        14 => write_row(notes, bytes, streams),
-        _ => {}
     }
 }
 

@@ -13,12 +13,6 @@ pub fn call(n: usize, notes: &mut [u64], bytes: &[u8], streams: &mut Streams) {
         3 => destination_of(notes, streams),
         4 => dgn(frame::catalogue_form(get_as(notes, notes::FIRST)), streams),
         5 => number_of(bytes, streams),
-        _ => bytes_and_numbers(n, notes, streams),
-    }
-}
-
-fn bytes_and_numbers(n: usize, notes: &mut [u64], streams: &mut Streams) {
-    match n {
         6 => bytes_of(notes, streams),
         7 => dgn_bytes(notes, streams),
         8 => dgn_of(notes, streams),

@@ -138,7 +138,7 @@ fn heed(notes: &mut [u64], desk: &mut Desk, streams: &mut Streams) {
     };
     let well = calls::reads(notes, call, streams);
     let mut data = notes::typed(notes);
-    let count = notes::typed_count(notes, &data);
+    let count = bounded(get(notes, notes::BYTES) as usize, &data);
     let bytes = &mut data[..count];
     if well {
         answer(notes, bytes, desk, call, streams);

@@ -230,19 +230,13 @@ pub fn bounded<T>(count: usize, list: &[T]) -> usize
     count.min(list.len())
 }
 
-// The bytes that were typed, and how many they are.
+// The bytes that were typed, and zeros behind them.
 pub fn typed(notes: &[u64]) -> [u8; MOST_BYTES] {
     let mut bytes = [0u8; MOST_BYTES];
     for (i, byte) in bytes.iter_mut().enumerate() {
         *byte = field_as(notes, DATA, i);
     }
     bytes
-}
-
-pub fn typed_count(notes: &[u64], bytes: &[u8]) -> usize
-    ensures { (result ≤ length bytes.now) × (result ≡ length (take result bytes.now)) }
-{
-    bounded(get(notes, BYTES) as usize, bytes)
 }
 
 // A field of a record that begins at `at`; 0 for a field that there is not.
