@@ -2,14 +2,16 @@
 // host, and lent table of packed rows.
 use crate::claims::claim;
 use crate::commands::host;
-use crate::notes::{field_u8, field_u16, get, get_u16, get_u32, put, put_all, record};
-use streams::Streams;
+use crate::notes::{field_as, get, get_as, put, put_all, record};
 use crate::{commands, fields, frames, notes, say, state};
+use catalogue::NotRead;
 use faults::{
-    Adding, Clearing, Fault, PLACES, Replied, Requested, Requesting, Sender, ServicePoint, Stepping,
+    Fault, NotAdded, NotCleared, NotHeard, NotStepped, PLACES, Replied, Requested, Requesting,
+    Response, Sender, ServicePoint,
 };
 use frame::standard;
-use std::num::wrapping_add_usize;
+use streams::Streams;
+use words::Refusal;
 
 // The notes of a place: eight bytes, period, until_due, age.
 pub const FIELDS: usize = 11;
@@ -21,20 +23,20 @@ pub fn call(
     packed: &mut [u64],
     streams: &mut Streams,
 ) {
-    if n < 2 {
-        return look(n, notes, packed, streams);
-    }
-    if n < 6 {
-        return by_field(n, notes, bytes, streams);
-    }
-    of_sender(n, notes, bytes, streams);
-}
-
-// The rows of DM_RV.
-fn look(n: usize, notes: &mut [u64], packed: &mut [u64], streams: &mut Streams) {
     match n {
         0 => packed_rows(notes, packed, streams),
-        _ => row_at(notes, streams),
+        1 => row_at(notes, streams),
+        2 => read(notes, bytes, streams),
+        3 => write(notes, bytes, streams),
+        4 => read_service_point(notes, bytes, streams),
+        5 => write_service_point(notes, bytes, streams),
+        6 => start(notes, bytes, streams),
+        7 => add(notes, bytes, streams),
+        8 => clear(notes, streams),
+        9 => step(notes, streams),
+        10 => request(notes, bytes, streams),
+        11 => reply(notes, bytes, streams),
+        _ => {}
     }
 }
 
@@ -49,32 +51,22 @@ fn row_at(notes: &mut [u64], streams: &mut Streams) {
     fields::looked(notes, answer, streams);
 }
 
-// The fields of a DM_RV.
-fn by_field(n: usize, notes: &mut [u64], bytes: &mut [u8], streams: &mut Streams) {
-    match n {
-        2 => read(notes, bytes, streams),
-        3 => write(notes, bytes, streams),
-        4 => read_service_point(notes, bytes, streams),
-        _ => write_service_point(notes, bytes, streams),
-    }
-}
-
 fn read(notes: &mut [u64], bytes: &[u8], streams: &mut Streams) {
     let row = get(notes, notes::FIRST) as usize;
-    let answer = faults::read(row, get_u32(notes, notes::SECOND), bytes);
+    let answer = faults::read(row, get_as(notes, notes::SECOND), bytes);
     fields::reading(notes, answer, streams);
 }
 
 fn write(notes: &mut [u64], bytes: &mut [u8], streams: &mut Streams) {
     let row = get(notes, notes::FIRST) as usize;
-    let id = get_u32(notes, notes::SECOND);
+    let id: u32 = get_as(notes, notes::SECOND);
     let value = fields::typed_value(notes, notes::FOURTH);
     let answer = faults::write(row, id, bytes, value);
     fields::written(notes, bytes, answer, streams);
 }
 
 fn read_service_point(notes: &mut [u64], bytes: &[u8], streams: &mut Streams) {
-    let answer = faults::read_service_point(get_u32(notes, notes::FIRST), bytes);
+    let answer = faults::read_service_point(get_as(notes, notes::FIRST), bytes);
     tell_service_point(notes, answer, streams);
     say::end(
         notes,
@@ -86,29 +78,16 @@ fn read_service_point(notes: &mut [u64], bytes: &[u8], streams: &mut Streams) {
 
 fn tell_service_point(notes: &mut [u64], answer: ServicePoint, streams: &mut Streams) {
     match answer {
-        ServicePoint::Is(number) => say::number(b"Is #", number as u64, streams),
-        ServicePoint::BadFrame(why) => frames::bad_frame(notes, why, streams),
-        ServicePoint::NoSuchRow => say::text(b"NoSuchRow", streams),
+        Ok(number) => say::number(b"Is #", u64::from(number), streams),
+        Err(NotRead::BadFrame(why)) => frames::bad_frame(notes, why, streams),
+        Err(NotRead::NoSuchRow) => say::text(b"NoSuchRow", streams),
     }
 }
 
 fn write_service_point(notes: &mut [u64], bytes: &mut [u8], streams: &mut Streams) {
-    let id = get_u32(notes, notes::FIRST);
-    let answer = faults::write_service_point(id, bytes, get_u32(notes, notes::THIRD));
+    let id: u32 = get_as(notes, notes::FIRST);
+    let answer = faults::write_service_point(id, bytes, get_as(notes, notes::THIRD));
     fields::written(notes, bytes, answer, streams);
-}
-
-// The sender.
-fn of_sender(n: usize, notes: &mut [u64], bytes: &[u8], streams: &mut Streams) {
-    match n {
-        6 => start(notes, bytes, streams),
-        7 => add(notes, bytes, streams),
-        8 => clear(notes, streams),
-        9 => step(notes, streams),
-        10 => request(notes, bytes, streams),
-        11 => reply(notes, bytes, streams),
-        _ => {}
-    }
 }
 
 fn start(notes: &mut [u64], bytes: &[u8], streams: &mut Streams) {
@@ -119,18 +98,16 @@ fn start(notes: &mut [u64], bytes: &[u8], streams: &mut Streams) {
 
 // `faults::Sender::add BYTES PERIOD`
 fn add(notes: &mut [u64], bytes: &[u8], streams: &mut Streams) {
-    let before = sender(notes);
-    let period = get_u16(notes, notes::SECOND);
-    let added = before.add(frames::first_eight(bytes), period);
+    let period: u16 = get_as(notes, notes::SECOND);
+    let added = sender(notes).add(frames::first_eight(bytes), period);
     keep(notes, added.sender);
-    let answer = added.answer;
-    match answer {
-        Adding::Added(place) => say::number(b"Added #", place as u64, streams),
-        Adding::BrokenState => say::text(b"BrokenState", streams),
-        Adding::NoPlace => say::text(b"NoPlace", streams),
-        Adding::PeriodNotAllowed => say::text(b"PeriodNotAllowed", streams),
+    match added.answer {
+        Ok(place) => say::number(b"Added #", place as u64, streams),
+        Err(NotAdded::BrokenState) => say::text(b"BrokenState", streams),
+        Err(NotAdded::NoPlace) => say::text(b"NoPlace", streams),
+        Err(NotAdded::PeriodNotAllowed) => say::text(b"PeriodNotAllowed", streams),
     }
-    end(notes, notes::FAULTS_ADDING, answer.refusal(), streams);
+    end(notes, notes::FAULTS_ADDING, added.answer.refusal(), streams);
 }
 
 // The end of an answer, and the sender.
@@ -140,42 +117,42 @@ fn end(notes: &mut [u64], kind: usize, refusal: u8, streams: &mut Streams) {
 }
 
 fn clear(notes: &mut [u64], streams: &mut Streams) {
-    let before = sender(notes);
-    let cleared = before.clear(get(notes, notes::FIRST) as usize);
+    let cleared = sender(notes).clear(get(notes, notes::FIRST) as usize);
     keep(notes, cleared.sender);
-    let answer = cleared.answer;
-    match answer {
-        Clearing::Cleared => say::text(b"Cleared", streams),
-        Clearing::BrokenState => say::text(b"BrokenState", streams),
-        Clearing::NoSuchFault => say::text(b"NoSuchFault", streams),
+    match cleared.answer {
+        Ok(()) => say::text(b"Cleared", streams),
+        Err(NotCleared::BrokenState) => say::text(b"BrokenState", streams),
+        Err(NotCleared::NoSuchFault) => say::text(b"NoSuchFault", streams),
     }
-    end(notes, notes::FAULTS_CLEARING, answer.refusal(), streams);
+    end(
+        notes,
+        notes::FAULTS_CLEARING,
+        cleared.answer.refusal(),
+        streams,
+    );
 }
 
 fn step(notes: &mut [u64], streams: &mut Streams) {
-    let before = sender(notes);
-    let stepped = before.step(claim(notes));
+    let stepped = sender(notes).step(claim(notes));
     keep(notes, stepped.sender);
-    let answer = stepped.answer;
-    let eight = stepped.bytes;
-    stepped_so(notes, answer, stepped.id, eight, streams);
-}
-
-fn stepped_so(notes: &mut [u64], answer: Stepping, id: u32, bytes: [u8; 8], streams: &mut Streams) {
-    match answer {
-        Stepping::Send(place) => say::number(b"Send #", place as u64, streams),
-        Stepping::NothingDue => say::text(b"NothingDue", streams),
-        Stepping::BrokenState => say::text(b"BrokenState", streams),
-        Stepping::ListMalformed => say::text(b"ListMalformed", streams),
-        Stepping::NoAddressHeld => say::text(b"NoAddressHeld", streams),
+    match stepped.answer {
+        Ok(Some(place)) => say::number(b"Send #", place as u64, streams),
+        Ok(None) => say::text(b"NothingDue", streams),
+        Err(NotStepped::BrokenState) => say::text(b"BrokenState", streams),
+        Err(NotStepped::ListMalformed) => say::text(b"ListMalformed", streams),
+        Err(NotStepped::NoAddressHeld) => say::text(b"NoAddressHeld", streams),
     }
-    say::frame(notes, id, bytes, streams);
-    end(notes, notes::FAULTS_STEPPING, answer.refusal(), streams);
+    say::frame(notes, stepped.id, stepped.bytes, streams);
+    end(
+        notes,
+        notes::FAULTS_STEPPING,
+        stepped.answer.refusal(),
+        streams,
+    );
 }
 
 fn request(notes: &mut [u64], bytes: &[u8], streams: &mut Streams) {
-    let before = sender(notes);
-    let asked = before.request(claim(notes), get_u32(notes, notes::FIRST), bytes);
+    let asked = sender(notes).request(claim(notes), get_as(notes, notes::FIRST), bytes);
     requested(notes, asked, streams);
     show(notes, streams);
 }
@@ -183,50 +160,32 @@ fn request(notes: &mut [u64], bytes: &[u8], streams: &mut Streams) {
 // What the sender makes of a request.
 fn requested(notes: &mut [u64], requested: Requested, streams: &mut Streams) {
     keep(notes, requested.sender);
-    let answer = requested.answer;
-    let eight = requested.bytes;
-    requested_so(notes, answer, requested.id, eight, streams);
-}
-
-fn requested_so(
-    notes: &mut [u64],
-    answer: Requesting,
-    id: u32,
-    bytes: [u8; 8],
-    streams: &mut Streams,
-) {
-    tell_requesting(notes, answer, streams);
-    say::frame(notes, id, bytes, streams);
-    say::end(notes, notes::FAULTS_REQUESTING, answer.refusal(), streams);
+    tell_requesting(notes, requested.answer, streams);
+    say::frame(notes, requested.id, requested.bytes, streams);
+    say::end(
+        notes,
+        notes::FAULTS_REQUESTING,
+        requested.answer.refusal(),
+        streams,
+    );
 }
 
 fn tell_requesting(notes: &mut [u64], answer: Requesting, streams: &mut Streams) {
     match answer {
-        Requesting::BadFrame(why) => frames::bad_frame(notes, why, streams),
-        _ => say::word(
-            b"NothingToDo Send BrokenState ListMalformed DgnTooLarge NoAddressHeld",
-            number_of_requesting(answer),
-            streams,
-        ),
-    }
-}
-
-fn number_of_requesting(answer: Requesting) -> usize {
-    match answer {
-        Requesting::NothingToDo => 0,
-        Requesting::Send => 1,
-        Requesting::BrokenState => 2,
-        Requesting::ListMalformed => 3,
-        Requesting::DgnTooLarge => 4,
-        _ => 5,
+        Ok(Response::NothingToDo) => say::text(b"NothingToDo", streams),
+        Ok(Response::Send) => say::text(b"Send", streams),
+        Err(NotHeard::BrokenState) => say::text(b"BrokenState", streams),
+        Err(NotHeard::BadFrame(why)) => frames::bad_frame(notes, why, streams),
+        Err(NotHeard::ListMalformed) => say::text(b"ListMalformed", streams),
+        Err(NotHeard::DgnTooLarge) => say::text(b"DgnTooLarge", streams),
+        Err(NotHeard::NoAddressHeld) => say::text(b"NoAddressHeld", streams),
     }
 }
 
 // What the sender makes of a frame, and what the host makes of it.
 fn reply(notes: &mut [u64], bytes: &[u8], streams: &mut Streams) {
-    let before = sender(notes);
-    let id = get_u32(notes, notes::FIRST);
-    let replied = before.reply(host(notes), claim(notes), id, bytes);
+    let id: u32 = get_as(notes, notes::FIRST);
+    let replied = sender(notes).reply(host(notes), claim(notes), id, bytes);
     replied_so(notes, replied, streams);
     show(notes, streams);
 }
@@ -237,8 +196,7 @@ fn replied_so(notes: &mut [u64], replied: Replied, streams: &mut Streams) {
     requested(notes, ours, streams);
     say::text(b"host=", streams);
     commands::requested(notes, replied.host, streams);
-    let eight = ours.bytes;
-    sent_first(notes, ours.id, eight);
+    sent_first(notes, ours.id, ours.bytes);
 }
 
 // Where the sender gave a frame, `that` is its bytes, and not those that stand beside what the host says.
@@ -258,10 +216,8 @@ fn sender(notes: &[u64]) -> Sender {
 
 fn places(notes: &[u64]) -> [Fault; PLACES] {
     let mut places = [place(notes, notes::FAULTS); PLACES];
-    let mut i: usize = 0;
-    while i < PLACES {
-        places[i] = place(notes, record(notes::FAULTS, FIELDS, i));
-        i += 1;
+    for (i, kept) in places.iter_mut().enumerate() {
+        *kept = place(notes, record(notes::FAULTS, FIELDS, i));
     }
     places
 }
@@ -269,80 +225,59 @@ fn places(notes: &[u64]) -> [Fault; PLACES] {
 fn place(notes: &[u64], at: usize) -> Fault {
     Fault {
         bytes: eight(notes, at),
-        period: field_u16(notes, at, 8),
-        until_due: field_u16(notes, at, 9),
-        age: field_u8(notes, at, 10),
+        period: field_as(notes, at, 8),
+        until_due: field_as(notes, at, 9),
+        age: field_as(notes, at, 10),
     }
 }
 
 // Eight bytes that are noted from a place on.
 fn eight(notes: &[u64], at: usize) -> [u8; 8] {
-    [
-        field_u8(notes, at, 0),
-        field_u8(notes, at, 1),
-        field_u8(notes, at, 2),
-        field_u8(notes, at, 3),
-        field_u8(notes, at, 4),
-        field_u8(notes, at, 5),
-        field_u8(notes, at, 6),
-        field_u8(notes, at, 7),
-    ]
+    let mut eight = [0u8; 8];
+    for (i, byte) in eight.iter_mut().enumerate() {
+        *byte = field_as(notes, at, i);
+    }
+    eight
 }
 
 // Notes the sender.
 fn keep(notes: &mut [u64], sender: Sender) {
-    let places = sender.faults;
-    keep_places(notes, places);
-    let no_fault = sender.no_fault;
-    keep_eight(notes, notes::NO_FAULT, no_fault);
-}
-
-fn keep_places(notes: &mut [u64], places: [Fault; PLACES]) {
-    let mut i: usize = 0;
-    while i < PLACES {
-        keep_place(notes, record(notes::FAULTS, FIELDS, i), places[i]);
-        i += 1;
+    for (i, place) in sender.faults.iter().enumerate() {
+        keep_place(notes, record(notes::FAULTS, FIELDS, i), *place);
     }
+    keep_eight(notes, notes::NO_FAULT, sender.no_fault);
 }
 
 fn keep_place(notes: &mut [u64], at: usize, place: Fault) {
-    let bytes = place.bytes;
-    keep_eight(notes, at, bytes);
+    keep_eight(notes, at, place.bytes);
     let times = [
-        place.period as u64,
-        place.until_due as u64,
-        place.age as u64,
+        u64::from(place.period),
+        u64::from(place.until_due),
+        u64::from(place.age),
     ];
-    put_all(notes, wrapping_add_usize(at, 8), &times);
+    put_all(notes, at.wrapping_add(8), &times);
 }
 
 fn keep_eight(notes: &mut [u64], at: usize, bytes: [u8; 8]) {
-    let numbers = [
-        bytes[0] as u64,
-        bytes[1] as u64,
-        bytes[2] as u64,
-        bytes[3] as u64,
-        bytes[4] as u64,
-        bytes[5] as u64,
-        bytes[6] as u64,
-        bytes[7] as u64,
-    ];
-    put_all(notes, at, &numbers);
+    for (i, byte) in bytes.iter().enumerate() {
+        put(notes, at.wrapping_add(i), u64::from(*byte));
+    }
 }
 
 // The places that are not all zeros, and the bytes of no fault.
 pub fn show(notes: &[u64], streams: &mut Streams) {
     show_places(notes, streams);
-    let no_fault = eight(notes, notes::NO_FAULT);
-    say::bytes(b"  faults.no_fault=", &no_fault, streams);
+    say::bytes(
+        b"  faults.no_fault=",
+        &eight(notes, notes::NO_FAULT),
+        streams,
+    );
     say::text(b"\n", streams);
 }
 
 fn show_places(notes: &[u64], streams: &mut Streams) {
-    let mut i: usize = 0;
-    while i < PLACES {
+    for i in 0..PLACES {
         show_place(notes, i, streams);
-        i += 1;
     }
 }
 
@@ -362,12 +297,11 @@ fn show_place(notes: &[u64], position: usize, streams: &mut Streams) {
 }
 
 fn show_fields(notes: &[u64], at: usize, streams: &mut Streams) {
-    let bytes = eight(notes, at);
-    say::bytes(b"", &bytes, streams);
+    say::bytes(b"", &eight(notes, at), streams);
     say::form(
         b" period=# until_due=# age=#\n",
         notes,
-        wrapping_add_usize(at, 8),
+        at.wrapping_add(8),
         streams,
     );
 }

@@ -1,19 +1,26 @@
 // Every call of the library, part by part, with the shapes of its arguments; and the methods that number a refusal.
-use streams::Streams;
 use crate::{arguments, notes, say, typing};
-use std::num::wrapping_add_usize;
+use streams::Streams;
+
+// A call: its part of the library, and its number in it, both counted from 0. They are numbers and no enum, since they
+// are the places of its name and of its shape in the lists below.
+#[derive(Clone, Copy)]
+pub struct Call {
+    pub part: usize,
+    pub n: usize,
+}
 
 // The parts, in the order of the lists below.
-pub fn part(notes: &[u64]) -> usize {
+fn part(notes: &[u64]) -> Option<usize> {
     typing::part(
         notes,
         b"frame message fast catalogue claim nodes command faults capture exercise text",
     )
 }
 
-// Which call of a part the line asks for, counted from 0, or `typing::NONE`. Its arguments are read and noted; where
-// they do not fit, that is said, and there is nothing more to answer.
-pub fn asked(notes: &mut [u64], part: usize, streams: &mut Streams) -> usize {
+// Which call the line asks for.
+pub fn asked(notes: &[u64]) -> Option<Call> {
+    let part = part(notes)?;
     let n = typing::find(
         notes,
         b"take_apart form check destination_of catalogue_form number_of bytes_of dgn_bytes dgn_of |\
@@ -31,9 +38,13 @@ pub fn asked(notes: &mut [u64], part: usize, streams: &mut Streams) -> usize {
           long_message fast_packet row |\
           put put_decimal put_hex put_bytes decimal_width |",
         part,
-    );
-    arguments::called(
-        notes,
+    )?;
+    Some(Call { part, n })
+}
+
+// Reads and notes the arguments of a call. Where one does not fit, that is said, and the answer is no.
+pub fn reads(notes: &mut [u64], call: Call, streams: &mut Streams) -> bool {
+    let shapes = typing::nth_list(
         b"4 141 4b 4 4 e 8 4 111 |\
           . 4b 2 . b4 b44 |\
           l 4b 2 . b14 |\
@@ -45,15 +56,14 @@ pub fn asked(notes: &mut [u64], part: usize, streams: &mut Streams) -> usize {
           b 24e . b8 . |\
           b b1 8 |\
           88b 88b8 88b88 88b 8 |",
-        part,
-        n,
-        streams,
-    )
+        call.part,
+    );
+    arguments::called(notes, shapes, call.n, streams)
 }
 
 // The number of the last answer of a type. The notes of the types stand in this order.
 pub fn refusals(notes: &[u64], streams: &mut Streams) {
-    let n = typing::asked(
+    let kind = typing::asked(
         notes,
         b"frame::Apart::refusal frame::Formed::refusal frame::BadFrame::refusal frame::Verdict::refusal \
           message::Answer::refusal message::Pausing::refusal message::Unsplittable::refusal \
@@ -71,15 +81,10 @@ pub fn refusals(notes: &[u64], streams: &mut Streams) {
           faults::Stepping::refusal faults::Requesting::refusal \
           capture::Reading::refusal",
     );
-    if n == typing::NONE {
+    let Some(kind) = kind else {
         return say::unknown(streams);
-    }
+    };
     if typing::ends_here(notes, 1, streams) {
-        say::form(
-            b"#\n",
-            notes,
-            wrapping_add_usize(notes::REFUSALS, n),
-            streams,
-        );
+        say::form(b"#\n", notes, notes::REFUSALS.wrapping_add(kind), streams);
     }
 }

@@ -1,9 +1,8 @@
 // The words of crate `claim`: one claim.
-use crate::notes::{field, field_u8, field_u16, get, get_u16, get_u32, put, put_all};
-use streams::Streams;
+use crate::notes::{field, field_as, get, get_as, put, put_all};
 use crate::{frames, notes, say};
 use claim::{BadState, CANDIDATES, Claim, Hearing, NotHeard, Place, Reaction};
-use std::num::wrapping_add_usize;
+use streams::Streams;
 use words::Refusal;
 
 pub fn call(n: usize, notes: &mut [u64], bytes: &[u8], streams: &mut Streams) {
@@ -13,34 +12,30 @@ pub fn call(n: usize, notes: &mut [u64], bytes: &[u8], streams: &mut Streams) {
         2 => pause(notes, streams),
         3 => stands(notes, streams),
         4 => our_claim(notes, streams),
-        _ => questions(n, notes, streams),
-    }
-}
-
-fn questions(n: usize, notes: &[u64], streams: &mut Streams) {
-    let claim = claim(notes);
-    match n {
-        5 => truth(claim.keeps_rules(), streams),
-        6 => truth(claim.holds_list(), streams),
+        5 => truth(claim(notes).keeps_rules(), streams),
+        6 => truth(claim(notes).holds_list(), streams),
         _ => {}
     }
 }
 
 pub fn truth(answer: bool, streams: &mut Streams) {
-    say::number(b"?\n", answer as u64, streams);
+    say::number(b"?\n", u64::from(answer), streams);
 }
 
 fn start(notes: &mut [u64], bytes: &[u8], streams: &mut Streams) {
     let started = Claim::start(get(notes, notes::FIRST), bytes);
     keep(notes, started.claim);
-    let answer = started.answer;
-    match answer {
+    match started.answer {
         Ok(()) => say::text(b"SendClaim", streams),
         Err(_) => say::text(b"ListMalformed", streams),
     }
-    let eight = started.bytes;
-    say::frame(notes, started.id, eight, streams);
-    end(notes, notes::CLAIM_STARTING, answer.refusal(), streams);
+    say::frame(notes, started.id, started.bytes, streams);
+    end(
+        notes,
+        notes::CLAIM_STARTING,
+        started.answer.refusal(),
+        streams,
+    );
 }
 
 // The end of an answer, and the claim.
@@ -50,61 +45,46 @@ fn end(notes: &mut [u64], kind: usize, refusal: u8, streams: &mut Streams) {
 }
 
 fn hear(notes: &mut [u64], bytes: &[u8], streams: &mut Streams) {
-    let before = claim(notes);
-    let heard = before.hear(get_u32(notes, notes::FIRST), bytes);
+    let heard = claim(notes).hear(get_as(notes, notes::FIRST), bytes);
     keep(notes, heard.claim);
-    let answer = heard.answer;
-    let eight = heard.bytes;
-    heard_so(notes, answer, heard.id, eight, streams);
-}
-
-fn heard_so(notes: &mut [u64], answer: Hearing, id: u32, bytes: [u8; 8], streams: &mut Streams) {
-    tell(notes, answer, streams);
-    say::frame(notes, id, bytes, streams);
-    end(notes, notes::CLAIM_HEARING, answer.refusal(), streams);
+    tell(notes, heard.answer, streams);
+    say::frame(notes, heard.id, heard.bytes, streams);
+    end(notes, notes::CLAIM_HEARING, heard.answer.refusal(), streams);
 }
 
 fn tell(notes: &mut [u64], answer: Hearing, streams: &mut Streams) {
     match answer {
+        Ok(Reaction::NothingToDo) => say::text(b"NothingToDo", streams),
+        Ok(Reaction::OwnName) => say::text(b"OwnName", streams),
+        Ok(Reaction::SendClaimAgain) => say::text(b"SendClaimAgain", streams),
+        Ok(Reaction::SendNextClaim) => say::text(b"SendNextClaim", streams),
+        Ok(Reaction::SendCannotClaim) => say::text(b"SendCannotClaim", streams),
+        Err(NotHeard::BrokenState) => say::text(b"BrokenState", streams),
         Err(NotHeard::BadFrame(why)) => frames::bad_frame(notes, why, streams),
-        _ => say::word(
-            b"NothingToDo OwnName SendClaimAgain SendNextClaim SendCannotClaim BrokenState ListMalformed",
-            number(answer),
-            streams,
-        ),
-    }
-}
-
-fn number(answer: Hearing) -> usize {
-    match answer {
-        Ok(Reaction::NothingToDo) => 0,
-        Ok(Reaction::OwnName) => 1,
-        Ok(Reaction::SendClaimAgain) => 2,
-        Ok(Reaction::SendNextClaim) => 3,
-        Ok(Reaction::SendCannotClaim) => 4,
-        Err(NotHeard::BrokenState) => 5,
-        _ => 6,
+        Err(NotHeard::ListMalformed) => say::text(b"ListMalformed", streams),
     }
 }
 
 fn pause(notes: &mut [u64], streams: &mut Streams) {
-    let before = claim(notes);
-    let paused = before.pause(get_u16(notes, notes::FIRST));
+    let paused = claim(notes).pause(get_as(notes, notes::FIRST));
     keep(notes, paused.claim);
-    let answer = paused.answer;
-    match answer {
+    match paused.answer {
         Ok(()) => say::text(b"Waited", streams),
         Err(why) => bad_state(why, streams),
     }
-    end(notes, notes::CLAIM_PAUSING, answer.refusal(), streams);
+    end(
+        notes,
+        notes::CLAIM_PAUSING,
+        paused.answer.refusal(),
+        streams,
+    );
 }
 
 fn stands(notes: &mut [u64], streams: &mut Streams) {
-    let claim = claim(notes);
-    let answer = claim.stands();
+    let answer = claim(notes).stands();
     match answer {
-        Ok(Place::Held(address)) => say::number(b"Held %", address as u64, streams),
-        Ok(Place::Claiming(address)) => say::number(b"Claiming %", address as u64, streams),
+        Ok(Place::Held(address)) => say::number(b"Held %", u64::from(address), streams),
+        Ok(Place::Claiming(address)) => say::number(b"Claiming %", u64::from(address), streams),
         Ok(Place::Silent) => say::text(b"Silent", streams),
         Err(why) => bad_state(why, streams),
     }
@@ -112,16 +92,13 @@ fn stands(notes: &mut [u64], streams: &mut Streams) {
 }
 
 fn our_claim(notes: &mut [u64], streams: &mut Streams) {
-    let claim = claim(notes);
-    let ours = claim.our_claim();
-    let answer = ours.answer;
-    match answer {
+    let ours = claim(notes).our_claim();
+    match ours.answer {
         Ok(()) => say::text(b"Frame", streams),
         Err(why) => bad_state(why, streams),
     }
-    let eight = ours.bytes;
-    say::frame(notes, ours.id, eight, streams);
-    say::end(notes, notes::CLAIM_SENDING, answer.refusal(), streams);
+    say::frame(notes, ours.id, ours.bytes, streams);
+    say::end(notes, notes::CLAIM_SENDING, ours.answer.refusal(), streams);
 }
 
 // Why a claim is refused that is handed in with no frame.
@@ -139,7 +116,7 @@ pub fn claim(notes: &[u64]) -> Claim {
         list: list(notes),
         candidates: field(notes, notes::CLAIM, 1) as usize,
         position: field(notes, notes::CLAIM, 2) as usize,
-        wait: field_u16(notes, notes::CLAIM, 3),
+        wait: field_as(notes, notes::CLAIM, 3),
         silent: field(notes, notes::CLAIM, 4) != 0,
         losses: field(notes, notes::CLAIM, 5) as usize,
     }
@@ -148,7 +125,7 @@ pub fn claim(notes: &[u64]) -> Claim {
 fn list(notes: &[u64]) -> [u8; CANDIDATES] {
     let mut list = [0u8; CANDIDATES];
     for (i, address) in list.iter_mut().enumerate() {
-        *address = field_u8(notes, notes::CLAIM_LIST, i);
+        *address = field_as(notes, notes::CLAIM_LIST, i);
     }
     list
 }
@@ -159,29 +136,23 @@ fn keep(notes: &mut [u64], claim: Claim) {
         claim.name,
         claim.candidates as u64,
         claim.position as u64,
-        claim.wait as u64,
-        claim.silent as u64,
+        u64::from(claim.wait),
+        u64::from(claim.silent),
         claim.losses as u64,
     ];
     put_all(notes, notes::CLAIM, &fields);
-    let list = claim.list;
-    keep_list(notes, list);
-}
-
-fn keep_list(notes: &mut [u64], list: [u8; CANDIDATES]) {
-    for (i, address) in list.iter().enumerate() {
+    for (i, address) in claim.list.iter().enumerate() {
         put(
             notes,
-            wrapping_add_usize(notes::CLAIM_LIST, i),
-            *address as u64,
+            notes::CLAIM_LIST.wrapping_add(i),
+            u64::from(*address),
         );
     }
 }
 
 pub fn show(notes: &[u64], streams: &mut Streams) {
     say::form(b"  claim.name=@", notes, notes::CLAIM, streams);
-    let list = list(notes);
-    say::bytes(b" claim.list=", &list, streams);
+    say::bytes(b" claim.list=", &list(notes), streams);
     say::form(
         b" candidates=# position=# wait=# silent=? losses=#\n",
         notes,

@@ -1,12 +1,13 @@
 // The words of crate `command`: a list of entries to start a host from, and one host. They use the console's claim.
 use crate::claims::claim;
-use crate::notes::{field, field_u8, field_u32, get, get_u8, get_u32, put, put_all, record};
-use streams::Streams;
+use crate::notes::{field, field_as, get, get_as, put, put_all, record};
 use crate::{frames, notes, say, state};
 use command::{
-    Acknowledging, Acknowledgment, ENTRIES, Edition, Entry, Host, Positions, Requested, Requesting,
-    Routing, Starting,
+    Acknowledging, Acknowledgment, Choice, ENTRIES, Edition, Entry, Host, NotAcknowledged,
+    NotAnswered, NotRouted, Positions, Requested, Requesting, Response, Routing,
 };
+use streams::Streams;
+use words::Refusal;
 
 pub fn call(n: usize, notes: &mut [u64], bytes: &[u8], streams: &mut Streams) {
     match n {
@@ -24,140 +25,114 @@ fn start(notes: &mut [u64], streams: &mut Streams) {
     let edition = edition_of(get(notes, notes::SECOND));
     let started = Host::start(entries(notes, notes::ENTRIES), count, edition);
     keep(notes, started.host);
-    let answer = started.answer;
-    match answer {
-        Starting::Hosted => say::text(b"Hosted", streams),
-        Starting::ListMalformed => say::text(b"ListMalformed", streams),
+    match started.answer {
+        Ok(()) => say::text(b"Hosted", streams),
+        Err(_) => say::text(b"ListMalformed", streams),
     }
-    say::end(notes, notes::COMMAND_STARTING, answer.refusal(), streams);
+    say::end(
+        notes,
+        notes::COMMAND_STARTING,
+        started.answer.refusal(),
+        streams,
+    );
     show_host(notes, streams);
 }
 
 fn route(notes: &mut [u64], bytes: &[u8], streams: &mut Streams) {
-    let host = host(notes);
-    let routed = host.route(claim(notes), get_u32(notes, notes::FIRST), bytes);
-    let answer = routed.answer;
-    tell_routing(notes, answer, streams);
+    let routed = host(notes).route(claim(notes), get_as(notes, notes::FIRST), bytes);
+    tell_routing(notes, routed.answer, streams);
     show_positions(routed.positions, streams);
-    say::end(notes, notes::COMMAND_ROUTING, answer.refusal(), streams);
+    say::end(
+        notes,
+        notes::COMMAND_ROUTING,
+        routed.answer.refusal(),
+        streams,
+    );
 }
 
 fn tell_routing(notes: &mut [u64], answer: Routing, streams: &mut Streams) {
     match answer {
-        Routing::BadFrame(why) => frames::bad_frame(notes, why, streams),
-        _ => say::word(
-            b"NothingToDo Picked BrokenState ListMalformed NoAddressHeld",
-            number_of_routing(answer),
-            streams,
-        ),
-    }
-}
-
-fn number_of_routing(answer: Routing) -> usize {
-    match answer {
-        Routing::NothingToDo => 0,
-        Routing::Picked => 1,
-        Routing::BrokenState => 2,
-        Routing::ListMalformed => 3,
-        _ => 4,
+        Ok(Choice::NothingToDo) => say::text(b"NothingToDo", streams),
+        Ok(Choice::Picked) => say::text(b"Picked", streams),
+        Err(NotRouted::BrokenState) => say::text(b"BrokenState", streams),
+        Err(NotRouted::BadFrame(why)) => frames::bad_frame(notes, why, streams),
+        Err(NotRouted::ListMalformed) => say::text(b"ListMalformed", streams),
+        Err(NotRouted::NoAddressHeld) => say::text(b"NoAddressHeld", streams),
     }
 }
 
 fn request(notes: &mut [u64], bytes: &[u8], streams: &mut Streams) {
-    let host = host(notes);
-    let asked = host.request(claim(notes), get_u32(notes, notes::FIRST), bytes);
+    let asked = host(notes).request(claim(notes), get_as(notes, notes::FIRST), bytes);
     requested(notes, asked, streams);
 }
 
 // What the host makes of a request.
 pub fn requested(notes: &mut [u64], requested: Requested, streams: &mut Streams) {
-    let answer = requested.answer;
-    tell_requesting(notes, answer, streams);
+    tell_requesting(notes, requested.answer, streams);
     show_positions(requested.positions, streams);
-    let eight = requested.bytes;
-    say::frame(notes, requested.id, eight, streams);
-    say::end(notes, notes::COMMAND_REQUESTING, answer.refusal(), streams);
+    say::frame(notes, requested.id, requested.bytes, streams);
+    say::end(
+        notes,
+        notes::COMMAND_REQUESTING,
+        requested.answer.refusal(),
+        streams,
+    );
 }
 
 fn tell_requesting(notes: &mut [u64], answer: Requesting, streams: &mut Streams) {
     match answer {
-        Requesting::BadFrame(why) => frames::bad_frame(notes, why, streams),
-        _ => say::word(
-            b"NothingToDo SendClaim Supported SendNak Unsupported BrokenState ListMalformed DgnTooLarge NoAddressHeld",
-            number_of_requesting(answer),
-            streams,
-        ),
-    }
-}
-
-fn number_of_requesting(answer: Requesting) -> usize {
-    match answer {
-        Requesting::NothingToDo => 0,
-        Requesting::SendClaim => 1,
-        Requesting::Supported => 2,
-        Requesting::SendNak => 3,
-        Requesting::Unsupported => 4,
-        Requesting::BrokenState => 5,
-        Requesting::ListMalformed => 6,
-        Requesting::DgnTooLarge => 7,
-        _ => 8,
+        Ok(Response::NothingToDo) => say::text(b"NothingToDo", streams),
+        Ok(Response::SendClaim) => say::text(b"SendClaim", streams),
+        Ok(Response::Supported) => say::text(b"Supported", streams),
+        Ok(Response::SendNak) => say::text(b"SendNak", streams),
+        Ok(Response::Unsupported) => say::text(b"Unsupported", streams),
+        Err(NotAnswered::BrokenState) => say::text(b"BrokenState", streams),
+        Err(NotAnswered::BadFrame(why)) => frames::bad_frame(notes, why, streams),
+        Err(NotAnswered::ListMalformed) => say::text(b"ListMalformed", streams),
+        Err(NotAnswered::DgnTooLarge) => say::text(b"DgnTooLarge", streams),
+        Err(NotAnswered::NoAddressHeld) => say::text(b"NoAddressHeld", streams),
     }
 }
 
 // `command::acknowledge CODE INSTANCE REQUESTER DGN`
 fn acknowledge(notes: &mut [u64], streams: &mut Streams) {
     let acknowledged = command::acknowledge(claim(notes), reply(notes));
-    let answer = acknowledged.answer;
-    say::word(
-        b"Send BrokenState RequesterNotAllowed ListMalformed DgnTooLarge NoAddressHeld",
-        number_of_acknowledging(answer),
-        streams,
-    );
-    let eight = acknowledged.bytes;
-    say::frame(notes, acknowledged.id, eight, streams);
+    tell_acknowledging(acknowledged.answer, streams);
+    say::frame(notes, acknowledged.id, acknowledged.bytes, streams);
     say::end(
         notes,
         notes::COMMAND_ACKNOWLEDGING,
-        answer.refusal(),
+        acknowledged.answer.refusal(),
         streams,
     );
+}
+
+fn tell_acknowledging(answer: Acknowledging, streams: &mut Streams) {
+    match answer {
+        Ok(()) => say::text(b"Send", streams),
+        Err(NotAcknowledged::BrokenState) => say::text(b"BrokenState", streams),
+        Err(NotAcknowledged::RequesterNotAllowed) => say::text(b"RequesterNotAllowed", streams),
+        Err(NotAcknowledged::ListMalformed) => say::text(b"ListMalformed", streams),
+        Err(NotAcknowledged::DgnTooLarge) => say::text(b"DgnTooLarge", streams),
+        Err(NotAcknowledged::NoAddressHeld) => say::text(b"NoAddressHeld", streams),
+    }
 }
 
 fn reply(notes: &[u64]) -> Acknowledgment {
     Acknowledgment {
-        code: get_u8(notes, notes::FIRST),
-        instance: get_u8(notes, notes::SECOND),
-        requester: get_u8(notes, notes::THIRD),
-        dgn: get_u32(notes, notes::FOURTH),
-    }
-}
-
-fn number_of_acknowledging(answer: Acknowledging) -> usize {
-    match answer {
-        Acknowledging::Send => 0,
-        Acknowledging::BrokenState => 1,
-        Acknowledging::RequesterNotAllowed => 2,
-        Acknowledging::ListMalformed => 3,
-        Acknowledging::DgnTooLarge => 4,
-        Acknowledging::NoAddressHeld => 5,
+        code: get_as(notes, notes::FIRST),
+        instance: get_as(notes, notes::SECOND),
+        requester: get_as(notes, notes::THIRD),
+        dgn: get_as(notes, notes::FOURTH),
     }
 }
 
 // The positions up to their count.
 fn show_positions(positions: Positions, streams: &mut Streams) {
     say::text(b" positions=", streams);
-    let at = positions.at;
-    let mut i: usize = 0;
-    while i < ENTRIES {
-        if i < positions.count {
-            show_position(at[i], streams);
-        }
-        i += 1;
+    for position in positions.at.iter().take(positions.count) {
+        say::number(b" #", u64::from(*position), streams);
     }
-}
-
-fn show_position(position: u8, streams: &mut Streams) {
-    say::number(b" #", position as u64, streams);
 }
 
 // The host of the notes.
@@ -169,6 +144,7 @@ pub fn host(notes: &[u64]) -> Host {
     }
 }
 
+// An edition is noted as a number, as every state is; From and TryFrom cannot be the console's, for both types are not.
 fn edition_of(number: u64) -> Edition {
     match number {
         0 => Edition::One,
@@ -186,19 +162,17 @@ fn number_of_edition(edition: Edition) -> u64 {
 // The entries of the notes from a place on.
 fn entries(notes: &[u64], at: usize) -> [Entry; ENTRIES] {
     let mut entries = [entry(notes, at); ENTRIES];
-    let mut i: usize = 0;
-    while i < ENTRIES {
-        entries[i] = entry(notes, record(at, 4, i));
-        i += 1;
+    for (i, kept) in entries.iter_mut().enumerate() {
+        *kept = entry(notes, record(at, 4, i));
     }
     entries
 }
 
 fn entry(notes: &[u64], at: usize) -> Entry {
     Entry {
-        command: get_u32(notes, at),
-        status: field_u32(notes, at, 1),
-        instance: field_u8(notes, at, 2),
+        command: get_as(notes, at),
+        status: field_as(notes, at, 1),
+        instance: field_as(notes, at, 2),
         zero_is_all: field(notes, at, 3) != 0,
     }
 }
@@ -206,26 +180,18 @@ fn entry(notes: &[u64], at: usize) -> Entry {
 // Notes the host.
 fn keep(notes: &mut [u64], host: Host) {
     put(notes, notes::HOST_COUNT, host.count as u64);
-    let edition = host.edition;
-    put(notes, notes::HOST_EDITION, number_of_edition(edition));
-    let entries = host.entries;
-    keep_entries(notes, entries);
-}
-
-fn keep_entries(notes: &mut [u64], entries: [Entry; ENTRIES]) {
-    let mut i: usize = 0;
-    while i < ENTRIES {
-        keep_entry(notes, record(notes::HOST_ENTRIES, 4, i), entries[i]);
-        i += 1;
+    put(notes, notes::HOST_EDITION, number_of_edition(host.edition));
+    for (i, entry) in host.entries.iter().enumerate() {
+        keep_entry(notes, record(notes::HOST_ENTRIES, 4, i), *entry);
     }
 }
 
 fn keep_entry(notes: &mut [u64], at: usize, entry: Entry) {
     let fields = [
-        entry.command as u64,
-        entry.status as u64,
-        entry.instance as u64,
-        entry.zero_is_all as u64,
+        u64::from(entry.command),
+        u64::from(entry.status),
+        u64::from(entry.instance),
+        u64::from(entry.zero_is_all),
     ];
     put_all(notes, at, &fields);
 }

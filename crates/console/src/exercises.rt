@@ -1,30 +1,21 @@
 // Exercises: a message split and joined again, a row written and read back, as a class would do it by many lines.
-use crate::fields::number_of_class;
-use crate::notes::{get, get_u8};
+use crate::notes::{get, get_as};
+use crate::{fields, notes, say};
+use catalogue::{NotRead, Row, Writing};
 use streams::Streams;
-use crate::{notes, say};
-use catalogue::{Looked, Reading, Row, ScaledReading, Writing};
+use words::Refusal;
 
-// A receiver of long messages after a frame: whether it finished a message, and whether that is the one that was split.
+// A receiver after a frame; and where that finished a message, whether the message is the one that was split.
 #[derive(Clone, Copy)]
-struct Heard {
-    receiver: message::Receiver,
-    finished: bool,
-    same: bool,
-}
-
-// The same of fast packets.
-#[derive(Clone, Copy)]
-struct HeardFast {
-    receiver: fast::Receiver,
-    finished: bool,
-    same: bool,
+struct Heard<R> {
+    receiver: R,
+    same: Option<bool>,
 }
 
 pub fn call(n: usize, notes: &[u64], bytes: &[u8], streams: &mut Streams) {
     match n {
         0 => try_long_message(bytes, streams),
-        1 => try_fast_packet(bytes, get_u8(notes, notes::SECOND), streams),
+        1 => try_fast_packet(bytes, get_as(notes, notes::SECOND), streams),
         2 => row_back(get(notes, notes::FIRST) as usize, streams),
         _ => {}
     }
@@ -43,50 +34,45 @@ fn try_fast_packet(bytes: &[u8], sequence: u8, streams: &mut Streams) {
 // A message split and sent by 54h, and what a new receiver hands back.
 fn long_message(whole: &[u8], storage: &mut [u8], streams: &mut Streams) {
     let announced = message::announcement(whole, 0x1FECA);
-    let announcement = announced.bytes;
-    let answer = announced.answer;
-    if answer.refusal() != 0 {
-        return not_split(answer.refusal(), streams);
+    if let Err(why) = announced.answer {
+        return not_split(why.refusal(), streams);
     }
     let mut heard = hear(
         message::Receiver::new(),
         storage,
         0x1CECFF54,
-        announcement,
+        announced.bytes,
         whole,
     );
-    let mut number: u32 = 0;
-    while number < 255 {
-        if heard.finished {
+    let mut packets: u32 = 0;
+    for number in 1..=255 {
+        if heard.same.is_some() {
             break;
         }
-        number += 1;
+        packets = number;
         let split = message::packet(whole, 0x1FECA, number);
-        let packet = split.bytes;
-        let receiver = heard.receiver;
-        heard = hear(receiver, storage, 0x1CEBFF54, packet, whole);
+        heard = hear(heard.receiver, storage, 0x1CEBFF54, split.bytes, whole);
     }
     joined(
         b"length=# packets=# ",
         whole.len(),
-        number,
+        packets,
         heard.same,
         streams,
     );
 }
 
 fn not_split(refusal: u8, streams: &mut Streams) {
-    say::number(b"not split, refusal #\n", refusal as u64, streams);
+    say::number(b"not split, refusal #\n", u64::from(refusal), streams);
 }
 
 // How long the message was, how many frames it took, and whether it came back.
-fn joined(pattern: &[u8], length: usize, last: u32, same: bool, streams: &mut Streams) {
-    let numbers = [length as u64, last as u64];
-    say::form(pattern, &numbers, 0, streams);
-    if same {
-        return say::text(b"the same bytes\n", streams);
+fn joined(pattern: &[u8], length: usize, last: u32, same: Option<bool>, streams: &mut Streams) {
+    say::form(pattern, &[length as u64, u64::from(last)], 0, streams);
+    match same {
+        Some(true) => say::text(b"the same bytes\n", streams),
+        Some(false) | None => say::text(b"OTHER BYTES\n", streams),
     }
-    say::text(b"OTHER BYTES\n", streams);
 }
 
 fn hear(
@@ -95,27 +81,17 @@ fn hear(
     id: u32,
     bytes: [u8; 8],
     whole: &[u8],
-) -> Heard {
+) -> Heard<message::Receiver> {
     let heard = receiver.hear(storage, id, &bytes);
-    let answer = heard.answer;
-    let same = message::message(storage, answer) == whole;
-    let receiver = heard.receiver;
-    match answer {
-        message::Answer::Finished {
-            place: _,
-            sender: _,
-            dgn: _,
-            length: _,
-        } => Heard {
-            receiver,
-            finished: true,
-            same,
-        },
-        _ => Heard {
-            receiver,
-            finished: false,
-            same: false,
-        },
+    let same = match heard.answer {
+        Ok(message::Event::Finished { .. }) => Some(
+            message::message(storage, heard.answer) == whole,
+        ),
+        _ => None,
+    };
+    Heard {
+        receiver: heard.receiver,
+        same,
     }
 }
 
@@ -124,67 +100,51 @@ fn fast_packet(whole: &[u8], sequence: u8, storage: &mut [u8], streams: &mut Str
     let dgns = [0x1F001u32];
     let started = fast::Receiver::start(&dgns);
     let split = fast::frame_of(whole, sequence, 0);
-    let first = split.bytes;
-    let answer = split.answer;
-    if answer.refusal() != 0 {
-        return not_split(answer.refusal(), streams);
+    if let Err(why) = split.answer {
+        return not_split(why.refusal(), streams);
     }
-    let receiver = started.receiver;
-    let mut heard = hear_fast(receiver, storage, first, whole);
-    let mut number: u32 = 0;
-    while number < 31 {
-        if heard.finished {
+    let mut heard = hear_fast(started.receiver, storage, split.bytes, whole);
+    let mut last: u32 = 0;
+    for number in 1..=31 {
+        if heard.same.is_some() {
             break;
         }
-        number += 1;
+        last = number;
         let split = fast::frame_of(whole, sequence, number);
-        let later = split.bytes;
-        let receiver = heard.receiver;
-        heard = hear_fast(receiver, storage, later, whole);
+        heard = hear_fast(heard.receiver, storage, split.bytes, whole);
     }
     joined(
         b"length=# last frame=# ",
         whole.len(),
-        number,
+        last,
         heard.same,
         streams,
     );
 }
 
+// It stands beside `hear`, for the two receivers and their answers are types of two crates with no trait between them: a
+// trait written here would have the two bodies as its implementations.
 fn hear_fast(
     receiver: fast::Receiver,
     storage: &mut [u8],
     bytes: [u8; 8],
     whole: &[u8],
-) -> HeardFast {
+) -> Heard<fast::Receiver> {
     let heard = receiver.hear(storage, 0x19F0010E, &bytes);
-    let answer = heard.answer;
-    let same = fast::message(storage, answer) == whole;
-    let receiver = heard.receiver;
-    match answer {
-        fast::Answer::Finished {
-            place: _,
-            sender: _,
-            dgn: _,
-            length: _,
-        } => HeardFast {
-            receiver,
-            finished: true,
-            same,
-        },
-        _ => HeardFast {
-            receiver,
-            finished: false,
-            same: false,
-        },
+    let same = match heard.answer {
+        Ok(fast::Event::Finished { .. }) => Some(fast::message(storage, heard.answer) == whole),
+        _ => None,
+    };
+    Heard {
+        receiver: heard.receiver,
+        same,
     }
 }
 
 // A row at its least code, its greatest, and the three below that: each read in a frame of zeros as a value, the value
 // written into a frame of ones, and read back there.
 fn row_back(n: usize, streams: &mut Streams) {
-    let looked = catalogue::row_at(n);
-    match looked {
+    match catalogue::row_at(n) {
         Err(_) => say::text(b"NoSuchRow, refusal 11", streams),
         Ok(row) => {
             code_back(n, row, 0, streams);
@@ -209,9 +169,8 @@ fn special_codes(n: usize, row: Row, greatest: u64, streams: &mut Streams) {
 fn code_back(n: usize, row: Row, code: u64, streams: &mut Streams) {
     let id = id_of(row.dgn);
     let zeros = frame::bytes_of(shifted(code, row.first));
-    let reading = catalogue::read_scaled(n, id, &zeros);
     say::text(b" ", streams);
-    match reading {
+    match catalogue::read_scaled(n, id, &zeros) {
         Err(NotRead::BadFrame(_)) => say::text(b"BadFrame", streams),
         Err(NotRead::NoSuchRow) => say::text(b"NoSuchRow", streams),
         Ok(value) => {
@@ -220,7 +179,7 @@ fn code_back(n: usize, row: Row, code: u64, streams: &mut Streams) {
             wrote(writing, streams);
             read_back(n, id, bytes, streams);
             let around = frame::number_of(bytes) | shifted(ones(row.width), row.first);
-            if around != 0xFFFFFFFFFFFFFFFF {
+            if around != u64::MAX {
                 say::text(b" another bit changed", streams);
             }
         }
@@ -228,34 +187,27 @@ fn code_back(n: usize, row: Row, code: u64, streams: &mut Streams) {
 }
 
 fn wrote(writing: Writing, streams: &mut Streams) {
-    let refusal = writing.refusal();
-    if refusal != 0 {
-        say::number(b"#:", refusal as u64, streams);
+    if let Err(why) = writing {
+        say::number(b"#:", u64::from(why.refusal()), streams);
     }
 }
 
 fn read_back(n: usize, id: u32, bytes: [u8; 8], streams: &mut Streams) {
-    let reading = catalogue::read(n, id, &bytes);
-    match reading {
+    match catalogue::read(n, id, &bytes) {
         Err(NotRead::BadFrame(_)) => say::text(b"BadFrame", streams),
         Err(NotRead::NoSuchRow) => say::text(b"NoSuchRow", streams),
         Ok(field) => {
             say::number(b"#=", field.code, streams);
-            let class = field.class;
-            say::word(
-                b"NoData OutOfRange Reserved Number",
-                number_of_class(class),
-                streams,
-            );
+            fields::class(field.class, streams);
         }
     }
 }
 
 fn ones(width: u8) -> u64 {
     if width < 64 {
-        return (1u64 << width) - 1;
+        return !(u64::MAX << width);
     }
-    0xFFFFFFFFFFFFFFFF
+    u64::MAX
 }
 
 fn shifted(code: u64, first: u8) -> u64 {
@@ -266,8 +218,5 @@ fn shifted(code: u64, first: u8) -> u64 {
 }
 
 fn id_of(dgn: u32) -> u32 {
-    match frame::form(6, dgn, 0x54) {
-        Ok(id) => id,
-        Err(_) => 0,
-    }
+    frame::form(6, dgn, 0x54).unwrap_or(0)
 }

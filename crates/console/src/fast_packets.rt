@@ -1,15 +1,10 @@
 // The words of crate `fast`: one receiver of fast packets, its storage, and the last answer about a frame.
-ghost use Rattle.io.specs.Counts.{IsPrefixLen};
-
-use crate::notes::{
-    bounded, field, field_u8, field_u16, field_u32, get, get_u8, get_u16, get_u32, put, put_all,
-    record,
-};
-use streams::Streams;
+use crate::notes::{bounded, field, field_as, get, get_as, put, put_all, record};
 use crate::{frames, notes, say, state};
 use fast::limits::{DGNS, PLACES, STRETCH};
-use fast::{Answer, Pausing, Place, Receiver, Splitting, Started, Starting};
-use std::num::wrapping_add_usize;
+use fast::{Answer, Event, NotHeard, NotSplit, Place, Receiver, Started};
+use streams::Streams;
+use words::Refusal;
 
 pub fn call(n: usize, notes: &mut [u64], bytes: &[u8], storage: &mut [u8], streams: &mut Streams) {
     match n {
@@ -26,51 +21,41 @@ fn start(notes: &mut [u64], storage: &[u8], streams: &mut Streams) {
     let list = typed_list(notes);
     let started = start_from(notes, &list);
     keep(notes, started.receiver);
-    let answer = started.answer;
-    match answer {
-        Starting::Named => say::text(b"Named", streams),
-        Starting::ListMalformed => say::text(b"ListMalformed", streams),
+    match started.answer {
+        Ok(()) => say::text(b"Named", streams),
+        Err(_) => say::text(b"ListMalformed", streams),
     }
-    say::end(notes, notes::FAST_STARTING, answer.refusal(), streams);
+    say::end(
+        notes,
+        notes::FAST_STARTING,
+        started.answer.refusal(),
+        streams,
+    );
     show(notes, storage, streams);
 }
 
 // The numbers of the list that was typed.
 fn typed_list(notes: &[u64]) -> [u32; 32] {
     let mut list = [0u32; 32];
-    let mut i: usize = 0;
-    while i < 32 {
-        list[i] = field_u32(notes, notes::NUMBERS, i);
-        i += 1;
+    for (i, number) in list.iter_mut().enumerate() {
+        *number = field_as(notes, notes::NUMBERS, i);
     }
     list
 }
 
 // A receiver of as many of them as were typed.
 fn start_from(notes: &[u64], list: &[u32]) -> Started {
-    let count = bounded_list(get(notes, notes::LIST) as usize, list);
+    let count = bounded(get(notes, notes::LIST) as usize, list);
     Receiver::start(&list[..count])
 }
 
-// A number of DGNs, and never more than there are.
-fn bounded_list(count: usize, list: &[u32]) -> usize
-    ensures { IsPrefixLen result list.now }
-{
-    if count < list.len() {
-        return count;
-    }
-    list.len()
-}
-
 fn hear(notes: &mut [u64], bytes: &[u8], storage: &mut [u8], streams: &mut Streams) {
-    let id = get_u32(notes, notes::FIRST);
+    let id: u32 = get_as(notes, notes::FIRST);
     let lent = bounded(get(notes, notes::FAST_STORAGE) as usize, storage);
-    let before = receiver(notes);
-    let heard = before.hear(&mut storage[..lent], id, bytes);
+    let heard = receiver(notes).hear(&mut storage[..lent], id, bytes);
     keep(notes, heard.receiver);
-    let answer = heard.answer;
-    keep_answer(notes, answer);
-    heard_so(notes, storage, answer, streams);
+    keep_answer(notes, heard.answer);
+    heard_so(notes, storage, heard.answer, streams);
 }
 
 fn heard_so(notes: &mut [u64], storage: &[u8], answer: Answer, streams: &mut Streams) {
@@ -82,38 +67,22 @@ fn heard_so(notes: &mut [u64], storage: &[u8], answer: Answer, streams: &mut Str
 
 fn tell(notes: &mut [u64], answer: Answer, streams: &mut Streams) {
     match answer {
-        Answer::BadFrame(why) => frames::bad_frame(notes, why, streams),
-        Answer::Finished {
-            place: _,
-            sender: _,
-            dgn: _,
-            length: _,
-        } => say::form(
+        Ok(Event::NothingToDo) => say::text(b"NothingToDo", streams),
+        Ok(Event::Opened) => say::text(b"Opened", streams),
+        Ok(Event::Stored) => say::text(b"Stored", streams),
+        Ok(Event::Finished { .. }) => say::form(
             b"Finished place=# sender=% dgn=~ length=# message=",
             notes,
             notes::FAST_FINISHED + 1,
             streams,
         ),
-        _ => say::word(
-            b"StorageTooShort BrokenState MalformedLength NoPlaceFree NoOpenMessage \
-              UnexpectedFrame NothingToDo Opened Stored",
-            number(answer),
-            streams,
-        ),
-    }
-}
-
-fn number(answer: Answer) -> usize {
-    match answer {
-        Answer::StorageTooShort => 0,
-        Answer::BrokenState => 1,
-        Answer::MalformedLength => 2,
-        Answer::NoPlaceFree => 3,
-        Answer::NoOpenMessage => 4,
-        Answer::UnexpectedFrame => 5,
-        Answer::NothingToDo => 6,
-        Answer::Opened => 7,
-        _ => 8,
+        Err(NotHeard::StorageTooShort) => say::text(b"StorageTooShort", streams),
+        Err(NotHeard::BrokenState) => say::text(b"BrokenState", streams),
+        Err(NotHeard::BadFrame(why)) => frames::bad_frame(notes, why, streams),
+        Err(NotHeard::MalformedLength) => say::text(b"MalformedLength", streams),
+        Err(NotHeard::NoPlaceFree) => say::text(b"NoPlaceFree", streams),
+        Err(NotHeard::NoOpenMessage) => say::text(b"NoOpenMessage", streams),
+        Err(NotHeard::UnexpectedFrame) => say::text(b"UnexpectedFrame", streams),
     }
 }
 
@@ -127,39 +96,32 @@ fn finished(notes: &[u64], storage: &[u8], streams: &mut Streams) {
 }
 
 fn pause(notes: &mut [u64], storage: &[u8], streams: &mut Streams) {
-    let before = receiver(notes);
-    let paused = before.pause(get_u16(notes, notes::FIRST));
+    let paused = receiver(notes).pause(get_as(notes, notes::FIRST));
     keep(notes, paused.receiver);
-    let answer = paused.answer;
-    match answer {
-        Pausing::Closed(count) => say::number(b"Closed #", count as u64, streams),
-        Pausing::BrokenState => say::text(b"BrokenState", streams),
+    match paused.answer {
+        Ok(count) => say::number(b"Closed #", u64::from(count), streams),
+        Err(_) => say::text(b"BrokenState", streams),
     }
-    say::end(notes, notes::FAST_PAUSING, answer.refusal(), streams);
+    say::end(notes, notes::FAST_PAUSING, paused.answer.refusal(), streams);
     show(notes, storage, streams);
 }
 
 fn frame_of(notes: &mut [u64], bytes: &[u8], streams: &mut Streams) {
-    let sequence = get_u8(notes, notes::SECOND);
-    let split = fast::frame_of(bytes, sequence, get_u32(notes, notes::THIRD));
-    let answer = split.answer;
-    say::word(
-        b"Bytes NoCode LengthNotSplit NoSuchFrame",
-        number_of_splitting(answer),
+    let sequence: u8 = get_as(notes, notes::SECOND);
+    let split = fast::frame_of(bytes, sequence, get_as(notes, notes::THIRD));
+    match split.answer {
+        Ok(()) => say::text(b"Bytes", streams),
+        Err(NotSplit::NoCode) => say::text(b"NoCode", streams),
+        Err(NotSplit::LengthNotSplit) => say::text(b"LengthNotSplit", streams),
+        Err(NotSplit::NoSuchFrame) => say::text(b"NoSuchFrame", streams),
+    }
+    say::eight(notes, b" ", split.bytes, streams);
+    say::end(
+        notes,
+        notes::FAST_SPLITTING,
+        split.answer.refusal(),
         streams,
     );
-    let eight = split.bytes;
-    say::eight(notes, b" ", eight, streams);
-    say::end(notes, notes::FAST_SPLITTING, answer.refusal(), streams);
-}
-
-fn number_of_splitting(answer: Splitting) -> usize {
-    match answer {
-        Splitting::Bytes => 0,
-        Splitting::NoCode => 1,
-        Splitting::LengthNotSplit => 2,
-        Splitting::NoSuchFrame => 3,
-    }
 }
 
 // The receiver of the notes.
@@ -173,72 +135,50 @@ fn receiver(notes: &[u64]) -> Receiver {
 
 fn dgns(notes: &[u64]) -> [u32; DGNS] {
     let mut dgns = [0u32; DGNS];
-    let mut i: usize = 0;
-    while i < DGNS {
-        dgns[i] = field_u32(notes, notes::FAST_DGNS, i);
-        i += 1;
+    for (i, dgn) in dgns.iter_mut().enumerate() {
+        *dgn = field_as(notes, notes::FAST_DGNS, i);
     }
     dgns
 }
 
 fn places(notes: &[u64]) -> [Place; PLACES] {
     let mut places = [place(notes, notes::FAST_PLACES); PLACES];
-    let mut i: usize = 0;
-    while i < PLACES {
-        places[i] = place(notes, record(notes::FAST_PLACES, 6, i));
-        i += 1;
+    for (i, kept) in places.iter_mut().enumerate() {
+        *kept = place(notes, record(notes::FAST_PLACES, 6, i));
     }
     places
 }
 
 fn place(notes: &[u64], at: usize) -> Place {
     Place {
-        sender: get_u8(notes, at),
-        dgn: field_u32(notes, at, 1),
-        sequence: field_u8(notes, at, 2),
-        length: field_u8(notes, at, 3),
-        expected: field_u8(notes, at, 4),
-        idle: field_u16(notes, at, 5),
+        sender: get_as(notes, at),
+        dgn: field_as(notes, at, 1),
+        sequence: field_as(notes, at, 2),
+        length: field_as(notes, at, 3),
+        expected: field_as(notes, at, 4),
+        idle: field_as(notes, at, 5),
     }
 }
 
 // Notes the receiver.
 fn keep(notes: &mut [u64], receiver: Receiver) {
     put(notes, notes::FAST_NAMED, receiver.named as u64);
-    let dgns = receiver.dgns;
-    keep_dgns(notes, dgns);
-    let places = receiver.places;
-    keep_places(notes, places);
-}
-
-fn keep_dgns(notes: &mut [u64], dgns: [u32; DGNS]) {
-    let mut i: usize = 0;
-    while i < DGNS {
-        put(
-            notes,
-            wrapping_add_usize(notes::FAST_DGNS, i),
-            dgns[i] as u64,
-        );
-        i += 1;
+    for (i, dgn) in receiver.dgns.iter().enumerate() {
+        put(notes, notes::FAST_DGNS.wrapping_add(i), u64::from(*dgn));
     }
-}
-
-fn keep_places(notes: &mut [u64], places: [Place; PLACES]) {
-    let mut i: usize = 0;
-    while i < PLACES {
-        keep_place(notes, record(notes::FAST_PLACES, 6, i), places[i]);
-        i += 1;
+    for (i, place) in receiver.places.iter().enumerate() {
+        keep_place(notes, record(notes::FAST_PLACES, 6, i), *place);
     }
 }
 
 fn keep_place(notes: &mut [u64], at: usize, place: Place) {
     let fields = [
-        place.sender as u64,
-        place.dgn as u64,
-        place.sequence as u64,
-        place.length as u64,
-        place.expected as u64,
-        place.idle as u64,
+        u64::from(place.sender),
+        u64::from(place.dgn),
+        u64::from(place.sequence),
+        u64::from(place.length),
+        u64::from(place.expected),
+        u64::from(place.idle),
     ];
     put_all(notes, at, &fields);
 }
@@ -246,25 +186,33 @@ fn keep_place(notes: &mut [u64], at: usize, place: Place) {
 // The last answer, as far as it is about a finished message.
 fn kept_answer(notes: &[u64]) -> Answer {
     if get(notes, notes::FAST_FINISHED) == 0 {
-        return Answer::NothingToDo;
+        return Ok(Event::NothingToDo);
     }
-    Answer::Finished {
+    Ok(Event::Finished {
         place: field(notes, notes::FAST_FINISHED, 1) as usize,
-        sender: field_u8(notes, notes::FAST_FINISHED, 2),
-        dgn: field_u32(notes, notes::FAST_FINISHED, 3),
-        length: field_u8(notes, notes::FAST_FINISHED, 4),
-    }
+        sender: field_as(notes, notes::FAST_FINISHED, 2),
+        dgn: field_as(notes, notes::FAST_FINISHED, 3),
+        length: field_as(notes, notes::FAST_FINISHED, 4),
+    })
 }
 
 fn keep_answer(notes: &mut [u64], answer: Answer) {
     match answer {
-        Answer::Finished {
-            place,
-            sender,
-            dgn,
-            length,
-        } => {
-            let finished = [1, place as u64, sender as u64, dgn as u64, length as u64];
+        Ok(
+            Event::Finished {
+                place,
+                sender,
+                dgn,
+                length,
+            },
+        ) => {
+            let finished = [
+                1,
+                place as u64,
+                u64::from(sender),
+                u64::from(dgn),
+                u64::from(length),
+            ];
             put_all(notes, notes::FAST_FINISHED, &finished);
         }
         _ => put(notes, notes::FAST_FINISHED, 0),
@@ -285,25 +233,14 @@ pub fn show(notes: &[u64], storage: &[u8], streams: &mut Streams) {
 }
 
 fn show_dgns(notes: &[u64], named: usize, streams: &mut Streams) {
-    let mut i: usize = 0;
-    while i < DGNS {
-        if i < named {
-            say::form(
-                b" ~",
-                notes,
-                wrapping_add_usize(notes::FAST_DGNS, i),
-                streams,
-            );
-        }
-        i += 1;
+    for i in 0..named.min(DGNS) {
+        say::form(b" ~", notes, notes::FAST_DGNS.wrapping_add(i), streams);
     }
 }
 
 fn show_places(notes: &[u64], storage: &[u8], streams: &mut Streams) {
-    let mut i: usize = 0;
-    while i < PLACES {
+    for i in 0..PLACES {
         show_place(notes, storage, i, streams);
-        i += 1;
     }
 }
 
@@ -318,7 +255,7 @@ fn show_place(notes: &[u64], storage: &[u8], position: usize, streams: &mut Stre
         streams,
     );
     if shown {
-        let expected = field_u8(notes, record(notes::FAST_PLACES, 6, position), 4);
+        let expected: u8 = field_as(notes, record(notes::FAST_PLACES, 6, position), 4);
         say::stretch(
             storage,
             record(0, STRETCH, position),

@@ -1,12 +1,11 @@
 // The words of crate `catalogue`: one row, and a lent table of packed rows.
-ghost use Rattle.io.specs.Counts.{IsPrefixLen};
-
-use crate::notes::{field, field_u8, get, get_i64, get_u8, get_u32, put, put_all};
-use streams::Streams;
+use crate::notes::{bounded, field, field_as, get, get_as, put, put_all};
 use crate::{claims, frames, notes, say};
 use catalogue::{
-    Class, Field, Looked, NotRead, NotWritten, Reading, Row, ScaledReading, Span, Unit, Value, Writing,
+    Class, Field, Looked, NotRead, NotWritten, Reading, Row, ScaledReading, Span, Unit, Value,
+    Writing,
 };
+use streams::Streams;
 use words::Refusal;
 
 pub fn call(
@@ -16,26 +15,22 @@ pub fn call(
     packed: &mut [u64],
     streams: &mut Streams,
 ) {
-    if n < 4 {
-        return look(n, notes, streams);
-    }
-    if n < 8 {
-        return look_in(n, notes, packed, streams);
-    }
-    if n < 13 {
-        return read_by(n, notes, bytes, streams);
-    }
-    if n < 15 {
-        return write_by(n, notes, bytes, streams);
-    }
-    tell_of(n, notes, streams);
-}
-
-// What is said of a DGN, or of a unit at a width.
-fn tell_of(n: usize, notes: &[u64], streams: &mut Streams) {
     match n {
+        0 => say::number(b"#\n", catalogue::rows() as u64, streams),
+        1 => row_at(notes, streams),
+        2 => row_of(notes, streams),
+        3 => span(catalogue::rows_of(get_as(notes, notes::FIRST)), streams),
+        4 => packed_rows(notes, packed, streams),
+        5..=7 => look_in(n, notes, packed, streams),
+        8 => read(notes, bytes, streams),
+        9 => read_scaled(notes, bytes, streams),
+        10 => classify(notes, streams),
+        11 => read_row(notes, bytes, streams),
+        12 => read_row_scaled(notes, bytes, streams),
+        13 => write(notes, bytes, streams),
+        14 => write_row(notes, bytes, streams),
         15 => claims::truth(
-            catalogue::has_instance(get_u32(notes, notes::FIRST)),
+            catalogue::has_instance(get_as(notes, notes::FIRST)),
             streams,
         ),
         16 => steps_in_one(notes, streams),
@@ -45,18 +40,8 @@ fn tell_of(n: usize, notes: &[u64], streams: &mut Streams) {
 
 fn steps_in_one(notes: &[u64], streams: &mut Streams) {
     let unit = unit_of(get(notes, notes::FIRST));
-    let steps = catalogue::steps_in_one(unit, get_u8(notes, notes::SECOND));
-    say::number(b"#\n", steps as u64, streams);
-}
-
-// Rows of the catalogue.
-fn look(n: usize, notes: &mut [u64], streams: &mut Streams) {
-    match n {
-        0 => say::number(b"#\n", catalogue::rows() as u64, streams),
-        1 => row_at(notes, streams),
-        2 => row_of(notes, streams),
-        _ => span(catalogue::rows_of(get_u32(notes, notes::FIRST)), streams),
-    }
+    let steps = catalogue::steps_in_one(unit, get_as(notes, notes::SECOND));
+    say::number(b"#\n", u64::from(steps), streams);
 }
 
 fn row_at(notes: &mut [u64], streams: &mut Streams) {
@@ -65,26 +50,20 @@ fn row_at(notes: &mut [u64], streams: &mut Streams) {
 }
 
 fn row_of(notes: &mut [u64], streams: &mut Streams) {
-    let dgn = get_u32(notes, notes::FIRST);
-    let answer = catalogue::row_of(dgn, get_u8(notes, notes::SECOND));
+    let dgn: u32 = get_as(notes, notes::FIRST);
+    let answer = catalogue::row_of(dgn, get_as(notes, notes::SECOND));
     looked(notes, answer, streams);
 }
 
 // Rows of the lent table.
-fn look_in(n: usize, notes: &mut [u64], packed: &mut [u64], streams: &mut Streams) {
-    if n == 4 {
-        return packed_rows(notes, packed, streams);
-    }
-    let count = lent(get(notes, notes::PACKED) as usize, packed);
-    look_in_these(n, notes, &packed[..count], streams);
-}
-
-fn look_in_these(n: usize, notes: &mut [u64], packed: &[u64], streams: &mut Streams) {
+fn look_in(n: usize, notes: &mut [u64], packed: &[u64], streams: &mut Streams) {
+    let count = bounded(get(notes, notes::PACKED) as usize, packed);
+    let lent = &packed[..count];
     match n {
-        5 => row_in(notes, packed, streams),
-        6 => row_of_in(notes, packed, streams),
+        5 => row_in(notes, lent, streams),
+        6 => row_of_in(notes, lent, streams),
         _ => span(
-            catalogue::rows_in(packed, get_u32(notes, notes::FIRST)),
+            catalogue::rows_in(lent, get_as(notes, notes::FIRST)),
             streams,
         ),
     }
@@ -103,24 +82,14 @@ pub fn lend(notes: &mut [u64], packed: &mut [u64], rows: &[u64], streams: &mut S
     say::form(b"# packed rows are lent\n", notes, notes::PACKED, streams);
 }
 
-// How many packed rows are lent, and never more than there are.
-fn lent(count: usize, packed: &[u64]) -> usize
-    ensures { IsPrefixLen result packed.now }
-{
-    if count < packed.len() {
-        return count;
-    }
-    packed.len()
-}
-
 fn row_in(notes: &mut [u64], packed: &[u64], streams: &mut Streams) {
     let answer = catalogue::row_in(packed, get(notes, notes::FIRST) as usize);
     looked(notes, answer, streams);
 }
 
 fn row_of_in(notes: &mut [u64], packed: &[u64], streams: &mut Streams) {
-    let dgn = get_u32(notes, notes::FIRST);
-    let answer = catalogue::row_of_in(packed, dgn, get_u8(notes, notes::SECOND));
+    let dgn: u32 = get_as(notes, notes::FIRST);
+    let answer = catalogue::row_of_in(packed, dgn, get_as(notes, notes::SECOND));
     looked(notes, answer, streams);
 }
 
@@ -146,19 +115,12 @@ fn is(notes: &mut [u64], found: Row, streams: &mut Streams) {
 }
 
 fn span(span: Span, streams: &mut Streams) {
-    let numbers = [span.start as u64, span.count as u64];
-    say::form(b"start=# count=#\n", &numbers, 0, streams);
-}
-
-// Fields, by the number of their row or by the console's row.
-fn read_by(n: usize, notes: &mut [u64], bytes: &[u8], streams: &mut Streams) {
-    match n {
-        8 => read(notes, bytes, streams),
-        9 => read_scaled(notes, bytes, streams),
-        10 => classify(notes, streams),
-        11 => read_row(notes, bytes, streams),
-        _ => read_row_scaled(notes, bytes, streams),
-    }
+    say::form(
+        b"start=# count=#\n",
+        &[span.start as u64, span.count as u64],
+        0,
+        streams,
+    );
 }
 
 fn classify(notes: &[u64], streams: &mut Streams) {
@@ -171,12 +133,12 @@ fn classify(notes: &[u64], streams: &mut Streams) {
 
 fn read(notes: &mut [u64], bytes: &[u8], streams: &mut Streams) {
     let row = get(notes, notes::FIRST) as usize;
-    let answer = catalogue::read(row, get_u32(notes, notes::SECOND), bytes);
+    let answer = catalogue::read(row, get_as(notes, notes::SECOND), bytes);
     reading(notes, answer, streams);
 }
 
 fn read_row(notes: &mut [u64], bytes: &[u8], streams: &mut Streams) {
-    let answer = catalogue::read_row(row(notes), get_u32(notes, notes::FIRST), bytes);
+    let answer = catalogue::read_row(row(notes), get_as(notes, notes::FIRST), bytes);
     reading(notes, answer, streams);
 }
 
@@ -201,33 +163,28 @@ fn not_read(notes: &mut [u64], why: NotRead, streams: &mut Streams) {
 }
 
 fn field_read(field: Field, streams: &mut Streams) {
-    let class = field.class;
-    say::word(
-        b"NoData OutOfRange Reserved Number",
-        number_of_class(class),
-        streams,
-    );
+    class(field.class, streams);
     say::number(b" code=#", field.code, streams);
 }
 
-// The number of a class, in the order in which the notes have them.
-pub fn number_of_class(class: Class) -> usize {
+// The name of a class.
+pub fn class(class: Class, streams: &mut Streams) {
     match class {
-        Class::NoData => 0,
-        Class::OutOfRange => 1,
-        Class::Reserved => 2,
-        Class::Number => 3,
+        Class::NoData => say::text(b"NoData", streams),
+        Class::OutOfRange => say::text(b"OutOfRange", streams),
+        Class::Reserved => say::text(b"Reserved", streams),
+        Class::Number => say::text(b"Number", streams),
     }
 }
 
 fn read_scaled(notes: &mut [u64], bytes: &[u8], streams: &mut Streams) {
     let row = get(notes, notes::FIRST) as usize;
-    let answer = catalogue::read_scaled(row, get_u32(notes, notes::SECOND), bytes);
+    let answer = catalogue::read_scaled(row, get_as(notes, notes::SECOND), bytes);
     scaled(notes, answer, streams);
 }
 
 fn read_row_scaled(notes: &mut [u64], bytes: &[u8], streams: &mut Streams) {
-    let answer = catalogue::read_row_scaled(row(notes), get_u32(notes, notes::FIRST), bytes);
+    let answer = catalogue::read_row_scaled(row(notes), get_as(notes, notes::FIRST), bytes);
     scaled(notes, answer, streams);
 }
 
@@ -262,41 +219,26 @@ fn value(value: Value, streams: &mut Streams) {
 
 // The value that was typed; its number is noted at `slot`.
 pub fn typed_value(notes: &[u64], slot: usize) -> Value {
-    let number = get_i64(notes, slot);
+    let number: i64 = get_as(notes, slot);
     match get(notes, notes::VALUE) {
         0 => Value::NoData,
         1 => Value::OutOfRange,
         2 => Value::Reserved,
         3 => Value::Scaled(number),
-        _ => Value::Scaled(below_zero(number)),
-    }
-}
-
-// The number below zero of which one less than its size was noted.
-fn below_zero(less: i64) -> i64 {
-    if less < 0 {
-        return 0;
-    }
-    -1 - less
-}
-
-fn write_by(n: usize, notes: &mut [u64], bytes: &mut [u8], streams: &mut Streams) {
-    match n {
-        13 => write(notes, bytes, streams),
-        14 => write_row(notes, bytes, streams),
-        _ => {}
+        // Below zero one less than the size is noted.
+        _ => Value::Scaled((-1i64).wrapping_sub(number)),
     }
 }
 
 fn write(notes: &mut [u64], bytes: &mut [u8], streams: &mut Streams) {
     let row = get(notes, notes::FIRST) as usize;
-    let id = get_u32(notes, notes::SECOND);
+    let id: u32 = get_as(notes, notes::SECOND);
     let answer = catalogue::write(row, id, bytes, typed_value(notes, notes::FOURTH));
     written(notes, bytes, answer, streams);
 }
 
 fn write_row(notes: &mut [u64], bytes: &mut [u8], streams: &mut Streams) {
-    let id = get_u32(notes, notes::FIRST);
+    let id: u32 = get_as(notes, notes::FIRST);
     let answer = catalogue::write_row(row(notes), id, bytes, typed_value(notes, notes::THIRD));
     written(notes, bytes, answer, streams);
 }
@@ -320,15 +262,17 @@ fn tell_writing(notes: &mut [u64], answer: Writing, streams: &mut Streams) {
 // The row of the notes. At first it has no bits: no call reads by it.
 fn row(notes: &[u64]) -> Row {
     Row {
-        dgn: get_u32(notes, notes::ROW),
-        first: field_u8(notes, notes::ROW, 1),
-        width: field_u8(notes, notes::ROW, 2),
+        dgn: get_as(notes, notes::ROW),
+        first: field_as(notes, notes::ROW, 1),
+        width: field_as(notes, notes::ROW, 2),
         unit: unit_of(field(notes, notes::ROW, 3)),
         plain: field(notes, notes::ROW, 4) != 0,
         two_state: field(notes, notes::ROW, 5) != 0,
     }
 }
 
+// A unit is typed and noted as a number, as every state is. Unit is a type of the library and u64 one of std, so the
+// console can implement neither From nor TryFrom between them.
 fn unit_of(number: u64) -> Unit {
     match number {
         1 => Unit::Percent,
@@ -342,14 +286,13 @@ fn unit_of(number: u64) -> Unit {
 
 // Notes the row.
 fn keep(notes: &mut [u64], row: Row) {
-    let unit = row.unit;
     let fields = [
-        row.dgn as u64,
-        row.first as u64,
-        row.width as u64,
-        number_of_unit(unit),
-        row.plain as u64,
-        row.two_state as u64,
+        u64::from(row.dgn),
+        u64::from(row.first),
+        u64::from(row.width),
+        number_of_unit(row.unit),
+        u64::from(row.plain),
+        u64::from(row.two_state),
     ];
     put_all(notes, notes::ROW, &fields);
 }

@@ -22,9 +22,12 @@ mod state;
 mod texts;
 mod typing;
 
+use calls::Call;
 use notes::{NOTES, bounded, get, put};
-use std::num::wrapping_add_usize;
 use streams::Streams;
+
+// The number of the part `text`, in the order of calls.rt.
+const TEXT: usize = 10;
 
 // What the console keeps beside its notes: the storage of both receivers, and a table of packed rows to lend.
 #[derive(Clone, Copy)]
@@ -32,13 +35,6 @@ struct Desk {
     long: [u8; message::limits::STORAGE_BYTES],
     fast: [u8; fast::limits::STORAGE_BYTES],
     packed: [u64; 375],
-}
-
-// The console after a line, and whether there was one.
-#[derive(Clone, Copy)]
-struct Round {
-    desk: Desk,
-    more: bool,
 }
 
 fn main(rt: HostRuntime) -> std::io::Result<()> {
@@ -55,73 +51,62 @@ fn main(rt: HostRuntime) -> std::io::Result<()> {
         fast::limits::STORAGE_BYTES as u64,
     );
     put(&mut notes, notes::TABLE, nodes::RECORDS as u64);
-    listen(&mut notes, start(), &mut streams);
+    let mut desk = start();
+    listen(&mut notes, &mut desk, &mut streams);
     streams.outcome()
 }
 
 fn start() -> Desk {
-    let long = [0u8; message::limits::STORAGE_BYTES];
-    let fast = [0u8; fast::limits::STORAGE_BYTES];
-    let packed = [0u64; 375];
-    Desk { long, fast, packed }
+    Desk {
+        long: [0; message::limits::STORAGE_BYTES],
+        fast: [0; fast::limits::STORAGE_BYTES],
+        packed: [0; 375],
+    }
 }
 
-// Line after line. Nothing says that an input ends, so the loop counts down from a number that no input uses up.
-fn listen(notes: &mut [u64], desk: Desk, streams: &mut Streams) {
-    let mut desk = desk;
-    let mut turns = u64::MAX;
-    while turns > 0 {
-        let round = next_line(notes, desk, streams);
-        if !round.more {
-            return;
+// Line after line. Nothing says that an input ends, so the loop goes up to a number that no input reaches.
+fn listen(notes: &mut [u64], desk: &mut Desk, streams: &mut Streams) {
+    for _ in 0..u64::MAX {
+        if !next_line(notes, desk, streams) {
+            break;
         }
-        desk = round.desk;
-        turns -= 1;
     }
 }
 
-// Reads a line and answers it, if the input has one.
-fn next_line(notes: &mut [u64], desk: Desk, streams: &mut Streams) -> Round {
+// Reads a line and answers it; no where the input has ended.
+fn next_line(notes: &mut [u64], desk: &mut Desk, streams: &mut Streams) -> bool {
     let mut line = io::buffer();
-    let read = lines::read_line(&mut line, streams);
-    if !read.is {
-        return Round { desk, more: false };
-    }
-    let count = bounded(read.count, &line);
-    let after = turn(&line[..count], notes, desk, streams);
-    Round {
-        desk: after,
-        more: true,
-    }
+    let Some(count) = lines::read_line(&mut line, streams) else {
+        return false;
+    };
+    let count = bounded(count, &line);
+    turn(&line[..count], notes, desk, streams);
+    true
 }
 
 // A line: nothing, a title, or a call.
-fn turn(line: &[u8], notes: &mut [u64], desk: Desk, streams: &mut Streams) -> Desk {
+fn turn(line: &[u8], notes: &mut [u64], desk: &mut Desk, streams: &mut Streams) {
     note(line, notes);
     if is_said(line, notes, streams) {
-        return desk;
+        return;
     }
     echo(line, notes, streams);
-    heed(notes, desk, streams)
+    heed(notes, desk, streams);
 }
 
 // Notes the letters of the line.
 fn note(line: &[u8], notes: &mut [u64]) {
     put(notes, notes::LETTERS, line.len() as u64);
-    let mut i: usize = 0;
-    while i < line.len() {
-        let letter = notes::byte_at(line, i);
-        put(notes, wrapping_add_usize(notes::LINE, i), letter as u64);
-        i += 1;
+    for (i, letter) in line.iter().enumerate() {
+        put(notes, notes::LINE.wrapping_add(i), u64::from(*letter));
     }
 }
 
 // Whether nothing is asked: the line is empty, too long, or begins with # and is printed as it is.
 fn is_said(line: &[u8], notes: &[u64], streams: &mut Streams) -> bool {
-    let first = typing::nth_word(notes, 0);
-    if first.to <= first.from {
+    let Some(first) = typing::nth_word(notes, 0) else {
         return true;
-    }
+    };
     if lines::LONGEST <= line.len() {
         say::text(b"malformed: the line is too long\n", streams);
         return true;
@@ -147,188 +132,93 @@ fn echo(line: &[u8], notes: &[u64], streams: &mut Streams) {
 }
 
 // A call is answered by the part of the library that it is about; other lines set or show state, or ask for a number.
-fn heed(notes: &mut [u64], desk: Desk, streams: &mut Streams) -> Desk {
-    let part = calls::part(notes);
-    let n = calls::asked(notes, part, streams);
-    if n == typing::NONE {
+fn heed(notes: &mut [u64], desk: &mut Desk, streams: &mut Streams) {
+    let Some(call) = calls::asked(notes) else {
         return others(notes, desk, streams);
-    }
+    };
+    let well = calls::reads(notes, call, streams);
     let mut data = notes::typed(notes);
-    let count = notes::typed_count(notes, &data);
-    answer(notes, &mut data[..count], desk, part, n, streams)
-}
-
-fn answer(
-    notes: &mut [u64],
-    bytes: &mut [u8],
-    desk: Desk,
-    part: usize,
-    n: usize,
-    streams: &mut Streams,
-) -> Desk {
-    match part {
-        1 => with_long(notes, bytes, desk, n, streams),
-        2 => with_fast(notes, bytes, desk, n, streams),
-        3 => with_packed(notes, bytes, desk, n, streams),
-        7 => with_faults(notes, bytes, desk, n, streams),
-        _ => {
-            answer_alone(notes, bytes, part, n, streams);
-            desk
-        }
+    let count = bounded(get(notes, notes::BYTES) as usize, &data);
+    let bytes = &mut data[..count];
+    if well {
+        answer(notes, bytes, desk, call, streams);
+    } else if call.part == TEXT {
+        texts::unread(notes, bytes, streams);
     }
 }
 
-fn with_long(notes: &mut [u64], bytes: &[u8], desk: Desk, n: usize, streams: &mut Streams) -> Desk {
-    let mut after = desk;
-    let mut long = desk.long;
-    messages::call(n, notes, bytes, &mut long, streams);
-    after.long = long;
-    after
-}
-
-fn with_fast(notes: &mut [u64], bytes: &[u8], desk: Desk, n: usize, streams: &mut Streams) -> Desk {
-    let mut after = desk;
-    let mut fast = desk.fast;
-    fast_packets::call(n, notes, bytes, &mut fast, streams);
-    after.fast = fast;
-    after
-}
-
-fn with_packed(
-    notes: &mut [u64],
-    bytes: &mut [u8],
-    desk: Desk,
-    n: usize,
-    streams: &mut Streams,
-) -> Desk {
-    let mut after = desk;
-    let mut packed = desk.packed;
-    fields::call(n, notes, bytes, &mut packed, streams);
-    after.packed = packed;
-    after
-}
-
-fn with_faults(
-    notes: &mut [u64],
-    bytes: &mut [u8],
-    desk: Desk,
-    n: usize,
-    streams: &mut Streams,
-) -> Desk {
-    let mut after = desk;
-    let mut packed = desk.packed;
-    active_faults::call(n, notes, bytes, &mut packed, streams);
-    after.packed = packed;
-    after
-}
-
-// The parts that need no storage and no packed rows.
-fn answer_alone(notes: &mut [u64], bytes: &[u8], part: usize, n: usize, streams: &mut Streams) {
-    match part {
-        0 => frames::call(n, notes, bytes, streams),
-        4 => claims::call(n, notes, bytes, streams),
-        5 => node_table::call(n, notes, bytes, streams),
-        6 => commands::call(n, notes, bytes, streams),
-        8 => captures::call(n, notes, bytes, streams),
-        10 => texts::call(n, notes, bytes, streams),
-        _ => exercises::call(n, notes, bytes, streams),
+fn answer(notes: &mut [u64], bytes: &mut [u8], desk: &mut Desk, call: Call, streams: &mut Streams) {
+    match call.part {
+        0 => frames::call(call.n, notes, bytes, streams),
+        1 => messages::call(call.n, notes, bytes, &mut desk.long, streams),
+        2 => fast_packets::call(call.n, notes, bytes, &mut desk.fast, streams),
+        3 => fields::call(call.n, notes, bytes, &mut desk.packed, streams),
+        4 => claims::call(call.n, notes, bytes, streams),
+        5 => node_table::call(call.n, notes, bytes, streams),
+        6 => commands::call(call.n, notes, bytes, streams),
+        7 => active_faults::call(call.n, notes, bytes, &mut desk.packed, streams),
+        8 => captures::call(call.n, notes, bytes, streams),
+        TEXT => texts::call(call.n, notes, bytes, streams),
+        _ => exercises::call(call.n, notes, bytes, streams),
     }
 }
 
 // A line that asks for no call.
-fn others(notes: &mut [u64], desk: Desk, streams: &mut Streams) -> Desk {
+fn others(notes: &mut [u64], desk: &mut Desk, streams: &mut Streams) {
     match typing::asked(notes, b"set show") {
-        0 => set(notes, desk, streams),
-        1 => {
-            show(notes, desk, streams);
-            desk
-        }
-        _ => {
-            console_words(notes, streams);
-            desk
-        }
+        Some(0) => set(notes, desk, streams),
+        Some(_) => show(notes, desk, streams),
+        None => console_words(notes, streams),
     }
 }
 
 // `set message.storage[5] 7`, `set catalogue.packed[0] 0x0EF0000080`; and what stands in the notes.
-fn set(notes: &mut [u64], desk: Desk, streams: &mut Streams) -> Desk {
+fn set(notes: &mut [u64], desk: &mut Desk, streams: &mut Streams) {
     match typing::find_state(notes, b"message.storage fast.storage catalogue.packed") {
-        0 => set_long(notes, desk, streams),
-        1 => set_fast(notes, desk, streams),
-        2 => set_packed(notes, desk, streams),
-        _ => {
-            state::set(notes, streams);
-            desk
-        }
+        Some(0) => state::set_byte(notes, &mut desk.long, streams),
+        Some(1) => state::set_byte(notes, &mut desk.fast, streams),
+        Some(_) => state::set_packed(notes, &mut desk.packed, streams),
+        None => state::set(notes, streams),
     }
-}
-
-fn set_long(notes: &mut [u64], desk: Desk, streams: &mut Streams) -> Desk {
-    let mut after = desk;
-    let mut long = desk.long;
-    state::set_byte(notes, &mut long, streams);
-    after.long = long;
-    after
-}
-
-fn set_fast(notes: &mut [u64], desk: Desk, streams: &mut Streams) -> Desk {
-    let mut after = desk;
-    let mut fast = desk.fast;
-    state::set_byte(notes, &mut fast, streams);
-    after.fast = fast;
-    after
-}
-
-fn set_packed(notes: &mut [u64], desk: Desk, streams: &mut Streams) -> Desk {
-    let mut after = desk;
-    let mut packed = desk.packed;
-    state::set_packed(notes, &mut packed, streams);
-    after.packed = packed;
-    after
 }
 
 // `show claim`.
-fn show(notes: &[u64], desk: Desk, streams: &mut Streams) {
-    let more = typing::nth_word(notes, 2);
-    if more.from < more.to {
+fn show(notes: &[u64], desk: &Desk, streams: &mut Streams) {
+    if typing::nth_word(notes, 2).is_some() {
         return say::unknown(streams);
     }
     match typing::find_state(notes, b"message fast") {
-        0 => {
-            let long = desk.long;
-            messages::show(notes, &long, streams)
-        }
-        1 => {
-            let fast = desk.fast;
-            fast_packets::show(notes, &fast, streams)
-        }
-        _ => show_noted(notes, streams),
+        Some(0) => messages::show(notes, &desk.long, streams),
+        Some(_) => fast_packets::show(notes, &desk.fast, streams),
+        None => show_noted(notes, streams),
     }
 }
 
 fn show_noted(notes: &[u64], streams: &mut Streams) {
     match typing::find_state(notes, b"catalogue claim nodes command faults capture") {
-        0 => fields::show(notes, streams),
-        1 => claims::show(notes, streams),
-        2 => node_table::show(notes, streams),
-        3 => commands::show(notes, streams),
-        4 => active_faults::show(notes, streams),
-        5 => captures::show(notes, streams),
-        _ => say::unknown(streams),
+        Some(0) => fields::show(notes, streams),
+        Some(1) => claims::show(notes, streams),
+        Some(2) => node_table::show(notes, streams),
+        Some(3) => commands::show(notes, streams),
+        Some(4) => active_faults::show(notes, streams),
+        Some(_) => captures::show(notes, streams),
+        None => say::unknown(streams),
     }
 }
 
 // The console's own words, and the numbers of refusals.
 fn console_words(notes: &mut [u64], streams: &mut Streams) {
-    let n = typing::asked(notes, b"echo help");
-    match arguments::called(notes, b"t .", 0, n, streams) {
-        0 => {
-            let on = get(notes, notes::FIRST);
-            put(notes, notes::ECHO, on);
-        }
-        1 => help(streams),
-        typing::NONE => calls::refusals(notes, streams),
-        _ => {}
+    let Some(n) = typing::asked(notes, b"echo help") else {
+        return calls::refusals(notes, streams);
+    };
+    if !arguments::called(notes, b"t .", n, streams) {
+        return;
+    }
+    if n == 0 {
+        let on = get(notes, notes::FIRST);
+        put(notes, notes::ECHO, on);
+    } else {
+        help(streams);
     }
 }
 

@@ -1,12 +1,11 @@
 // The words of crate `message`: one receiver, its storage, and the last answer about a frame.
-use crate::notes::{
-    bounded, field, field_u8, field_u16, field_u32, get, get_u8, get_u16, get_u32, put, put_all,
-    record,
-};
-use streams::Streams;
+use crate::notes::{bounded, field, field_as, get, get_as, put, put_all, record};
 use crate::{frames, notes, say, state};
 use message::limits::{PLACES, STRETCH};
-use message::{Announcing, Answer, Event, NotHeard, NotSplit, Place, Receiver, Splitting, Unsplittable};
+use message::{
+    Announcing, Answer, Event, NotHeard, NotSplit, Place, Receiver, Splitting, Unsplittable,
+};
+use streams::Streams;
 use words::Refusal;
 
 pub fn call(n: usize, notes: &mut [u64], bytes: &[u8], storage: &mut [u8], streams: &mut Streams) {
@@ -28,14 +27,12 @@ fn new(notes: &mut [u64], streams: &mut Streams) {
 }
 
 fn hear(notes: &mut [u64], bytes: &[u8], storage: &mut [u8], streams: &mut Streams) {
-    let id = get_u32(notes, notes::FIRST);
+    let id: u32 = get_as(notes, notes::FIRST);
     let lent = bounded(get(notes, notes::MESSAGE_STORAGE) as usize, storage);
-    let before = receiver(notes);
-    let heard = before.hear(&mut storage[..lent], id, bytes);
+    let heard = receiver(notes).hear(&mut storage[..lent], id, bytes);
     keep(notes, heard.receiver);
-    let answer = heard.answer;
-    keep_answer(notes, answer);
-    heard_so(notes, storage, answer, streams);
+    keep_answer(notes, heard.answer);
+    heard_so(notes, storage, heard.answer, streams);
 }
 
 fn heard_so(notes: &mut [u64], storage: &[u8], answer: Answer, streams: &mut Streams) {
@@ -47,33 +44,22 @@ fn heard_so(notes: &mut [u64], storage: &[u8], answer: Answer, streams: &mut Str
 
 fn tell(notes: &mut [u64], answer: Answer, streams: &mut Streams) {
     match answer {
-        Err(NotHeard::BadFrame(why)) => frames::bad_frame(notes, why, streams),
+        Ok(Event::NothingToDo) => say::text(b"NothingToDo", streams),
+        Ok(Event::Opened) => say::text(b"Opened", streams),
+        Ok(Event::Stored) => say::text(b"Stored", streams),
         Ok(Event::Finished { .. }) => say::form(
             b"Finished place=# sender=% dgn=~ length=# message=",
             notes,
             notes::MESSAGE_FINISHED + 1,
             streams,
         ),
-        _ => say::word(
-            b"StorageTooShort BrokenState MalformedAnnouncement NoPlaceFree NoOpenMessage \
-              UnexpectedPacket NothingToDo Opened Stored",
-            number(answer),
-            streams,
-        ),
-    }
-}
-
-fn number(answer: Answer) -> usize {
-    match answer {
-        Err(NotHeard::StorageTooShort) => 0,
-        Err(NotHeard::BrokenState) => 1,
-        Err(NotHeard::MalformedAnnouncement) => 2,
-        Err(NotHeard::NoPlaceFree) => 3,
-        Err(NotHeard::NoOpenMessage) => 4,
-        Err(NotHeard::UnexpectedPacket) => 5,
-        Ok(Event::NothingToDo) => 6,
-        Ok(Event::Opened) => 7,
-        _ => 8,
+        Err(NotHeard::StorageTooShort) => say::text(b"StorageTooShort", streams),
+        Err(NotHeard::BrokenState) => say::text(b"BrokenState", streams),
+        Err(NotHeard::BadFrame(why)) => frames::bad_frame(notes, why, streams),
+        Err(NotHeard::MalformedAnnouncement) => say::text(b"MalformedAnnouncement", streams),
+        Err(NotHeard::NoPlaceFree) => say::text(b"NoPlaceFree", streams),
+        Err(NotHeard::NoOpenMessage) => say::text(b"NoOpenMessage", streams),
+        Err(NotHeard::UnexpectedPacket) => say::text(b"UnexpectedPacket", streams),
     }
 }
 
@@ -87,25 +73,31 @@ fn finished(notes: &[u64], storage: &[u8], streams: &mut Streams) {
 }
 
 fn pause(notes: &mut [u64], storage: &[u8], streams: &mut Streams) {
-    let before = receiver(notes);
-    let paused = before.pause(get_u16(notes, notes::FIRST));
+    let paused = receiver(notes).pause(get_as(notes, notes::FIRST));
     keep(notes, paused.receiver);
-    let answer = paused.answer;
-    match answer {
-        Ok(count) => say::number(b"Closed #", count as u64, streams),
+    match paused.answer {
+        Ok(count) => say::number(b"Closed #", u64::from(count), streams),
         Err(_) => say::text(b"BrokenState", streams),
     }
-    say::end(notes, notes::MESSAGE_PAUSING, answer.refusal(), streams);
+    say::end(
+        notes,
+        notes::MESSAGE_PAUSING,
+        paused.answer.refusal(),
+        streams,
+    );
     show(notes, storage, streams);
 }
 
 fn announcement(notes: &mut [u64], bytes: &[u8], streams: &mut Streams) {
-    let announced = message::announcement(bytes, get_u32(notes, notes::SECOND));
-    let answer = announced.answer;
-    tell_announcing(notes, answer, streams);
-    let eight = announced.bytes;
-    say::eight(notes, b"", eight, streams);
-    say::end(notes, notes::MESSAGE_ANNOUNCING, answer.refusal(), streams);
+    let announced = message::announcement(bytes, get_as(notes, notes::SECOND));
+    tell_announcing(notes, announced.answer, streams);
+    say::eight(notes, b"", announced.bytes, streams);
+    say::end(
+        notes,
+        notes::MESSAGE_ANNOUNCING,
+        announced.answer.refusal(),
+        streams,
+    );
 }
 
 fn tell_announcing(notes: &mut [u64], answer: Announcing, streams: &mut Streams) {
@@ -116,13 +108,16 @@ fn tell_announcing(notes: &mut [u64], answer: Announcing, streams: &mut Streams)
 }
 
 fn packet(notes: &mut [u64], bytes: &[u8], streams: &mut Streams) {
-    let dgn = get_u32(notes, notes::SECOND);
-    let split = message::packet(bytes, dgn, get_u32(notes, notes::THIRD));
-    let answer = split.answer;
-    tell_splitting(notes, answer, streams);
-    let eight = split.bytes;
-    say::eight(notes, b"", eight, streams);
-    say::end(notes, notes::MESSAGE_SPLITTING, answer.refusal(), streams);
+    let dgn: u32 = get_as(notes, notes::SECOND);
+    let split = message::packet(bytes, dgn, get_as(notes, notes::THIRD));
+    tell_splitting(notes, split.answer, streams);
+    say::eight(notes, b"", split.bytes, streams);
+    say::end(
+        notes,
+        notes::MESSAGE_SPLITTING,
+        split.answer.refusal(),
+        streams,
+    );
 }
 
 fn tell_splitting(notes: &mut [u64], answer: Splitting, streams: &mut Streams) {
@@ -138,13 +133,12 @@ fn unsplittable(notes: &mut [u64], why: Unsplittable, streams: &mut Streams) {
         Unsplittable::NoCode => say::text(b"Refused NoCode ", streams),
         Unsplittable::LengthNotSplit => say::text(b"Refused LengthNotSplit ", streams),
     }
-    put(notes, notes::MESSAGE_UNSPLITTABLE, why.refusal() as u64);
+    put(notes, notes::MESSAGE_UNSPLITTABLE, u64::from(why.refusal()));
 }
 
 // The receiver of the notes.
 fn receiver(notes: &[u64]) -> Receiver {
-    let new = Receiver::new();
-    let mut places = new.places;
+    let mut places = Receiver::new().places;
     for (i, kept) in places.iter_mut().enumerate() {
         *kept = place(notes, record(notes::MESSAGE_PLACES, 5, i));
     }
@@ -153,33 +147,28 @@ fn receiver(notes: &[u64]) -> Receiver {
 
 fn place(notes: &[u64], at: usize) -> Place {
     Place {
-        sender: get_u8(notes, at),
-        length: field_u16(notes, at, 1),
-        dgn: field_u32(notes, at, 2),
-        expected: field_u8(notes, at, 3),
-        idle: field_u16(notes, at, 4),
+        sender: get_as(notes, at),
+        length: field_as(notes, at, 1),
+        dgn: field_as(notes, at, 2),
+        expected: field_as(notes, at, 3),
+        idle: field_as(notes, at, 4),
     }
 }
 
 // Notes the receiver.
 fn keep(notes: &mut [u64], receiver: Receiver) {
-    let places = receiver.places;
-    keep_places(notes, places);
-}
-
-fn keep_places(notes: &mut [u64], places: [Place; PLACES]) {
-    for (i, place) in places.iter().enumerate() {
+    for (i, place) in receiver.places.iter().enumerate() {
         keep_place(notes, record(notes::MESSAGE_PLACES, 5, i), *place);
     }
 }
 
 fn keep_place(notes: &mut [u64], at: usize, place: Place) {
     let fields = [
-        place.sender as u64,
-        place.length as u64,
-        place.dgn as u64,
-        place.expected as u64,
-        place.idle as u64,
+        u64::from(place.sender),
+        u64::from(place.length),
+        u64::from(place.dgn),
+        u64::from(place.expected),
+        u64::from(place.idle),
     ];
     put_all(notes, at, &fields);
 }
@@ -191,21 +180,29 @@ fn kept_answer(notes: &[u64]) -> Answer {
     }
     Ok(Event::Finished {
         place: field(notes, notes::MESSAGE_FINISHED, 1) as usize,
-        sender: field_u8(notes, notes::MESSAGE_FINISHED, 2),
-        dgn: field_u32(notes, notes::MESSAGE_FINISHED, 3),
-        length: field_u16(notes, notes::MESSAGE_FINISHED, 4),
+        sender: field_as(notes, notes::MESSAGE_FINISHED, 2),
+        dgn: field_as(notes, notes::MESSAGE_FINISHED, 3),
+        length: field_as(notes, notes::MESSAGE_FINISHED, 4),
     })
 }
 
 fn keep_answer(notes: &mut [u64], answer: Answer) {
     match answer {
-        Ok(Event::Finished {
-            place,
-            sender,
-            dgn,
-            length,
-        }) => {
-            let finished = [1, place as u64, sender as u64, dgn as u64, length as u64];
+        Ok(
+            Event::Finished {
+                place,
+                sender,
+                dgn,
+                length,
+            },
+        ) => {
+            let finished = [
+                1,
+                place as u64,
+                u64::from(sender),
+                u64::from(dgn),
+                u64::from(length),
+            ];
             put_all(notes, notes::MESSAGE_FINISHED, &finished);
         }
         _ => put(notes, notes::MESSAGE_FINISHED, 0),
@@ -230,7 +227,7 @@ fn show_place(notes: &[u64], storage: &[u8], position: usize, streams: &mut Stre
         streams,
     );
     if shown {
-        let expected = field_u8(notes, record(notes::MESSAGE_PLACES, 5, position), 3);
+        let expected: u8 = field_as(notes, record(notes::MESSAGE_PLACES, 5, position), 3);
         say::stretch(
             storage,
             record(0, STRETCH, position),

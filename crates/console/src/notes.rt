@@ -1,9 +1,10 @@
 // The console's notes: a list of numbers, each with its place. The line that was typed stands here, a letter a note;
 // its arguments are written here as they are read; the number of the last refusal of each kind of answer stays here,
 // and so does all state but storage and packed rows: field after field, record after record.
-ghost use Rattle.io.specs.Counts.{IsPrefixLen};
-
-use std::num::wrapping_add_usize;
+//
+// They are one list with fixed places, and no struct of the library's values: `set` writes any field of any state by the
+// place of its name in a list of names, `show` prints it by a pattern, and a note may hold what no value of a type may.
+ghost use Rattle.std.specs.Prelude.{◌≡◌, ◌≤◌, length, take};
 
 // How many notes there are.
 pub const NOTES: usize = 8552;
@@ -50,7 +51,8 @@ pub const PACKED: usize = 16;
 // The last eight bytes that a call gave for sending.
 pub const THAT: usize = 24;
 
-// The numbers of the last refusals, by the kind of answer.
+// The numbers of the last refusals, by the kind of answer. They are no enum: a kind is the place of its note, and that is
+// the place of its name in the list of calls.rt, so an enum would only need a second list of the same places.
 pub const REFUSALS: usize = 32;
 
 pub const FRAME_APART: usize = 32;
@@ -191,43 +193,15 @@ pub const NO_FAULT: usize = 8544;
 
 // A note; 0 for a place that there is not.
 pub fn get(notes: &[u64], at: usize) -> u64 {
-    if at < notes.len() {
-        return notes[at];
-    }
-    0
+    notes.get(at).copied().unwrap_or(0)
 }
 
-// The same as a smaller number: no larger one is noted where one is asked for.
-pub fn get_u8(notes: &[u64], at: usize) -> u8 {
-    let value = get(notes, at);
-    if value < 0x100 {
-        return value as u8;
-    }
-    0
-}
-
-pub fn get_u16(notes: &[u64], at: usize) -> u16 {
-    let value = get(notes, at);
-    if value < 0x10000 {
-        return value as u16;
-    }
-    0
-}
-
-pub fn get_u32(notes: &[u64], at: usize) -> u32 {
-    let value = get(notes, at);
-    if value < 0x100000000 {
-        return value as u32;
-    }
-    0
-}
-
-pub fn get_i64(notes: &[u64], at: usize) -> i64 {
-    let value = get(notes, at);
-    if value < 0x8000000000000000 {
-        return value as i64;
-    }
-    0
+// The same as a number of another type; 0 where that does not hold it, for no larger one is noted where one is asked for.
+pub fn get_as<T: TryFrom<u64> + Default>(notes: &[u64], at: usize) -> T
+where
+    T::Error: Drop,
+{
+    T::try_from(get(notes, at)).unwrap_or_default()
 }
 
 // Writes a note; nothing for a place that there is not.
@@ -239,10 +213,7 @@ pub fn put(notes: &mut [u64], at: usize, value: u64) {
 
 // A byte of a list; 0 past its end.
 pub fn byte_at(bytes: &[u8], at: usize) -> u8 {
-    if at < bytes.len() {
-        return bytes[at];
-    }
-    0
+    bytes.get(at).copied().unwrap_or(0)
 }
 
 // Writes a byte; nothing past the end.
@@ -252,79 +223,48 @@ pub fn put_byte(bytes: &mut [u8], at: usize, value: u8) {
     }
 }
 
-// A number of bytes, and never more than there are.
-pub fn bounded(count: usize, bytes: &[u8]) -> usize
-    ensures { IsPrefixLen result bytes.now }
+// So many of a list, and never more than there are.
+pub fn bounded<T>(count: usize, list: &[T]) -> usize
+    ensures { (result ≤ length list.now) × (result ≡ length (take result list.now)) }
 {
-    if count < bytes.len() {
-        return count;
-    }
-    bytes.len()
+    count.min(list.len())
 }
 
-// The bytes that were typed, and how many they are.
+// The bytes that were typed, and zeros behind them.
 pub fn typed(notes: &[u64]) -> [u8; MOST_BYTES] {
     let mut bytes = [0u8; MOST_BYTES];
-    let mut i: usize = 0;
-    while i < MOST_BYTES {
-        bytes[i] = field_u8(notes, DATA, i);
-        i += 1;
+    for (i, byte) in bytes.iter_mut().enumerate() {
+        *byte = field_as(notes, DATA, i);
     }
     bytes
 }
 
-pub fn typed_count(notes: &[u64], bytes: &[u8]) -> usize
-    ensures { IsPrefixLen result bytes.now }
-{
-    bounded(get(notes, BYTES) as usize, bytes)
-}
-
 // A field of a record that begins at `at`; 0 for a field that there is not.
 pub fn field(notes: &[u64], at: usize, n: usize) -> u64 {
-    get(notes, wrapping_add_usize(at, n))
+    get(notes, at.wrapping_add(n))
 }
 
-// The same as a smaller number.
-pub fn field_u8(notes: &[u64], at: usize, n: usize) -> u8 {
-    get_u8(notes, wrapping_add_usize(at, n))
-}
-
-pub fn field_u16(notes: &[u64], at: usize, n: usize) -> u16 {
-    get_u16(notes, wrapping_add_usize(at, n))
-}
-
-pub fn field_u32(notes: &[u64], at: usize, n: usize) -> u32 {
-    get_u32(notes, wrapping_add_usize(at, n))
+// The same as a number of another type.
+pub fn field_as<T: TryFrom<u64> + Default>(notes: &[u64], at: usize, n: usize) -> T
+where
+    T::Error: Drop,
+{
+    get_as(notes, at.wrapping_add(n))
 }
 
 // Writes numbers from a place on.
 pub fn put_all(notes: &mut [u64], at: usize, numbers: &[u64]) {
-    let mut i: usize = 0;
-    while i < numbers.len() {
-        put(notes, wrapping_add_usize(at, i), numbers[i]);
-        i += 1;
+    for (i, number) in numbers.iter().enumerate() {
+        put(notes, at.wrapping_add(i), *number);
     }
 }
 
 // Where a record begins, of those of `size` fields from `at` on.
 pub fn record(at: usize, size: usize, position: usize) -> usize {
-    let mut begins = at;
-    let mut left = position;
-    while 0 < left {
-        begins = wrapping_add_usize(begins, size);
-        left -= 1;
-    }
-    begins
+    at.wrapping_add(position.wrapping_mul(size))
 }
 
 // Whether so many notes from a place on are all 0.
 pub fn all_zero(notes: &[u64], at: usize, size: usize) -> bool {
-    let mut i: usize = 0;
-    while i < size {
-        if field(notes, at, i) != 0 {
-            return false;
-        }
-        i += 1;
-    }
-    true
+    (0..size).all(|i| field(notes, at, i) == 0)
 }

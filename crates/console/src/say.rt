@@ -1,8 +1,7 @@
 // What the console prints: texts, numbers, bytes, and the end of an answer with its number.
 use crate::notes::{bounded, byte_at, get, put};
-use streams::Streams;
 use crate::{notes, typing};
-use std::num::wrapping_add_usize;
+use streams::Streams;
 
 pub fn text(text: &[u8], streams: &mut Streams) {
     streams.write(text);
@@ -12,12 +11,10 @@ pub fn text(text: &[u8], streams: &mut Streams) {
 // identifier and `@` a NAME, all in hexadecimal digits, `?` true or false. Every other character is printed as it is.
 pub fn form(pattern: &[u8], numbers: &[u64], at: usize, streams: &mut Streams) {
     let mut next = at;
-    let mut i: usize = 0;
-    while i < pattern.len() {
-        if piece(pattern[i], get(numbers, next), streams) {
-            next = wrapping_add_usize(next, 1);
+    for c in pattern {
+        if piece(*c, get(numbers, next), streams) {
+            next = next.wrapping_add(1);
         }
-        i += 1;
     }
 }
 
@@ -31,7 +28,7 @@ fn piece(c: u8, number: u64, streams: &mut Streams) -> bool {
         b'@' => hex(number, 16, streams),
         b'?' => word(b"false true", number as usize, streams),
         _ => {
-            character(c, streams);
+            text(&[c], streams);
             return false;
         }
     }
@@ -40,28 +37,12 @@ fn piece(c: u8, number: u64, streams: &mut Streams) -> bool {
 
 // A pattern with one number.
 pub fn number(pattern: &[u8], number: u64, streams: &mut Streams) {
-    let numbers = [number];
-    form(pattern, &numbers, 0, streams);
+    form(pattern, &[number], 0, streams);
 }
 
 // One of these words, counted from 0.
 pub fn word(words: &[u8], n: usize, streams: &mut Streams) {
-    let word = typing::nth_name(words, 0, n);
-    characters(words, word.from, word.to, streams);
-}
-
-// Characters of a text.
-pub fn characters(text: &[u8], from: usize, to: usize, streams: &mut Streams) {
-    let mut i = from;
-    while i < to {
-        character(byte_at(text, i), streams);
-        i += 1;
-    }
-}
-
-fn character(c: u8, streams: &mut Streams) {
-    let one = [c];
-    text(&one, streams);
+    text(typing::nth_name(words, n), streams);
 }
 
 fn decimal(number: u64, streams: &mut Streams) {
@@ -87,34 +68,27 @@ fn hex_digits(number: u64, least: usize, streams: &mut Streams) {
 // A number that may be negative.
 pub fn signed(number: i64, streams: &mut Streams) {
     if number < 0 {
-        let size = (-1 - number) as u64 + 1;
         text(b"-", streams);
-        decimal(size, streams);
-        return;
     }
-    decimal(number as u64, streams);
+    decimal(number.unsigned_abs(), streams);
 }
 
 fn byte(byte: u8, streams: &mut Streams) {
-    hex_digits(byte as u64, 2, streams);
+    hex_digits(u64::from(byte), 2, streams);
 }
 
 // Bytes as pairs of hexadecimal digits.
 pub fn bytes(label: &[u8], bytes: &[u8], streams: &mut Streams) {
     text(label, streams);
-    let mut i: usize = 0;
-    while i < bytes.len() {
-        byte(bytes[i], streams);
-        i += 1;
+    for one in bytes {
+        byte(*one, streams);
     }
 }
 
 // Some bytes of a storage, from a place on; 0 past its end.
 pub fn stretch(storage: &[u8], from: usize, count: usize, streams: &mut Streams) {
-    let mut i: usize = 0;
-    while i < count {
-        byte(byte_at(storage, wrapping_add_usize(from, i)), streams);
-        i += 1;
+    for i in 0..count {
+        byte(byte_at(storage, from.wrapping_add(i)), streams);
     }
 }
 
@@ -126,15 +100,15 @@ pub fn eight(notes: &mut [u64], label: &[u8], eight: [u8; 8], streams: &mut Stre
 
 // A frame that stands beside an answer.
 pub fn frame(notes: &mut [u64], id: u32, bytes: [u8; 8], streams: &mut Streams) {
-    number(b" id=^", id as u64, streams);
+    number(b" id=^", u64::from(id), streams);
     eight(notes, b" bytes=", bytes, streams);
 }
 
 // The end of an answer: the number of its refusal, which is noted, and the end of the line.
 pub fn end(notes: &mut [u64], kind: usize, refusal: u8, streams: &mut Streams) {
-    put(notes, kind, refusal as u64);
+    put(notes, kind, u64::from(refusal));
     if refusal != 0 {
-        number(b", refusal #", refusal as u64, streams);
+        number(b", refusal #", u64::from(refusal), streams);
     }
     text(b"\n", streams);
 }

@@ -1,11 +1,10 @@
 // State that stands in the notes: how it is shown, and how `set` changes it.
 use crate::arguments::{argument, values};
 use crate::node_table::MOST_RECORDS;
-use crate::notes::{byte_at, field, get, get_u8, put, put_all, record};
-use streams::Streams;
-use crate::typing::{NONE, ends_here, find_field, find_state, letter, nth_word, number_in};
+use crate::notes::{byte_at, field, get, get_as, put, put_all, record};
+use crate::typing::{ends_here, find_field, find_state, letter, nth_word, number_in};
 use crate::{active_faults, notes, say};
-use std::num::wrapping_add_usize;
+use streams::Streams;
 
 // The head of a record, with its position, and its fields; nothing where they are all 0. Whether it was printed.
 pub fn show(
@@ -36,10 +35,8 @@ pub fn show_all(
     count: usize,
     streams: &mut Streams,
 ) {
-    let mut i: usize = 0;
-    while i < count {
+    for i in 0..count {
         show(notes, head, fields, at, size, i, streams);
-        i += 1;
     }
 }
 
@@ -54,17 +51,11 @@ pub fn set(notes: &mut [u64], streams: &mut Streams) {
           catalogue.row.dgn catalogue.row.first catalogue.row.width catalogue.row.unit catalogue.row.plain \
           catalogue.row.two_state",
     );
-    if n == NONE {
+    let Some(n) = n else {
         return set_lent(notes, streams);
-    }
+    };
     let letter = byte_at(b"88882t88d84411utt", n);
-    set_number(
-        notes,
-        2,
-        letter,
-        wrapping_add_usize(notes::SINGLE, n),
-        streams,
-    );
+    set_number(notes, 2, letter, notes::SINGLE.wrapping_add(n), streams);
 }
 
 // Sets a number, which is the n-th word of the line: `set claim.wait 251`.
@@ -72,7 +63,7 @@ fn set_number(notes: &mut [u64], n: usize, letter: u8, at: usize, streams: &mut 
     if !argument(notes, n, 0, letter, streams) {
         return;
     }
-    if ends_here(notes, wrapping_add_usize(n, 1), streams) {
+    if ends_here(notes, n.wrapping_add(1), streams) {
         let number = get(notes, notes::FIRST);
         put(notes, at, number);
     }
@@ -80,10 +71,9 @@ fn set_number(notes: &mut [u64], n: usize, letter: u8, at: usize, streams: &mut 
 
 // How much of something is lent, up to all that there is.
 fn set_lent(notes: &mut [u64], streams: &mut Streams) {
-    let n = find_state(notes, b"message.lent fast.lent nodes.lent catalogue.lent");
-    if n == NONE {
+    let Some(n) = find_state(notes, b"message.lent fast.lent nodes.lent catalogue.lent") else {
         return set_listed(notes, streams);
-    }
+    };
     if values(notes, b"8", streams) {
         lend(notes, n, all_of(n), streams);
     }
@@ -103,7 +93,7 @@ fn lend(notes: &mut [u64], n: usize, most: u64, streams: &mut Streams) {
     if most < lent {
         return say::malformed(2, b"more than the console has", streams);
     }
-    put(notes, wrapping_add_usize(notes::LENT, n), lent);
+    put(notes, notes::LENT.wrapping_add(n), lent);
 }
 
 // A number of a list: `set claim.list[2] 80h`.
@@ -112,23 +102,23 @@ fn set_listed(notes: &mut [u64], streams: &mut Streams) {
         notes,
         b"fast.dgns claim.list capture.cutter.carry faults.no_fault",
     ) {
-        0 => set_in_list(notes, b"84", notes::FAST_DGNS, fast::limits::DGNS, streams),
-        1 => set_in_list(notes, b"81", notes::CLAIM_LIST, claim::CANDIDATES, streams),
-        2 => set_in_list(
+        Some(0) => set_in_list(notes, b"84", notes::FAST_DGNS, fast::limits::DGNS, streams),
+        Some(1) => set_in_list(notes, b"81", notes::CLAIM_LIST, claim::CANDIDATES, streams),
+        Some(2) => set_in_list(
             notes,
             b"81",
             notes::CUTTER_CARRY,
             capture::LONGEST_LINE,
             streams,
         ),
-        3 => set_in_list(notes, b"81", notes::NO_FAULT, 8, streams),
-        _ => set_place(notes, streams),
+        Some(_) => set_in_list(notes, b"81", notes::NO_FAULT, 8, streams),
+        None => set_place(notes, streams),
     }
 }
 
 fn set_in_list(notes: &mut [u64], shape: &[u8], at: usize, count: usize, streams: &mut Streams) {
     if position_and_number(notes, shape, count, streams) {
-        let here = wrapping_add_usize(at, get(notes, notes::FIRST) as usize);
+        let here = at.wrapping_add(get(notes, notes::FIRST) as usize);
         let number = get(notes, notes::SECOND);
         put(notes, here, number);
     }
@@ -155,7 +145,7 @@ fn position_and_number(
 pub fn set_byte(notes: &mut [u64], storage: &mut [u8], streams: &mut Streams) {
     if position_and_number(notes, b"81", storage.len(), streams) {
         let at = get(notes, notes::FIRST) as usize;
-        notes::put_byte(storage, at, get_u8(notes, notes::SECOND));
+        notes::put_byte(storage, at, get_as(notes, notes::SECOND));
     }
 }
 
@@ -178,7 +168,7 @@ fn set_place(notes: &mut [u64], streams: &mut Streams) {
         notes,
         b"message.places fast.places message.answer fast.answer",
     ) {
-        0 => set_field(
+        Some(0) => set_field(
             notes,
             b".sender .length .dgn .expected .idle",
             b"12412",
@@ -186,7 +176,7 @@ fn set_place(notes: &mut [u64], streams: &mut Streams) {
             message::limits::PLACES,
             streams,
         ),
-        1 => set_field(
+        Some(1) => set_field(
             notes,
             b".sender .dgn .sequence .length .expected .idle",
             b"141112",
@@ -194,16 +184,16 @@ fn set_place(notes: &mut [u64], streams: &mut Streams) {
             fast::limits::PLACES,
             streams,
         ),
-        2 => set_answer(notes, b"8142", notes::MESSAGE_FINISHED, streams),
-        3 => set_answer(notes, b"8141", notes::FAST_FINISHED, streams),
-        _ => set_record(notes, streams),
+        Some(2) => set_answer(notes, b"8142", notes::MESSAGE_FINISHED, streams),
+        Some(_) => set_answer(notes, b"8141", notes::FAST_FINISHED, streams),
+        None => set_record(notes, streams),
     }
 }
 
 fn set_answer(notes: &mut [u64], shape: &[u8], at: usize, streams: &mut Streams) {
     if values(notes, shape, streams) {
         put(notes, at, 1);
-        put_four(notes, wrapping_add_usize(at, 1), notes::FIRST);
+        put_four(notes, at.wrapping_add(1), notes::FIRST);
     }
 }
 
@@ -213,9 +203,9 @@ fn set_record(notes: &mut [u64], streams: &mut Streams) {
         notes,
         b"command.entries command.host.entries nodes faults.faults",
     ) {
-        0 => set_entry(notes, notes::ENTRIES, streams),
-        1 => set_entry(notes, notes::HOST_ENTRIES, streams),
-        2 => set_field(
+        Some(0) => set_entry(notes, notes::ENTRIES, streams),
+        Some(1) => set_entry(notes, notes::HOST_ENTRIES, streams),
+        Some(2) => set_field(
             notes,
             b".present .name .challenger .wait",
             b"t882",
@@ -223,15 +213,14 @@ fn set_record(notes: &mut [u64], streams: &mut Streams) {
             MOST_RECORDS,
             streams,
         ),
-        3 => set_fault(notes, streams),
-        _ => say::unknown(streams),
+        Some(_) => set_fault(notes, streams),
+        None => say::unknown(streams),
     }
 }
 
 // One field of an entry, or all four: `set command.entries[0] COMMAND STATUS INSTANCE ZERO_IS_ALL`.
 fn set_entry(notes: &mut [u64], at: usize, streams: &mut Streams) {
-    let name = nth_word(notes, 3);
-    if letter(notes, name.from) == b'.' {
+    if names_field(notes) {
         return set_field(
             notes,
             b".command .status .instance .zero_is_all",
@@ -241,47 +230,43 @@ fn set_entry(notes: &mut [u64], at: usize, streams: &mut Streams) {
             streams,
         );
     }
-    let position = position(notes);
-    if command::ENTRIES <= position {
+    let Some(position) = position(notes, command::ENTRIES) else {
         return no_such_position(streams);
-    }
+    };
     if values(notes, b"8441t", streams) {
         put_four(notes, record(at, 4, position), notes::SECOND);
+    }
+}
+
+// Whether the word behind the position is the name of a field.
+fn names_field(notes: &[u64]) -> bool {
+    match nth_word(notes, 3) {
+        Some(name) => letter(notes, name.from) == b'.',
+        None => false,
     }
 }
 
 // A field of a place of the sender, of which the first eight notes are its bytes: `set faults.faults[3].period 100`,
 // `set faults.faults[3].bytes[0] 5`.
 fn set_fault(notes: &mut [u64], streams: &mut Streams) {
-    let position = position(notes);
-    if faults::PLACES <= position {
+    let Some(position) = position(notes, faults::PLACES) else {
         return no_such_position(streams);
-    }
+    };
     let begins = record(notes::FAULTS, active_faults::FIELDS, position);
     match find_field(notes, b".bytes .period .until_due .age") {
-        0 => set_fault_byte(notes, begins, streams),
-        1 => set_number(notes, 4, b'2', wrapping_add_usize(begins, 8), streams),
-        2 => set_number(notes, 4, b'2', wrapping_add_usize(begins, 9), streams),
-        3 => set_number(notes, 4, b'1', wrapping_add_usize(begins, 10), streams),
-        _ => say::unknown(streams),
+        Some(0) => set_fault_byte(notes, begins, streams),
+        Some(1) => set_number(notes, 4, b'2', begins.wrapping_add(8), streams),
+        Some(2) => set_number(notes, 4, b'2', begins.wrapping_add(9), streams),
+        Some(_) => set_number(notes, 4, b'1', begins.wrapping_add(10), streams),
+        None => say::unknown(streams),
     }
 }
 
 fn set_fault_byte(notes: &mut [u64], begins: usize, streams: &mut Streams) {
-    let at = number_in(notes, nth_word(notes, 4));
-    if !at.is {
+    let Some(at) = typed_position(notes, 4, 8) else {
         return say::malformed(4, b"no such position", streams);
-    }
-    if 8 <= at.value {
-        return say::malformed(4, b"no such position", streams);
-    }
-    set_number(
-        notes,
-        5,
-        b'1',
-        wrapping_add_usize(begins, at.value as usize),
-        streams,
-    );
+    };
+    set_number(notes, 5, b'1', begins.wrapping_add(at), streams);
 }
 
 // A field of a record. The letters of the fields stand in the order of their names.
@@ -293,31 +278,33 @@ fn set_field(
     count: usize,
     streams: &mut Streams,
 ) {
-    let position = position(notes);
-    if count <= position {
+    let Some(position) = position(notes, count) else {
         return no_such_position(streams);
-    }
-    let n = find_field(notes, names);
-    if n == NONE {
+    };
+    let Some(n) = find_field(notes, names) else {
         return say::unknown(streams);
-    }
+    };
     let begins = record(at, letters.len(), position);
     set_number(
         notes,
         4,
         byte_at(letters, n),
-        wrapping_add_usize(begins, n),
+        begins.wrapping_add(n),
         streams,
     );
 }
 
-// The position in a list that the line names; one past every list where it names none.
-fn position(notes: &[u64]) -> usize {
-    let at = number_in(notes, nth_word(notes, 2));
-    if at.is {
-        return at.value as usize;
+// The position in a list of so many that the line names, if it names one.
+fn position(notes: &[u64], count: usize) -> Option<usize> {
+    typed_position(notes, 2, count)
+}
+
+fn typed_position(notes: &[u64], n: usize, count: usize) -> Option<usize> {
+    let at = number_in(notes, nth_word(notes, n)?)? as usize;
+    if at < count {
+        return Some(at);
     }
-    usize::MAX
+    None
 }
 
 // Four of the numbers that were typed become a record.

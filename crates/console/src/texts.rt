@@ -1,7 +1,7 @@
 // The words of crate `text`: a piece put into bytes that the console lends for one call, hyphens all of them.
 use crate::notes::{bounded, get};
-use streams::Streams;
 use crate::{notes, say};
+use streams::Streams;
 
 // So many bytes are lent at most.
 const MOST_LENT: usize = 64;
@@ -13,6 +13,11 @@ pub fn call(n: usize, notes: &[u64], bytes: &[u8], streams: &mut Streams) {
     let mut all = [b'-'; MOST_LENT];
     let lent = bounded(get(notes, notes::FIRST) as usize, &all);
     answer(n, notes, &mut all[..lent], bytes, streams);
+}
+
+// Where the arguments of a call do not fit, what was read of them is answered as `text::put_bytes` would be.
+pub fn unread(notes: &[u64], bytes: &[u8], streams: &mut Streams) {
+    call(3, notes, bytes, streams);
 }
 
 // The answer, and the lent bytes.
@@ -36,9 +41,6 @@ fn piece(n: usize, notes: &[u64], out: &mut [u8], bytes: &[u8]) -> usize {
 }
 
 fn width(notes: &[u64], streams: &mut Streams) {
-    say::number(
-        b"#\n",
-        text::decimal_width(get(notes, notes::FIRST)) as u64,
-        streams,
-    );
+    let width = text::decimal_width(get(notes, notes::FIRST));
+    say::number(b"#\n", width as u64, streams);
 }

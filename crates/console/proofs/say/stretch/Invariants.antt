@@ -1,9 +1,0 @@
--- What the loop of `console::say::stretch` keeps, and why it ends.
-use Rattle.std.proofs.Common.{◌-◌, ◌≤◌}
-use Rattle.console.proofs.say.stretch.Given as goal
-
-abbrev pub invariant-loop-i : goal.invariant-loop-i
-invariant-loop-i l = 0 ≤ l.i
-
-abbrev pub decreases-loop-i : goal.decreases-loop-i
-decreases-loop-i l = l.count - l.i

@@ -1,9 +1,0 @@
--- What the loop of `console::typing::count` keeps, and why it ends.
-use Rattle.std.proofs.Common.{◌≡◌, ◌-◌, ◌≤◌, length}
-use Rattle.console.proofs.typing.count.Given as goal
-
-abbrev pub invariant-loop-i : goal.invariant-loop-i
-invariant-loop-i l = (l.i ≤ 2048) × (length l.notes ≡ length l.initial.notes)
-
-abbrev pub decreases-loop-i : goal.decreases-loop-i
-decreases-loop-i l = 2048 - l.i

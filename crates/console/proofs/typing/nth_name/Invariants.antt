@@ -1,9 +1,0 @@
--- What the loop of `console::typing::nth_name` keeps, and why it ends.
-use Rattle.std.proofs.Common.{◌≤◌}
-use Rattle.console.proofs.typing.nth_name.Given as goal
-
-abbrev pub invariant-loop-left : goal.invariant-loop-left
-invariant-loop-left l = 0 ≤ l.left
-
-abbrev pub decreases-loop-left : goal.decreases-loop-left
-decreases-loop-left l = l.left
