@@ -69,6 +69,7 @@ pub fn lines(
     let mut reader = reader;
     let mut read_to = from;
     let mut written_to: usize = 0;
+    // No iterator goes over the lines: where one ends is known after it, and whether there is room for the next.
     while written_to <= 65536 {
         let turned = turn(reader, block, read_to, storage, out, written_to, table);
         let going = turned.going;

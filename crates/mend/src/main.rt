@@ -218,6 +218,7 @@ fn feed(rt: &HostRuntime, pass: Pass, cutter: Cutter, block: &[u8], out: &mut [u
     let mut cutter = cutter;
     let mut read_to: usize = 0;
     let mut well = true;
+    // No iterator goes over the turns: how far one reads is known after it, and its output is written before the next.
     loop {
         let run = reader::lines(pass, cutter, block, read_to, out);
         let written_to = run.written_to;

@@ -39,6 +39,7 @@ pub fn lines(pass: Pass, cutter: Cutter, block: &[u8], from: usize, out: &mut [u
     let mut cutter = cutter;
     let mut read_to = from;
     let mut written_to: usize = 0;
+    // No iterator goes over the lines: where one ends is known after it, and whether there is room for the next.
     while written_to <= 65536 {
         let turned = turn(pass, cutter, block, read_to, out, written_to);
         let going = turned.going;

@@ -102,6 +102,7 @@ fn hear_block(
 ) -> Listener {
     let mut listener = listener;
     let mut at: usize = 0;
+    // No iterator goes over the lines: where one ends is known after it.
     while at < block.len() {
         let turn = next_line(listener, block, at, storage, streams);
         listener = turn.listener;

@@ -118,6 +118,7 @@ fn feed(
 {
     let mut reader = reader;
     let mut read_to: usize = 0;
+    // No iterator goes over the turns: how far one reads is known after it, and its output is written before the next.
     loop {
         let run = reader::lines(reader, block, read_to, table, out);
         let written_to = run.written_to;

@@ -63,6 +63,7 @@ pub fn lines(reader: Reader, block: &[u8], from: usize, table: &mut [u64], out: 
     let mut reader = reader;
     let mut read_to = from;
     let mut written_to: usize = 0;
+    // No iterator goes over the lines: where one ends is known after it, and whether there is room for the next.
     while written_to <= 65536 {
         let turned = turn(reader, block, read_to, table, out, written_to);
         let going = turned.going;

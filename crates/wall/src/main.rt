@@ -81,6 +81,7 @@ fn read_block(listener: Listener, block: &mut [u8], streams: &mut Streams) -> Li
 fn hear_block(listener: Listener, block: &[u8], streams: &mut Streams) -> Listener {
     let mut listener = listener;
     let mut at: usize = 0;
+    // No iterator goes over the lines: where one ends is known after it.
     while at < block.len() {
         let turn = next_line(listener, block, at, streams);
         listener = turn.listener;
