@@ -1,4 +1,6 @@
 // The words of crate `fast`: one receiver of fast packets, its storage, and the last answer about a frame.
+// They stand beside those of messages.rt, which they are like: places, answers and their cases are types of two crates
+// that name their refusals differently, so that a form for both would be handed each step of both.
 use crate::notes::{bounded, field, field_as, get, get_as, put, put_all, record};
 use crate::{frames, notes, say, state};
 use fast::limits::{DGNS, PLACES, STRETCH};

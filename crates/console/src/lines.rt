@@ -20,16 +20,10 @@ pub fn read_line(line: &mut [u8], streams: &mut Streams) -> Option<usize> {
             count += 1;
         }
     }
-    if 0 < count {
-        return Some(count);
-    }
-    None
+    (0 < count).then_some(count)
 }
 
 fn read_byte(streams: &mut Streams) -> Option<u8> {
     let mut one = [0u8; 1];
-    if streams.read(&mut one) == 1 {
-        return Some(one[0]);
-    }
-    None
+    (streams.read(&mut one) == 1).then_some(one[0])
 }

@@ -301,10 +301,7 @@ fn position(notes: &[u64], count: usize) -> Option<usize> {
 
 fn typed_position(notes: &[u64], n: usize, count: usize) -> Option<usize> {
     let at = number_in(notes, nth_word(notes, n)?)? as usize;
-    if at < count {
-        return Some(at);
-    }
-    None
+    (at < count).then_some(at)
 }
 
 // Four of the numbers that were typed become a record.

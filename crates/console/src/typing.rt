@@ -14,10 +14,7 @@ pub struct Word {
 
 // The word between two places, if there is one.
 pub fn word_between(from: usize, to: usize) -> Option<Word> {
-    if from < to {
-        return Some(Word { from, to });
-    }
-    None
+    (from < to).then_some(Word { from, to })
 }
 
 // A letter of the line; 0 past its end.
@@ -265,10 +262,7 @@ fn digit_pairs(notes: &mut [u64], word: Word) -> Option<u64> {
         }
         p = pair(notes, p);
     }
-    if p.well && !p.quoted {
-        return Some(p.count as u64);
-    }
-    None
+    (p.well && !p.quoted).then_some(p.count as u64)
 }
 
 // The next letter of a text, or the next two digits.
