@@ -63,9 +63,7 @@ use Rattle.std.specs.Prelude.{Result, Ok, Err}
 use mathlib.Core.Path.{◌≡◌, refl, sym, ◌∙◌}
 use mathlib.Core.Bool.{true}
 use Prim.Native.Nat.{ℕ}
-use mathlib.Core.List.{[]}
 use Rattle.words.specs.Words.{number_in, told}
-use Rattle.frame.specs.Standard.{no_frame}
 use Rattle.capture.specs.Promises as CapturePromises
 use Rattle.catalogue.specs.Promises as CataloguePromises
 use Rattle.claim.specs.Promises as ClaimPromises

@@ -25,7 +25,6 @@ use Rattle.std.specs.declared.clone.Clone as Clone
 use Rattle.words.specs.Words.{number_of_answer}
 use Rattle.words.specs.declared.Refusal as Refusal
 use Rattle.words.specs.contracts.ResultRefusal.refusal as words_result_refusal
-use Rattle.words.proofs.ResultRefusal.refusal.Symbol as words_result_refusal_symbol
 use Rattle.words.proofs.ResultRefusal.refusal.Statement as words_result_refusal_statement
 use Rattle.frame.specs.Laws as Frame
 use Rattle.frame.specs.contracts.take_apart as frame_take_apart
