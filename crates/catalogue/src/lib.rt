@@ -321,7 +321,7 @@ fn is_marked(dgn: u32) -> bool
 fn is_among(list: &[u32], dgn: u32) -> bool
     ensures { result ≡ any (◌=?◌ dgn) list.now }
 {
-    list.contains(&dgn)
+    list.iter().any(|marked| dgn == *marked)
 }
 
 // The row with this number; past the end one that lies in no frame.

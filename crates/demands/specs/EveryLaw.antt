@@ -75,6 +75,7 @@ pub record FrameLaws : Type 0 where
   pub not_formed_refusal_only : Frame.NotFormedRefusalOnly
   pub formed_refusal_told : Frame.FormedRefusalTold
   pub verdict_refusal_told : Frame.VerdictRefusalTold
+  pub bad_frame_refusal_told : Frame.BadFrameRefusalTold
   pub refused_keeps : Frame.RefusedKeeps
   pub parts_back : Frame.PartsBack
   pub identifier_back : Frame.IdentifierBack
@@ -152,6 +153,7 @@ pub record MessageLaws : Type 0 where
   pub bad_state_refusal_only : Message.BadStateRefusalOnly
   pub pausing_refusal_told : Message.PausingRefusalTold
   pub announcing_refusal_told : Message.AnnouncingRefusalTold
+  pub unsplittable_refusal_told : Message.UnsplittableRefusalTold
   pub not_split_refusal_only : Message.NotSplitRefusalOnly
   pub splitting_refusal_told : Message.SplittingRefusalTold
   pub refused_keeps : Message.RefusedKeeps

@@ -30,7 +30,7 @@ use Rattle.frame.specs.declared.BadFrame.TheVariants.{IdentifierTooLarge, NotEig
 use Rattle.frame.specs.declared.BadFrame.TheVariants.{SourceNotAllowed}
 use Rattle.words.proofs.Words.{by_test, past_refusal, gives_same, refused_same, refused_gives}
 use Rattle.frame.proofs.Bytes.{number_of_bytes, bytes_of_number}
-use Rattle.frame.specs.Laws.{ApartRefusalTold, FormedRefusalTold, VerdictRefusalTold}
+use Rattle.frame.specs.Laws.{ApartRefusalTold, FormedRefusalTold, BadFrameRefusalTold, VerdictRefusalTold}
 use Rattle.std.specs.Prelude.{Ok, Err}
 
 -- an answer is read back from what it tells
@@ -124,6 +124,9 @@ formed_refusal_told (Err why) = record { number = refl }
 
 pub bad_frame_refusal_only : BadFrameRefusalOnly
 bad_frame_refusal_only why r s p q = p.number ∙ sym q.number
+
+pub bad_frame_refusal_told : BadFrameRefusalTold
+bad_frame_refusal_told why = record { number = refl }
 
 pub verdict_refusal_only : VerdictRefusalOnly
 verdict_refusal_only answer r s p q = p.number ∙ sym q.number

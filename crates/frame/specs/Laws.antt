@@ -83,6 +83,9 @@ FormedRefusalTold = (answer : Formed) → FormedRefusal answer (number_of_answer
 abbrev pub BadFrameRefusalOnly : Type 0
 BadFrameRefusalOnly = (why : BadFrame) (r s : ℕ) → BadFrameRefusal why r → BadFrameRefusal why s → r ≡ s
 
+abbrev pub BadFrameRefusalTold : Type 0
+BadFrameRefusalTold = (why : BadFrame) → BadFrameRefusal why (refusal_of why)
+
 abbrev pub VerdictRefusalOnly : Type 0
 VerdictRefusalOnly = (answer : Verdict) (r s : ℕ) → VerdictRefusal answer r → VerdictRefusal answer s → r ≡ s
 

@@ -58,7 +58,8 @@ use Rattle.message.proofs.Steps.{carries_at, carries_nowhere, heard_short, heard
 use Rattle.message.proofs.Packets.{splits_above, splits_outside, splits_within}
 use Rattle.message.proofs.Packets.{announcement_refused, announcement_given, packet_refused, packet_numbered}
 use Rattle.message.proofs.Packets.{numbered_zero, numbered_above, numbered_given}
-use Rattle.message.specs.Laws.{AnswerRefusalTold, PausingRefusalTold, AnnouncingRefusalTold, SplittingRefusalTold}
+use Rattle.message.specs.Laws.{AnswerRefusalTold, PausingRefusalTold, UnsplittableRefusalTold}
+use Rattle.message.specs.Laws.{AnnouncingRefusalTold, SplittingRefusalTold}
 
 -- an answer is read back from what it tells
 
@@ -214,6 +215,9 @@ pausing_refusal_told (Err why) = record { number = refl }
 
 pub unsplittable_refusal_only : UnsplittableRefusalOnly
 unsplittable_refusal_only why r s p q = p.number ∙ sym q.number
+
+pub unsplittable_refusal_told : UnsplittableRefusalTold
+unsplittable_refusal_told why = record { number = refl }
 
 pub announcing_refusal_only : AnnouncingRefusalOnly
 announcing_refusal_only answer r s p q = p.number ∙ sym q.number

@@ -95,6 +95,9 @@ PausingRefusalTold = (answer : Pausing) → PausingRefusal answer (number_of_ans
 abbrev pub UnsplittableRefusalOnly : Type 0
 UnsplittableRefusalOnly = (why : Unsplittable) (r s : ℕ) → UnsplittableRefusal why r → UnsplittableRefusal why s → r ≡ s
 
+abbrev pub UnsplittableRefusalTold : Type 0
+UnsplittableRefusalTold = (why : Unsplittable) → UnsplittableRefusal why (refusal_why why)
+
 abbrev pub AnnouncingRefusalOnly : Type 0
 AnnouncingRefusalOnly =
     (answer : Announcing) (r s : ℕ) → AnnouncingRefusal answer r → AnnouncingRefusal answer s → r ≡ s

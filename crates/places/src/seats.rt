@@ -43,11 +43,19 @@ fn is_held_by<P: Seat>(place: &P, key: u64) -> bool
     !place.is_free() && place.key() == key
 }
 
-// The lowest-numbered free place.
+// The lowest-numbered free place: the loop breaks off with it (RULES 13.12 asks for this form, and so it is no
+// `position`).
 fn lowest_free<P: Seat>(places: &[P]) -> Option<usize>
     ensures { result ≡ first P.is_free places.now }
 {
-    places.iter().position(|place| place.is_free())
+    let mut lowest = None;
+    for (at, place) in places.iter().enumerate() {
+        if place.is_free() {
+            lowest = Some(at);
+            break;
+        }
+    }
+    lowest
 }
 
 // The place that is open for this key.

@@ -66,14 +66,11 @@ abbrev pub put_down : ℕ → ℕ → ℕ → ℕ → List ℕ → List ℕ
 put_down base at zero n out = out
 put_down base at (suc i) n out = put_down base at i (n / base) (set out (at + i) (glyph (n % base)))
 
-pub down_turn : (base at i n : ℕ) (out : List ℕ) → at < i
-    → put_down base at (i - 1 - at) (n / base) (set out (i - 1) (glyph (n % base))) ≡ put_down base at (i - at) n out
+pub down_turn : (base at i n : ℕ) (out : List ℕ) → 0 < i
+    → put_down base at (i - 1) (n / base) (set out (at + (i - 1)) (glyph (n % base))) ≡ put_down base at i n out
 down_turn base at i n out h =
-    let j : ℕ = i - 1 - at in
-    let e : suc j ≡ i - at = omega arith in
-    let f : i - 1 ≡ at + j = omega arith in
-    ap (λ (m : ℕ). put_down base at j (n / base) (set out m (glyph (n % base)))) f
-    ∙ ap (λ (m : ℕ). put_down base at m n out) e
+    let e : suc (i - 1) ≡ i = omega arith in
+    ap (λ (m : ℕ). put_down base at m n out) e
 
 pub down_end : (base at i n : ℕ) (out : List ℕ) → i ≤ 0 → put_down base at i n out ≡ out
 down_end base at i n out h = let e : i ≡ 0 = omega arith in rw e

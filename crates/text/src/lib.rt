@@ -101,13 +101,12 @@ fn put_digits(out: &mut [u8], at: usize, base: u64, number: u64, count: usize) -
     requires { (0 < base) × (base ≤ 16) × (at + count ≤ length out.old) }
     ensures { (out.new ≡ placed out.old at (digits base count number)) × (result ≡ at + count) }
 {
-    let end = at + count;
     let mut rest = number;
-    for place in (at..end).rev() {
-        out[place] = glyph_of(rest % base);
+    for i in (0..count).rev() {
+        out[at + i] = glyph_of(rest % base);
         rest /= base;
     }
-    end
+    at + count
 }
 
 // Two digits for each byte.
