@@ -359,5 +359,8 @@ impl Sender {
 fn nth(n: usize) -> Row
     ensures { result ≡ nth rows n }
 {
-    row_at(n).unwrap_or_default()
+    match row_at(n) {
+        Ok(row) => row,
+        Err(_) => Row::default(),
+    }
 }
