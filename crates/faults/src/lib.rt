@@ -212,7 +212,9 @@ pub fn row_at(n: usize) -> Looked
 }
 
 // Reads the field, class and code, of the row with this number from a DM_RV. Refusals 3 to 6 of the frame; then 11
-// where there is no such row, or the frame is no DM_RV.
+// where there is no such row, or the frame is no DM_RV. (Compiled into its callers: most name the row, as those of the
+// service point do, and what is asked of that row is then known beforehand.)
+#[inline(always)]
 pub fn read(n: usize, id: u32, bytes: &[u8]) -> Reading
     ensures { ReadField n id bytes.now result }
 {
