@@ -84,7 +84,7 @@ pub fn keeps(claim: Claim, answer: Hearing) -> Heard
 {
     Heard {
         claim,
-        answer,
+        answer, // as it came
         id: standard::NO_FRAME,
         bytes: [0; 8],
     }

@@ -1,7 +1,7 @@
 // The candidate list: 1 to 16 addresses, no two alike and none above 253.
 ghost use Rattle.std.specs.Prelude.{◌≡◌, ◌≤◌, length};
 ghost use Rattle.words.specs.Words.{◌=?◌};
-ghost use Rattle.words.specs.Lists.{every, no_two};
+ghost use Rattle.words.specs.Lists.{any, every, no_two};
 ghost use Rattle.claim.specs.Candidates.{is_address, is_well_formed, padded};
 
 use crate::CANDIDATES;
@@ -25,12 +25,19 @@ fn distinct(list: &[u8]) -> bool
 {
     let mut rest = list;
     while let Some((a, after)) = rest.split_first() {
-        if after.contains(a) {
+        if repeats(*a, after) {
             return false;
         }
         rest = after;
     }
     true
+}
+
+// Whether an address stands again among those after it.
+fn repeats(a: u8, after: &[u8]) -> bool
+    ensures { result ≡ any (◌=?◌ a) after.now }
+{
+    after.contains(&a)
 }
 
 // The list filled up with zeros.

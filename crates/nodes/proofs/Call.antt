@@ -40,6 +40,11 @@ pub judged_sound : (table : List Node) → gives done ≡ table_or table (gives 
     → (addresses ≤ length table) × (keeps_rules (take addresses table) ≡ true)
 judged_sound table e = let s = table_sound table (gives done) (sym e) in (s.0, s.1)
 
+-- what is told of a table that is not refused
+pub judged_passes : {A : Type 0} (table : List Node) (told was : Told A) → gives done ≡ table_or table (gives done)
+    → was ≡ told → was ≡ table_or table told
+judged_passes table told was e t = let s = judged_sound table e in t ∙ sym (table_passes table told s.0 s.1)
+
 pub judged_refused : {A : Type 0} (table : List Node) (told : Told A) (n : ℕ) → refused n ≡ table_or table (gives done)
     → table_or table told ≡ refused n
 judged_refused table told n e =

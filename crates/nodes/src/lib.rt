@@ -171,6 +171,7 @@ pub fn pause(table: &mut [Node], ms: u16) -> Pausing
 
 // Looks up who has an address: the holder, until a challenger takes the record. Above 253 nobody has one. Refusals 1
 // and 2. Only reads the table.
+#[tactic(auto, using(crate::proofs::Call::judged_passes))]
 pub fn look_up(table: &[Node], address: u8) -> LookedUp
     ensures { LookUp table.now address result }
 {
@@ -180,6 +181,7 @@ pub fn look_up(table: &[Node], address: u8) -> LookedUp
 
 // Finds the address that a NAME has: that of the one record present with it. A challenger has none yet. Refusals 1 and
 // 2. Only reads the table.
+#[tactic(auto, using(crate::proofs::Call::judged_passes))]
 pub fn find_address(table: &[Node], name: u64) -> FoundAddress
     ensures { FindAddress table.now name result }
 {
@@ -189,6 +191,7 @@ pub fn find_address(table: &[Node], name: u64) -> FoundAddress
 
 // Finds out who challenges the holder of an address, and for how many milliseconds it has, up to 249. Above 253 nobody
 // does. Refusals 1 and 2. Only reads the table.
+#[tactic(auto, using(crate::proofs::Call::judged_passes))]
 pub fn find_challenger(table: &[Node], address: u8) -> FoundChallenger
     ensures { FindChallenger table.now address result }
 {

@@ -2,6 +2,7 @@
 use mathlib.Core.Path.{sym, ap, ◌∙◌}
 use Prim.Native.Nat.{ℕ}
 use native.Mathlib.Omega.{arith}
+use borrow.Author.Rules.{rules}
 use borrow.Author.Tests.{ne_eqb, eq-eqb}
 use mathlib.Core.List.{List, ◌++◌}
 use lib.ListN.{take, drop}
@@ -60,6 +61,6 @@ returns c =
     let w = ap (λ (ns : List Node). ns ++ drop addresses a.table.now) c.claim_all.ensures
     ∙ claimed_whole (claim_of p.source c.number_of.result) a.table.now in
     record {
-      answer = ap gives o ∙ sym (h.0 ∙ ap gives (heard_claim _ _ _ d));
+      answer = (search rules) ∙ (ap gives o ∙ sym (h.0 ∙ ap gives (heard_claim _ _ _ d)));
       table_after = w ∙ ap (λ (m : ℕ). claimed_of (claim_of p.source m) a.table.now) n ∙ sym (h.1 ∙ left_claim _ _ _ d);
     }

@@ -1,10 +1,8 @@
 -- `nodes::look_up` meets its contract. Assumes nothing.
-use mathlib.Core.Path.{sym, ap, ◌∙◌}
 use native.Mathlib.Omega.{arith}
 use lib.Seq.{length-take-le}
-use Rattle.words.specs.Words.{gives}
 use Rattle.nodes.specs.Table.{addresses}
-use Rattle.nodes.proofs.Call.{judged_sound, table_passes}
+use Rattle.nodes.proofs.Call.{judged_sound}
 use Rattle.nodes.proofs.look_up.Goals as goal
 
 pub slice_bounds-holder-end : goal.slice_bounds-holder-end
@@ -12,8 +10,3 @@ slice_bounds-holder-end c = omega (arith, length-take-le addresses c.args.table.
 
 pub holder-requires : goal.holder-requires
 holder-requires c = length-take-le addresses c.args.table.now (judged_sound _ c.in_ok-judge.ensures).0
-
-pub returns : goal.returns
-returns c =
-    let s = judged_sound c.args.table.now c.in_ok-judge.ensures in
-    record { answer = ap gives c.holder.ensures ∙ sym (table_passes _ _ s.0 s.1) }
